@@ -71,21 +71,21 @@ room_in_image (Heap address) is = refl
 room_in_image _ is = absurd (cc (is))
 
 -- a word of the heap of which it makes an access is the first one of the free words of the seat's buffer
-pub writes_spare : (config : Config) (world : World) (seat words : ℕ) (take : TakeSpot) → CanTake config world seat words take → (at : ℕ) → (touch_at seat words take).word ≡ Heap at
-    → (more : ℕ) × (world.block at ≡ Some (spare seat more)) × (1 ≤ more)
+pub writes_spare : (config : Config) (world : World) (seat words : ℕ) (take : TakeSpot) → CanTake config world seat words take → (address : ℕ) → (touch_at seat words take).word ≡ Heap address
+    → (more : ℕ) × (world.block address ≡ Some (spare seat more)) × (1 ≤ more)
 writes_spare config world seat words (Fill buffer address room) can at is =
     let same : next_in buffer ≡ at = cc in
     (free_words buffer, ap world.block (sym same) ∙ can.facts.left, (let some = can.facts.some in omega (arith, some)))
-writes_spare config world seat words LoadBuffer can at is = cc
-writes_spare config world seat words (LoadShared buffer) can at is = cc
-writes_spare config world seat words (LoadTop buffer region) can at is = cc
-writes_spare config world seat words (Carve buffer region top room) can at is = cc
-writes_spare config world seat words (LoadFree buffer shared) can at is = cc
-writes_spare config world seat words (TakeRegion buffer shared region) can at is = cc
-writes_spare config world seat words (ShareRegion buffer shared region) can at is = cc
-writes_spare config world seat words (GiveBack buffer region) can at is = cc
+writes_spare config world seat words LoadBuffer can address is = cc
+writes_spare config world seat words (LoadShared buffer) can address is = cc
+writes_spare config world seat words (LoadTop buffer region) can address is = cc
+writes_spare config world seat words (Carve buffer region top room) can address is = cc
+writes_spare config world seat words (LoadFree buffer shared) can address is = cc
+writes_spare config world seat words (TakeRegion buffer shared region) can address is = cc
+writes_spare config world seat words (ShareRegion buffer shared region) can address is = cc
+writes_spare config world seat words (GiveBack buffer region) can address is = cc
 writes_spare config world seat words (StoreBuffer address room) can at is = cc
-writes_spare config world seat words (Ended taken end) can at is = cc
+writes_spare config world seat words (Ended taken end) can address is = cc
 
 module _ (seat words : ℕ) where
   -- its next access is of one of them

@@ -11,7 +11,7 @@ use Rattle.regions.specs.Sets.{IsIn}
 use Rattle.shen_graph.specs.declared.name.Name.{Name}
 use Rattle.heap_world.specs.World.{World, Block, thing, moved, spent, promised, dead, filler, spare, carved, name_at, Target, Shared}
 use Rattle.heap_world.specs.Rely.{Keeps, RelyMarks, Rely}
-use Rattle.heap_world.proofs.Updates.{updated, updated_there, updated_else}
+use Rattle.heap_world.proofs.FunctionUpdates.{updated, updated_there, updated_else}
 use Rattle.heap_world.proofs.Pins.{pins_stay}
 use Rattle.heap_world.proofs.Pointing.{piece_word}
 use Rattle.heap_world.proofs.NewPiece.{CanGrow, names_stay, stays, old_room, own_room, old_promise, parsable_more, contents_more, owned_more, unwritten_more, markable_more, marking_more, evacuating_more, updating_more, same_but_loose}
@@ -63,16 +63,16 @@ module _ (config : Config) (world : World) (seat words : ℕ) (kind : Kind) (buf
   shared_carved : Shared config carved_world
   shared_carved = record {
     parsable = parsable_more config tops world.block region top room seat grows;
-    contents = contents_more config tops world.block region top room seat grows (λ a. world.memory (Heap a)) world.graph.object world.graph.count shared.contents;
-    owned = owned_more config tops world.block region top room seat grows (world.memory Share) (world.memory Free) (world.memory Cset) (λ s. world.memory (Current s)) world.ghost.owner can.seated can.facts.1.in_use shared.owned;
+    contents = contents_more config tops world.block region top room seat grows (λ address. world.memory (Heap address)) world.graph.object world.graph.count shared.contents;
+    owned = owned_more config tops world.block region top room seat grows (world.memory Share) (world.memory Free) (world.memory Cset) (λ seat. world.memory (Current seat)) world.ghost.owner can.seated can.facts.1.in_use shared.owned;
     phased = shared.phased;
-    unwritten = unwritten_more config tops world.block region top room seat grows (λ a. world.memory (Heap a)) shared.unwritten;
-    marked = marking_more config tops world.block region top room seat grows (world.memory Phase) (λ n. world.memory (Grey n)) (λ n. world.memory (Black n)) (λ t. world.memory (Count t)) (λ t k. world.memory (Buffer t k))
-        (λ r. world.memory (Tams r)) (λ a. world.memory (Heap a)) world.ghost.snapshot world.ghost.recording world.ghost.scanning shared.marked;
-    evacuated = evacuating_more config tops world.block region top room seat grows (world.memory Phase) (world.memory Cset) (world.memory Evac) (world.memory Claim) (world.memory Free) (λ r. world.memory (Tams r)) (λ a. world.memory (Heap a)) (λ n. world.memory (Black n))
+    unwritten = unwritten_more config tops world.block region top room seat grows (λ address. world.memory (Heap address)) shared.unwritten;
+    marked = marking_more config tops world.block region top room seat grows (world.memory Phase) (λ number. world.memory (Grey number)) (λ number. world.memory (Black number)) (λ mutator. world.memory (Count mutator)) (λ mutator entry. world.memory (Buffer mutator entry))
+        (λ region. world.memory (Tams region)) (λ address. world.memory (Heap address)) world.ghost.snapshot world.ghost.recording world.ghost.scanning shared.marked;
+    evacuated = evacuating_more config tops world.block region top room seat grows (world.memory Phase) (world.memory Cset) (world.memory Evac) (world.memory Claim) (world.memory Free) (λ region. world.memory (Tams region)) (λ address. world.memory (Heap address)) (λ number. world.memory (Black number))
         world.ghost.owner world.ghost.copying world.ghost.working can.facts.1.outside shared.evacuated;
-    updated = λ on. updating_more config tops world.block region top room seat grows (world.memory Cset) (world.memory Claim) (λ r. world.memory (Limit r)) (λ a. world.memory (Heap a)) world.ghost.scanning (shared.updated on);
-    pinned = pins_stay config (world.memory Cset) (world.memory Evac) (world.memory Cset) (world.memory Evac) world.block carved_world.block (λ t i. world.memory (Pin t i)) world.graph.pin targets_stay shared.pinned;
+    updated = λ on. updating_more config tops world.block region top room seat grows (world.memory Cset) (world.memory Claim) (λ region. world.memory (Limit region)) (λ address. world.memory (Heap address)) world.ghost.scanning (shared.updated on);
+    pinned = pins_stay config (world.memory Cset) (world.memory Evac) (world.memory Cset) (world.memory Evac) world.block carved_world.block (λ mutator slot. world.memory (Pin mutator slot)) world.graph.pin targets_stay shared.pinned;
   }
 
   -- what a word stands for it still stands for
@@ -88,11 +88,11 @@ module _ (config : Config) (world : World) (seat words : ℕ) (kind : Kind) (buf
   set_stays = record {
     cset = refl;
     evac = refl;
-    things = λ a refs nums n is. stays_there a (thing n refs nums) is;
-    moveds = λ a refs nums to n is. stays_there a (moved n refs nums to) is;
-    spents = λ a more to is. stays_there a (spent more to) is;
-    pieces = λ a x inside is. (x, stays_there a x is, refl, refl);
-    no_new = λ a refs nums n inside is. (same_but_loose config tops world.block region top room seat grows).came a (thing n refs nums) refl is;
+    things = λ address refs nums name is. stays_there address (thing name refs nums) is;
+    moveds = λ address refs nums to name is. stays_there address (moved name refs nums to) is;
+    spents = λ address more to is. stays_there address (spent more to) is;
+    pieces = λ address piece inside is. (piece, stays_there address piece is, refl, refl);
+    no_new = λ a refs nums name inside is. (same_but_loose config tops world.block region top room seat grows).came a (thing name refs nums) refl is;
     tops = λ r is. updated_else tops region (top + room) r (λ same. can.facts.1.outside (subst (IsIn (world.memory Cset)) (sym same) is));
   }
 
@@ -101,12 +101,12 @@ module _ (config : Config) (world : World) (seat words : ℕ) (kind : Kind) (buf
   keeps_carved = record {
     names = names;
     targets = targets_stay;
-    promises = λ a more is. stays_there a (promised seat more) is;
-    no_promises = λ a more is. old_promise config tops world.block region top room seat grows a seat more is;
-    promise_words = λ a more k is below. refl;
+    promises = λ address more is. stays_there address (promised seat more) is;
+    no_promises = λ address more is. old_promise config tops world.block region top room seat grows address seat more is;
+    promise_words = λ address more k is below. refl;
     root_words = λ i. refl;
     roots = λ i. refl;
-    pin_words = λ i. refl;
+    pin_words = λ index. refl;
     pins = λ i. refl;
     count = refl;
     wait = refl;
@@ -120,19 +120,19 @@ module _ (config : Config) (world : World) (seat words : ℕ) (kind : Kind) (buf
   others_carved j differs = record {
     names = names;
     targets = targets_stay;
-    rooms = λ a x is of. stays_there a x is;
+    rooms = λ address piece is of. stays_there address piece is;
     no_rooms = λ a x is of. old_room config tops world.block region top room seat grows a j x differs is of;
     room_words = λ a k x is of below. refl;
-    promises = λ a more is. stays_there a (promised j more) is;
-    no_promises = λ a more is. old_promise config tops world.block region top room seat grows a j more is;
-    promise_words = λ a more k is below. refl;
+    promises = λ address more is. stays_there address (promised j more) is;
+    no_promises = λ address more is. old_promise config tops world.block region top room seat grows address j more is;
+    promise_words = λ address more k is below. refl;
     current = refl;
     opens = λ r is. record { within = is.within; in_use = is.in_use; nobodys = is.nobodys; outside = is.outside };
-    owners = λ r is. is;
+    owners = λ region is. is;
     tops = λ r is. updated_else tops region (top + room) r (λ same. none-some j (sym can.facts.1.nobodys ∙ ap world.ghost.owner same ∙ is));
     root_words = λ i. refl;
     roots = λ i. refl;
-    pin_words = λ i. refl;
+    pin_words = λ index. refl;
     pins = λ i. refl;
     count = refl;
     wait = refl;
@@ -141,7 +141,7 @@ module _ (config : Config) (world : World) (seat words : ℕ) (kind : Kind) (buf
     asked = λ is. is;
     marks = marks_carved j;
     copies = rely_copies config world carved_world j set_stays refl refl (λ a k b seated counted inside is from below. refl);
-    fields = fields_stored config world carved_world (λ r. refl) (λ r. refl) refl (λ a more is. stays_there a (dead more) is) (λ a more is. stays_there a (filler more) is) (λ on a refs nums k n is below. inl refl);
+    fields = fields_stored config world carved_world (λ r. refl) (λ r. refl) refl (λ address more is. stays_there address (dead more) is) (λ address more is. stays_there address (filler more) is) (λ on a refs nums k n is below. inl refl);
   }
 
   -- the new buffer is small enough to be stored
@@ -154,21 +154,21 @@ module _ (config : Config) (world : World) (seat words : ℕ) (kind : Kind) (buf
 
   -- what the seat counts on then: the old buffer has free words, which are to be filled
   fills : next_in buffer < end_in buffer → CanTake config carved_world seat words (Fill buffer address room)
-  fills some =
+  fills below =
       let is = can.facts.0.is in
-      let more : next_in word < end_in word = subst (λ b. next_in b < end_in b) (sym is) some in
+      let more : next_in word < end_in word = subst (λ b. next_in b < end_in b) (sym is) below in
       let left : world.block (next_in buffer) ≡ Some (spare seat (free_words buffer)) = subst (λ b. world.block (next_in b) ≡ Some (spare seat (free_words b))) is (left_of config world seat words kind shared can.rooms more) in
       let low : end_in buffer < 2 ^ 32 = subst (λ b. end_in b < 2 ^ 32) is (buffer_small config world seat words kind shared (λ none. (let next : next_in word ≡ 0 = ap next_in none in let end : end_in word ≡ 0 = ap end_in none in omega (arith, next, end, more)))) in
-      let inside : is_word config (Heap (next_in buffer + 0)) ≡ true = piece_word config tops world.block shared.parsable.plotted (next_in buffer) 0 (spare seat (free_words buffer)) left (omega (arith, some)) in
+      let inside : is_word config (Heap (next_in buffer + 0)) ≡ true = piece_word config tops world.block shared.parsable.plotted (next_in buffer) 0 (spare seat (free_words buffer)) left (omega (arith, below)) in
       can_at config world seat words kind (Carve buffer region top room) (Fill buffer address room) carved_world can refl refl
       (and_from _ _
-      (and_from _ _ (ap (λ a. is_word config (Heap a)) (omega arith) ∙ inside) (lt-ltb (filler_header (free_words buffer)) (2 ^ 64) (omega (arith, low))))
+      (and_from _ _ (ap (λ address. is_word config (Heap address)) (omega arith) ∙ inside) (lt-ltb (filler_header (free_words buffer)) (2 ^ 64) (omega (arith, low))))
       (and_from _ _
-      (and_from _ _ (lt-ltb (next_in buffer) (end_in buffer) some) (lt-ltb (end_in buffer) (2 ^ 32) (omega (arith, low))))
+      (and_from _ _ (lt-ltb (next_in buffer) (end_in buffer) below) (lt-ltb (end_in buffer) (2 ^ 32) (omega (arith, low))))
       (and_from _ _ (le-leb words room numbers.1) (lt-ltb (address + room) (2 ^ 32) (omega (arith, ends_low))))))
       (record {
         is = is;
-        some = some;
+        some = below;
         left = stays_there (next_in buffer) (spare seat (free_words buffer)) left;
         here = updated_there world.block address (Some (carved seat room));
         long = numbers.1;
@@ -184,18 +184,18 @@ module _ (config : Config) (world : World) (seat words : ℕ) (kind : Kind) (buf
       can_at config world seat words kind (Carve buffer region top room) (StoreBuffer address room) carved_world can refl refl
       (store_ready config seat words address room can.seated numbers.1 ends_low)
       (record { here = inr (updated_there world.block address (Some (carved seat room))); long = numbers.1 })
-      (λ a x is_now of. ⊎_elim
-      (λ (new : (a ≡ address) × (carved seat room ≡ x)). new.0)
+      (λ other_address x is_now of. ⊎_elim
+      (λ (new : (other_address ≡ address) × (carved seat room ≡ x)). new.0)
       (λ old.
-      let free = can.rooms a x old of in
-      let piece : world.block a ≡ Some (spare seat free.0) = old ∙ ap (λ b. Some b) free.1 in
-      let told = shared.owned.buffers.spares a seat free.0 piece in
-      let some = shared.owned.rooms.spares a seat free.0 piece in
+      let free = can.rooms other_address x old of in
+      let piece : world.block other_address ≡ Some (spare seat free.0) = old ∙ ap (λ b. Some b) free.1 in
+      let told = shared.owned.buffers.spares other_address seat free.0 piece in
+      let some = shared.owned.rooms.spares other_address seat free.0 piece in
       let is = can.facts.0.is in
-      let next : next_in buffer ≡ a = ap next_in (sym is) ∙ told.0 in
-      let end : end_in buffer ≡ a + free.0 = ap end_in (sym is) ∙ told.1 in
+      let next : next_in buffer ≡ other_address = ap next_in (sym is) ∙ told.0 in
+      let end : end_in buffer ≡ other_address + free.0 = ap end_in (sym is) ∙ told.1 in
       absurd (omega (arith, next, end, some, none)))
-      (own_room config tops world.block region top room seat grows a x is_now))
+      (own_room config tops world.block region top room seat grows other_address x is_now))
 
   -- so it can go on in either case
   goes_on : CanTake config carved_world seat words (carved_at buffer address room)

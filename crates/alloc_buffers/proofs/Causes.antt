@@ -58,7 +58,7 @@ module _ (config : Config) (words : ℕ) (kind : Kind) where
   -- with a buffer that has room it does not end without
   stored_never : (address room : ℕ) (found : List ℕ) (free : ℕ) → Ends (StoreBuffer address room) found free → ⊥
   stored_never address room [] free e = let ends = e.ends in cc
-  stored_never address room (got ∷ more) free e = ended_stays (At address) (address + room) more e.going
+  stored_never address room (got ∷ more) free ends = ended_stays (At address) (address + room) more ends.going
 
   -- a spot at which it looks for a free region, and a word there
   searches_on : (spot next : TakeSpot) (got : ℕ) (more : List ℕ) → is_searching spot ≡ true → next_at config words kind spot got ≡ next → Searches next more → Searches spot (got ∷ more)
@@ -78,52 +78,52 @@ module _ (config : Config) (words : ℕ) (kind : Kind) where
 
   -- from each spot on
   cause : (found : List ℕ) (spot : TakeSpot) (free : ℕ) → Ends spot found free → Cause (is_searching spot) spot found
-  cause [] LoadBuffer free e = absurd (by_test (has_free words free) e.ends)
+  cause [] LoadBuffer free ends = absurd (by_test (has_free words free) ends.ends)
     where
       by_test : (holds : Bool) → (if holds then StoreBuffer (next_in free) (free_words free) else LoadShared free) ≡ Ended NoRoom 0 → ⊥
       by_test true is = cc
       by_test false is = cc
-  cause [] (LoadShared buffer) free e = absurd (by_test (free == 0) e.ends)
+  cause [] (LoadShared buffer) free ends = absurd (by_test (free == 0) ends.ends)
     where
       by_test : (holds : Bool) → (if holds then LoadFree buffer 0 else LoadTop buffer (free - 1)) ≡ Ended NoRoom 0 → ⊥
       by_test true is = cc
       by_test false is = cc
-  cause [] (LoadTop buffer region) free e = absurd (by_test (has_room config words free) e.ends)
+  cause [] (LoadTop buffer region) free ends = absurd (by_test (has_room config words free) ends.ends)
     where
       by_test : (holds : Bool) → (if holds then Carve buffer region free (carved_words config free) else LoadFree buffer (region + 1)) ≡ Ended NoRoom 0 → ⊥
       by_test true is = cc
       by_test false is = cc
-  cause [] (Carve buffer region top room) free e = absurd (by_tests (free == top) (nat_lt (next_in buffer) (end_in buffer)) e.ends)
+  cause [] (Carve buffer region top room) free ends = absurd (by_tests (free == top) (nat_lt (next_in buffer) (end_in buffer)) ends.ends)
     where
       by_tests : (holds other_holds : Bool) → (if holds then (if other_holds then Fill buffer (base_of config region + top) room else StoreBuffer (base_of config region + top) room) else LoadShared buffer) ≡ Ended NoRoom 0 → ⊥
       by_tests true true is = cc
       by_tests true false is = cc
       by_tests false other_holds is = cc
-  cause [] (LoadFree buffer shared) free e = inl (λ before after is. ap (λ holds. is_searching (after_found config words kind (LoadFree buffer shared) holds)) (none_of_two before after is))
-  cause [] (TakeRegion buffer shared region) free e = absurd (by_test (bit_at free region == 1) e.ends)
+  cause [] (LoadFree buffer shared) free ends = inl (λ before after is. ap (λ holds. is_searching (after_found config words kind (LoadFree buffer shared) holds)) (none_of_two before after is))
+  cause [] (TakeRegion buffer shared region) free ends = absurd (by_test (bit_at free region == 1) ends.ends)
     where
       by_test : (holds : Bool) → (if holds then ShareRegion buffer shared region else LoadFree buffer shared) ≡ Ended NoRoom 0 → ⊥
       by_test true is = cc
       by_test false is = cc
-  cause [] (ShareRegion buffer shared region) free e = absurd (by_test (free == shared) e.ends)
+  cause [] (ShareRegion buffer shared region) free ends = absurd (by_test (free == shared) ends.ends)
     where
       by_test : (holds : Bool) → (if holds then LoadTop buffer region else GiveBack buffer region) ≡ Ended NoRoom 0 → ⊥
       by_test true is = cc
       by_test false is = cc
   cause [] (GiveBack buffer region) free e = let ends = e.ends in absurd cc
   cause [] (Fill buffer address room) free e = let ends = e.ends in absurd cc
-  cause [] (StoreBuffer address room) free e = absurd (stored_never address room [] free e)
-  cause [] (Ended taken end) free e = absurd (ended_stays taken end [] e.going)
-  cause (got ∷ more) LoadBuffer free e = by_test (λ spot. cause more spot free) (has_free words got) refl
+  cause [] (StoreBuffer address room) free ends = absurd (stored_never address room [] free ends)
+  cause [] (Ended taken end) free ends = absurd (ended_stays taken end [] ends.going)
+  cause (got ∷ more) LoadBuffer free ends = by_test (λ spot. cause more spot free) (has_free words got) refl
     where
       by_test : ((spot : TakeSpot) → Ends spot more free → Cause (is_searching spot) spot more) → (holds : Bool) → has_free words got ≡ holds → HasFull config words kind LoadBuffer (got ∷ more)
       by_test rest true is =
           let leads : next_at config words kind LoadBuffer got ≡ StoreBuffer (next_in got) (free_words got) = ap (λ holds. if holds then StoreBuffer (next_in got) (free_words got) else LoadShared got) is in
-          absurd (stored_never (next_in got) (free_words got) more free (subst (λ s. Ends s more free) leads (record { going = e.going; ends = e.ends })))
+          absurd (stored_never (next_in got) (free_words got) more free (subst (λ s. Ends s more free) leads (record { going = ends.going; ends = ends.ends })))
       by_test rest false is =
           let leads : next_at config words kind LoadBuffer got ≡ LoadShared got = ap (λ holds. if holds then StoreBuffer (next_in got) (free_words got) else LoadShared got) is in
-          goes_later LoadBuffer (LoadShared got) got more leads (rest (LoadShared got) (subst (λ s. Ends s more free) leads (record { going = e.going; ends = e.ends })))
-  cause (got ∷ more) (LoadShared buffer) free e = by_test (λ spot. cause more spot free) (got == 0) refl
+          goes_later LoadBuffer (LoadShared got) got more leads (rest (LoadShared got) (subst (λ s. Ends s more free) leads (record { going = ends.going; ends = ends.ends })))
+  cause (got ∷ more) (LoadShared buffer) free ends = by_test (λ spot. cause more spot free) (got == 0) refl
     where
       by_test : ((spot : TakeSpot) → Ends spot more free → Cause (is_searching spot) spot more) → (holds : Bool) → (got == 0) ≡ holds → HasFull config words kind (LoadShared buffer) (got ∷ more)
       by_test rest true is =
@@ -131,86 +131,86 @@ module _ (config : Config) (words : ℕ) (kind : Kind) where
           ⊎_elim
           (λ on. stands_here (LoadShared buffer) (LoadFree buffer 0) got more leads (eqb-true got 0 is) on)
           (λ full. goes_later (LoadShared buffer) (LoadFree buffer 0) got more leads full)
-          (rest (LoadFree buffer 0) (subst (λ s. Ends s more free) leads (record { going = e.going; ends = e.ends })))
+          (rest (LoadFree buffer 0) (subst (λ s. Ends s more free) leads (record { going = ends.going; ends = ends.ends })))
       by_test rest false is =
           let leads : next_at config words kind (LoadShared buffer) got ≡ LoadTop buffer (got - 1) = ap (λ holds. if holds then LoadFree buffer 0 else LoadTop buffer (got - 1)) is in
-          goes_later (LoadShared buffer) (LoadTop buffer (got - 1)) got more leads (rest (LoadTop buffer (got - 1)) (subst (λ s. Ends s more free) leads (record { going = e.going; ends = e.ends })))
-  cause (got ∷ more) (LoadTop buffer region) free e = by_test (λ spot. cause more spot free) (has_room config words got) refl
+          goes_later (LoadShared buffer) (LoadTop buffer (got - 1)) got more leads (rest (LoadTop buffer (got - 1)) (subst (λ s. Ends s more free) leads (record { going = ends.going; ends = ends.ends })))
+  cause (got ∷ more) (LoadTop buffer region) free ends = by_test (λ spot. cause more spot free) (has_room config words got) refl
     where
       by_test : ((spot : TakeSpot) → Ends spot more free → Cause (is_searching spot) spot more) → (holds : Bool) → has_room config words got ≡ holds → HasFull config words kind (LoadTop buffer region) (got ∷ more)
       by_test rest true is =
           let leads : next_at config words kind (LoadTop buffer region) got ≡ Carve buffer region got (carved_words config got) = ap (λ holds. if holds then Carve buffer region got (carved_words config got) else LoadFree buffer (region + 1)) is in
-          goes_later (LoadTop buffer region) (Carve buffer region got (carved_words config got)) got more leads (rest (Carve buffer region got (carved_words config got)) (subst (λ s. Ends s more free) leads (record { going = e.going; ends = e.ends })))
+          goes_later (LoadTop buffer region) (Carve buffer region got (carved_words config got)) got more leads (rest (Carve buffer region got (carved_words config got)) (subst (λ s. Ends s more free) leads (record { going = ends.going; ends = ends.ends })))
       by_test rest false is =
           let leads : next_at config words kind (LoadTop buffer region) got ≡ LoadFree buffer (region + 1) = ap (λ holds. if holds then Carve buffer region got (carved_words config got) else LoadFree buffer (region + 1)) is in
           ⊎_elim
           (λ on. stands_here (LoadTop buffer region) (LoadFree buffer (region + 1)) got more leads (leb-false (got + words) config.region_words is) on)
           (λ full. goes_later (LoadTop buffer region) (LoadFree buffer (region + 1)) got more leads full)
-          (rest (LoadFree buffer (region + 1)) (subst (λ s. Ends s more free) leads (record { going = e.going; ends = e.ends })))
-  cause (got ∷ more) (Carve buffer region top room) free e = by_tests (λ spot. cause more spot free) (got == top) refl (nat_lt (next_in buffer) (end_in buffer)) refl
+          (rest (LoadFree buffer (region + 1)) (subst (λ s. Ends s more free) leads (record { going = ends.going; ends = ends.ends })))
+  cause (got ∷ more) (Carve buffer region top room) free ends = by_tests (λ spot. cause more spot free) (got == top) refl (nat_lt (next_in buffer) (end_in buffer)) refl
     where
       by_tests : ((spot : TakeSpot) → Ends spot more free → Cause (is_searching spot) spot more) → (holds : Bool) → (got == top) ≡ holds → (other_holds : Bool) → nat_lt (next_in buffer) (end_in buffer) ≡ other_holds → HasFull config words kind (Carve buffer region top room) (got ∷ more)
       by_tests rest true is true less =
           let leads : next_at config words kind (Carve buffer region top room) got ≡ Fill buffer (base_of config region + top) room = ap (λ holds. carve_next buffer (base_of config region + top) room holds (nat_lt (next_in buffer) (end_in buffer))) is ∙ ap (carve_next buffer (base_of config region + top) room true) less in
-          goes_later (Carve buffer region top room) (Fill buffer (base_of config region + top) room) got more leads (rest (Fill buffer (base_of config region + top) room) (subst (λ s. Ends s more free) leads (record { going = e.going; ends = e.ends })))
+          goes_later (Carve buffer region top room) (Fill buffer (base_of config region + top) room) got more leads (rest (Fill buffer (base_of config region + top) room) (subst (λ s. Ends s more free) leads (record { going = ends.going; ends = ends.ends })))
       by_tests rest true is false less =
           let leads : next_at config words kind (Carve buffer region top room) got ≡ StoreBuffer (base_of config region + top) room = ap (λ holds. carve_next buffer (base_of config region + top) room holds (nat_lt (next_in buffer) (end_in buffer))) is ∙ ap (carve_next buffer (base_of config region + top) room true) less in
-          absurd (stored_never (base_of config region + top) room more free (subst (λ s. Ends s more free) leads (record { going = e.going; ends = e.ends })))
+          absurd (stored_never (base_of config region + top) room more free (subst (λ s. Ends s more free) leads (record { going = ends.going; ends = ends.ends })))
       by_tests rest false is other_holds less =
           let leads : next_at config words kind (Carve buffer region top room) got ≡ LoadShared buffer = ap (λ holds. carve_next buffer (base_of config region + top) room holds (nat_lt (next_in buffer) (end_in buffer))) is in
-          goes_later (Carve buffer region top room) (LoadShared buffer) got more leads (rest (LoadShared buffer) (subst (λ s. Ends s more free) leads (record { going = e.going; ends = e.ends })))
-  cause (got ∷ more) (LoadFree buffer shared) free e = by_test (λ spot. cause more spot free) (has_none config kind got) refl
+          goes_later (Carve buffer region top room) (LoadShared buffer) got more leads (rest (LoadShared buffer) (subst (λ s. Ends s more free) leads (record { going = ends.going; ends = ends.ends })))
+  cause (got ∷ more) (LoadFree buffer shared) free ends = by_test (λ spot. cause more spot free) (has_none config kind got) refl
     where
       by_test : ((spot : TakeSpot) → Ends spot more free → Cause (is_searching spot) spot more) → (holds : Bool) → has_none config kind got ≡ holds → Searches (LoadFree buffer shared) (got ∷ more) ⊎ HasFull config words kind (LoadFree buffer shared) (got ∷ more)
       by_test rest true is =
           let leads : next_at config words kind (LoadFree buffer shared) got ≡ Ended NoRoom 0 = ap (λ holds. if holds then Ended NoRoom 0 else TakeRegion buffer shared (lowest_in got)) is in
-          let on : Ends (Ended NoRoom 0) more free = subst (λ s. Ends s more free) leads (record { going = e.going; ends = e.ends }) in
+          let on : Ends (Ended NoRoom 0) more free = subst (λ s. Ends s more free) leads (record { going = ends.going; ends = ends.ends }) in
           absurd (ended_stays NoRoom 0 more on.going)
       by_test rest false is =
           let leads : next_at config words kind (LoadFree buffer shared) got ≡ TakeRegion buffer shared (lowest_in got) = ap (λ holds. if holds then Ended NoRoom 0 else TakeRegion buffer shared (lowest_in got)) is in
           ⊎_elim
           (λ on. inl (searches_on (LoadFree buffer shared) (TakeRegion buffer shared (lowest_in got)) got more refl leads on))
           (λ full. inr (goes_later (LoadFree buffer shared) (TakeRegion buffer shared (lowest_in got)) got more leads full))
-          (rest (TakeRegion buffer shared (lowest_in got)) (subst (λ s. Ends s more free) leads (record { going = e.going; ends = e.ends })))
-  cause (got ∷ more) (TakeRegion buffer shared region) free e = by_test (λ spot. cause more spot free) (bit_at got region == 1) refl
+          (rest (TakeRegion buffer shared (lowest_in got)) (subst (λ s. Ends s more free) leads (record { going = ends.going; ends = ends.ends })))
+  cause (got ∷ more) (TakeRegion buffer shared region) free ends = by_test (λ spot. cause more spot free) (bit_at got region == 1) refl
     where
       by_test : ((spot : TakeSpot) → Ends spot more free → Cause (is_searching spot) spot more) → (holds : Bool) → (bit_at got region == 1) ≡ holds → Searches (TakeRegion buffer shared region) (got ∷ more) ⊎ HasFull config words kind (TakeRegion buffer shared region) (got ∷ more)
       by_test rest true is =
           let leads : next_at config words kind (TakeRegion buffer shared region) got ≡ ShareRegion buffer shared region = ap (λ holds. if holds then ShareRegion buffer shared region else LoadFree buffer shared) is in
-          inr (goes_later (TakeRegion buffer shared region) (ShareRegion buffer shared region) got more leads (rest (ShareRegion buffer shared region) (subst (λ s. Ends s more free) leads (record { going = e.going; ends = e.ends }))))
+          inr (goes_later (TakeRegion buffer shared region) (ShareRegion buffer shared region) got more leads (rest (ShareRegion buffer shared region) (subst (λ s. Ends s more free) leads (record { going = ends.going; ends = ends.ends }))))
       by_test rest false is =
           let leads : next_at config words kind (TakeRegion buffer shared region) got ≡ LoadFree buffer shared = ap (λ holds. if holds then ShareRegion buffer shared region else LoadFree buffer shared) is in
           ⊎_elim
           (λ on. inl (searches_on (TakeRegion buffer shared region) (LoadFree buffer shared) got more refl leads on))
           (λ full. inr (goes_later (TakeRegion buffer shared region) (LoadFree buffer shared) got more leads full))
-          (rest (LoadFree buffer shared) (subst (λ s. Ends s more free) leads (record { going = e.going; ends = e.ends })))
-  cause (got ∷ more) (ShareRegion buffer shared region) free e = by_test (λ spot. cause more spot free) (got == shared) refl
+          (rest (LoadFree buffer shared) (subst (λ s. Ends s more free) leads (record { going = ends.going; ends = ends.ends })))
+  cause (got ∷ more) (ShareRegion buffer shared region) free ends = by_test (λ spot. cause more spot free) (got == shared) refl
     where
       by_test : ((spot : TakeSpot) → Ends spot more free → Cause (is_searching spot) spot more) → (holds : Bool) → (got == shared) ≡ holds → HasFull config words kind (ShareRegion buffer shared region) (got ∷ more)
       by_test rest true is =
           let leads : next_at config words kind (ShareRegion buffer shared region) got ≡ LoadTop buffer region = ap (λ holds. if holds then LoadTop buffer region else GiveBack buffer region) is in
-          goes_later (ShareRegion buffer shared region) (LoadTop buffer region) got more leads (rest (LoadTop buffer region) (subst (λ s. Ends s more free) leads (record { going = e.going; ends = e.ends })))
+          goes_later (ShareRegion buffer shared region) (LoadTop buffer region) got more leads (rest (LoadTop buffer region) (subst (λ s. Ends s more free) leads (record { going = ends.going; ends = ends.ends })))
       by_test rest false is =
           let leads : next_at config words kind (ShareRegion buffer shared region) got ≡ GiveBack buffer region = ap (λ holds. if holds then LoadTop buffer region else GiveBack buffer region) is in
-          goes_later (ShareRegion buffer shared region) (GiveBack buffer region) got more leads (rest (GiveBack buffer region) (subst (λ s. Ends s more free) leads (record { going = e.going; ends = e.ends })))
-  cause (got ∷ more) (GiveBack buffer region) free e = goes_later (GiveBack buffer region) (LoadShared buffer) got more refl (cause more (LoadShared buffer) free (record { going = e.going; ends = e.ends }))
-  cause (got ∷ more) (Fill buffer address room) free e = absurd (stored_never address room more free (record { going = e.going; ends = e.ends }))
-  cause (got ∷ more) (StoreBuffer address room) free e = absurd (stored_never address room (got ∷ more) free e)
-  cause (got ∷ more) (Ended taken end) free e = absurd (ended_stays taken end (got ∷ more) e.going)
+          goes_later (ShareRegion buffer shared region) (GiveBack buffer region) got more leads (rest (GiveBack buffer region) (subst (λ s. Ends s more free) leads (record { going = ends.going; ends = ends.ends })))
+  cause (got ∷ more) (GiveBack buffer region) free ends = goes_later (GiveBack buffer region) (LoadShared buffer) got more refl (cause more (LoadShared buffer) free (record { going = ends.going; ends = ends.ends }))
+  cause (got ∷ more) (Fill buffer address room) free ends = absurd (stored_never address room more free (record { going = ends.going; ends = ends.ends }))
+  cause (got ∷ more) (StoreBuffer address room) free ends = absurd (stored_never address room (got ∷ more) free ends)
+  cause (got ∷ more) (Ended taken end) free ends = absurd (ended_stays taken end (got ∷ more) ends.going)
 
   -- the buffer's word is found first, and it tells too few free words
   short : (found : List ℕ) (free : ℕ) → Ends LoadBuffer found free → IsBufferShort words found
-  short [] free e = absurd (by_test (has_free words free) e.ends)
+  short [] free ends = absurd (by_test (has_free words free) ends.ends)
     where
       by_test : (holds : Bool) → (if holds then StoreBuffer (next_in free) (free_words free) else LoadShared free) ≡ Ended NoRoom 0 → ⊥
       by_test true is = cc
       by_test false is = cc
-  short (buffer ∷ more) free e = by_test (has_free words buffer) refl
+  short (buffer ∷ more) free ends = by_test (has_free words buffer) refl
     where
       by_test : (holds : Bool) → has_free words buffer ≡ holds → end_in buffer < next_in buffer + words
       by_test true is =
           let leads : next_at config words kind LoadBuffer buffer ≡ StoreBuffer (next_in buffer) (free_words buffer) = ap (λ holds. if holds then StoreBuffer (next_in buffer) (free_words buffer) else LoadShared buffer) is in
-          absurd (stored_never (next_in buffer) (free_words buffer) more free (subst (λ s. Ends s more free) leads (record { going = e.going; ends = e.ends })))
+          absurd (stored_never (next_in buffer) (free_words buffer) more free (subst (λ s. Ends s more free) leads (record { going = ends.going; ends = ends.ends })))
       by_test false is = leb-false (next_in buffer + words) (end_in buffer) is
 
   -- no words at all are no cause

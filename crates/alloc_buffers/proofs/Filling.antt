@@ -7,7 +7,7 @@ use Rattle.heap_words.specs.declared.config.Config.{Config}
 use Rattle.heap_words.specs.Encoding.{next_in, filler_header}
 use Rattle.heap_words.specs.Words.{Word, Top, Current, Heap, write}
 use Rattle.heap_world.specs.World.{World, Block, hand, filler, spare, carved, room_of, is_loose, IsBuffer, AreBuffers, Shared}
-use Rattle.heap_world.proofs.Updates.{updated_same}
+use Rattle.heap_world.proofs.FunctionUpdates.{updated_same}
 use Rattle.heap_world.proofs.Retiled.{one_at, one_tile, only_one, retiled, retiled_cases, retiled_else}
 use Rattle.heap_world.proofs.Recut.{CanRecut, buffers_again}
 use Rattle.heap_world.proofs.RecutWorlds.{is_of_room, shared_recut, recut_world, keeps_recut, others_recut}
@@ -18,8 +18,8 @@ use Rattle.alloc_buffers.specs.Facts.{CanTake}
 use Rattle.alloc_buffers.proofs.TakeSteps.{TakeStep, can_at, store_ready, piece_stretch, piece_alone, region_end_small}
 
 -- a store into a word of the heap changes no word of another kind
-heap_else : (memory : Word → ℕ) (address value : ℕ) (at : Word) → is_of_room at ≡ false → write memory (Heap address) value at ≡ memory at
-heap_else memory address value (Heap a) is = absurd (true≢false is)
+heap_else : (memory : Word → ℕ) (address value : ℕ) (word : Word) → is_of_room word ≡ false → write memory (Heap address) value word ≡ memory word
+heap_else memory address value (Heap other_address) is = absurd (true≢false is)
 heap_else memory address value (Current seat) is = refl
 heap_else memory address value _ is = refl
 
@@ -48,8 +48,8 @@ module _ (config : Config) (world : World) (seat words : ℕ) (kind : Kind) (buf
     rooms = shared.owned.rooms;
     stretch = piece_stretch config tops world.block shared.parsable.plotted next (spare seat free) can.facts.left some;
     tiling = one_tile next (filler free) some;
-    olds = λ x b from to is. ap room_of (sym (piece_alone config tops world.block shared.parsable.plotted next (spare seat free) can.facts.left some x b from to is).1);
-    loose = λ x b is. ap is_loose (sym (is_filler x b is).1);
+    olds = λ other_address piece from to is. ap room_of (sym (piece_alone config tops world.block shared.parsable.plotted next (spare seat free) can.facts.left some other_address piece from to is).1);
+    loose = λ other_address piece is. ap is_loose (sym (is_filler other_address piece is).1);
     own = λ x other b is of. absurd (none-some other (ap room_of (is_filler x b is).1 ∙ of));
     hands = λ x other more is. let same = (is_filler x (hand other more) is).1 in cc;
     carveds = λ x other more is. let same = (is_filler x (carved other more) is).1 in cc;
@@ -104,12 +104,12 @@ module _ (config : Config) (world : World) (seat words : ℕ) (kind : Kind) (buf
         free = λ more. inr (address, room, carved_stays);
       }
 
-  buffers_then : AreBuffers config tops (λ s. world.memory (Current s)) (retiled world.block (one_at next (filler free)) next free)
-  buffers_then = buffers_again config tops world.block (one_at next (filler free)) seat next free can_recut (λ s. world.memory (Current s)) (λ s. world.memory (Current s)) (λ other differs. refl) own_buffer
-      (λ x more is. ⊎_elim
-      (λ old. absurd (no_spare x more old.0 old.1))
+  buffers_then : AreBuffers config tops (λ seat. world.memory (Current seat)) (retiled world.block (one_at next (filler free)) next free)
+  buffers_then = buffers_again config tops world.block (one_at next (filler free)) seat next free can_recut (λ seat. world.memory (Current seat)) (λ seat. world.memory (Current seat)) (λ other differs. refl) own_buffer
+      (λ address more is. ⊎_elim
+      (λ old. absurd (no_spare address more old.0 old.1))
       (λ (now : filler free ≡ spare seat more). absurd cc)
-      (then_cases x (spare seat more) is))
+      (then_cases address (spare seat more) is))
       shared.owned.buffers
 
   -- the words carved can be stored as a buffer
@@ -124,25 +124,25 @@ module _ (config : Config) (world : World) (seat words : ℕ) (kind : Kind) (buf
     world = recut_world config world (one_at next (filler free)) seat next free shared can_recut (write world.memory (Heap next) header) (heap_else world.memory next header) heap_stays;
     memory = refl;
     graph = refl;
-    shared = shared_recut config world (one_at next (filler free)) seat next free shared can_recut (λ x. write world.memory (Heap next) header (Heap x)) heap_stays (λ s. world.memory (Current s))
+    shared = shared_recut config world (one_at next (filler free)) seat next free shared can_recut (λ address. write world.memory (Heap next) header (Heap address)) heap_stays (λ seat. world.memory (Current seat))
         (λ x more is.
         let there = is_filler x (filler more) is in
         let same = there.1 in
         let long : free ≡ more = cc in
-        updated_same (λ k. world.memory (Heap k)) next header x (sym there.0) ∙ ap filler_header long)
+        updated_same (λ address. world.memory (Heap address)) next header x (sym there.0) ∙ ap filler_header long)
         buffers_then shared.owned.outside;
     own = (
       can_at config world seat words kind (Fill buffer address room) (StoreBuffer address room)
           (recut_world config world (one_at next (filler free)) seat next free shared can_recut (write world.memory (Heap next) header) (heap_else world.memory next header) heap_stays) can refl refl
           (store_ready config seat words address room can.seated numbers.0 numbers.1)
           (record { here = inr carved_stays; long = numbers.0 })
-          (λ x b is of. ⊎_elim
-          (λ (old : ((x < next) ⊎ (next + free ≤ x)) × (world.block x ≡ Some b)). ⊎_elim
-          (λ left. absurd (no_spare x left.0 old.0 (old.1 ∙ ap (λ k. Some k) left.1)))
+          (λ address piece is of. ⊎_elim
+          (λ (old : ((address < next) ⊎ (next + free ≤ address)) × (world.block address ≡ Some piece)). ⊎_elim
+          (λ left. absurd (no_spare address left.0 old.0 (old.1 ∙ ap (λ k. Some k) left.1)))
           (λ has. has.0)
-          (can.rooms x b old.1 of))
-          (λ (now : filler free ≡ b). absurd (none-some seat (ap room_of now ∙ of)))
-          (then_cases x b is)),
+          (can.rooms address piece old.1 of))
+          (λ (now : filler free ≡ piece). absurd (none-some seat (ap room_of now ∙ of)))
+          (then_cases address piece is)),
       record { copying = refl; working = refl },
     );
     keeps = keeps_recut config world (one_at next (filler free)) seat next free shared can_recut (write world.memory (Heap next) header) (heap_else world.memory next header) heap_stays;

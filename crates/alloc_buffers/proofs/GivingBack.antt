@@ -11,7 +11,7 @@ use Rattle.regions.proofs.PlaceLemmas.{regions_tile}
 use Rattle.heap_world.specs.World.{World, Block, Plot, hand, filler, spare, carved, room_of, is_loose, IsInUse, IsBuffer, AreBuffers, Shared}
 use Rattle.heap_world.specs.Part.{PartStep}
 use Rattle.heap_world.proofs.Pieces.{behind}
-use Rattle.heap_world.proofs.Updates.{updated_there, updated_else}
+use Rattle.heap_world.proofs.FunctionUpdates.{updated_there, updated_else}
 use Rattle.heap_world.proofs.Retiled.{IsStretch, one_at, one_tile, only_one, retiled, retiled_cases, new_there}
 use Rattle.heap_world.proofs.Recut.{CanRecut, buffers_again, buffers_outside, same_but_loose}
 use Rattle.heap_world.proofs.RecutWorlds.{shared_recut, recut_world, keeps_recut, others_recut}
@@ -58,7 +58,7 @@ module _ (config : Config) (world : World) (seat words copy end : ℕ) (shared :
 
   -- the free words behind the room, if there are any
   left : copy + words < end → world.block (copy + words) ≡ Some (spare seat (end - (copy + words)))
-  left more =
+  left below =
       let next = can.taken.next in
       let end_is = can.taken.end_is in
       let there : world.block (next_in (world.memory (Current seat))) ≡ Some (spare seat (end_in (world.memory (Current seat)) - next_in (world.memory (Current seat)))) = ⊎_elim
@@ -67,9 +67,9 @@ module _ (config : Config) (world : World) (seat words copy end : ℕ) (shared :
       (λ spare_is. spare_uncarved seat has.1 spare_is)
       (λ (hand_is : (has.0 ≡ copy) × (carved seat has.1 ≡ hand seat words)). let same = hand_is.1 in cc)
       (can.rooms has.0 (carved seat has.1) has.2 refl)))
-      ((shared.owned.buffers.each seat has_buffer).free (omega (arith, next, end_is, more)))
+      ((shared.owned.buffers.each seat has_buffer).free (omega (arith, next, end_is, below)))
       in
-      ap world.block (sym next) ∙ there ∙ ap (λ n. Some (spare seat n)) (let counts : end_in (world.memory (Current seat)) - next_in (world.memory (Current seat)) ≡ end - (copy + words) = omega (arith, next, end_is) in counts)
+      ap world.block (sym next) ∙ there ∙ ap (λ words. Some (spare seat words)) (let counts : end_in (world.memory (Current seat)) - next_in (world.memory (Current seat)) ≡ end - (copy + words) = omega (arith, next, end_is) in counts)
 
   -- they lie in the region of the room
   same_region : (more : copy + words < end) → end ≤ base_of config used.region + tops used.region
@@ -135,18 +135,18 @@ module _ (config : Config) (world : World) (seat words copy end : ℕ) (shared :
 
   -- all of it is the seat's room
   stretch_room : (address : ℕ) (piece : Block) → copy ≤ address → address < copy + free → world.block address ≡ Some piece → room_of piece ≡ Some seat
-  stretch_room address piece from to is =
+  stretch_room address piece at_most below is =
       let order = can.taken.ordered in
       ⊎_elim
       (λ (first : address ≡ copy). ap room_of (same_Some piece (hand seat words) (sym is ∙ ap world.block first ∙ can.taken.here)))
       (λ (other : address ≢ copy).
-      let far = shared.parsable.plotted.apart copy address (hand seat words) piece can.taken.here is (omega (arith, from, other)) in
-      let more : copy + words < end = omega (arith, far, to, order) in
+      let far = shared.parsable.plotted.apart copy address (hand seat words) piece can.taken.here is (omega (arith, at_most, other)) in
+      let more : copy + words < end = omega (arith, far, below, order) in
       ⊎_elim
       (λ (second : address ≡ copy + words). ap room_of (same_Some piece (spare seat (end - (copy + words))) (sym is ∙ ap world.block second ∙ left more)))
       (λ (later : address ≢ copy + words).
       let farther = shared.parsable.plotted.apart (copy + words) address (spare seat (end - (copy + words))) piece (left more) is (omega (arith, far, later)) in
-      absurd (omega (arith, farther, to, more)))
+      absurd (omega (arith, farther, below, more)))
       (cases_eq address (copy + words)))
       (cases_eq address copy)
 
@@ -161,7 +161,7 @@ module _ (config : Config) (world : World) (seat words copy end : ℕ) (shared :
     stretch = stretch;
     tiling = one_tile copy (spare seat free) (let order = can.taken.ordered in let long = some in omega (arith, order, long));
     olds = stretch_room;
-    loose = λ x b is. ap is_loose (sym (is_free x b is).1);
+    loose = λ other_address piece is. ap is_loose (sym (is_free other_address piece is).1);
     own = λ x other b is of. same_Some other seat (sym of ∙ ap room_of (sym (is_free x b is).1));
     hands = λ x other more is. let same = (is_free x (hand other more) is).1 in cc;
     carveds = λ x other more is. let same = (is_free x (carved other more) is).1 in cc;
@@ -202,12 +202,12 @@ module _ (config : Config) (world : World) (seat words copy end : ℕ) (shared :
         to_top = omega (arith, high, end_then);
         free = λ more.
             let left_is : end_in word - next_in word ≡ free = omega (arith, next_then, end_then) in
-            inl (ap after next_then ∙ free_there ∙ ap (λ n. Some (spare seat n)) (sym left_is));
+            inl (ap after next_then ∙ free_there ∙ ap (λ words. Some (spare seat words)) (sym left_is));
       }
 
   -- an old piece elsewhere is no room of the seat
-  none_else : (address : ℕ) (b : Block) → (address < copy) ⊎ (copy + free ≤ address) → world.block address ≡ Some b → room_of b ≡ Some seat → ⊥
-  none_else address b away is of = ⊎_elim
+  none_else : (address : ℕ) (piece : Block) → (address < copy) ⊎ (copy + free ≤ address) → world.block address ≡ Some piece → room_of piece ≡ Some seat → ⊥
+  none_else address b away is found = ⊎_elim
       (λ spare_is.
       let piece : world.block address ≡ Some (spare seat spare_is.0) = is ∙ ap (λ k. Some k) spare_is.1 in
       let told = shared.owned.buffers.spares address seat spare_is.0 piece in
@@ -219,14 +219,14 @@ module _ (config : Config) (world : World) (seat words copy end : ℕ) (shared :
       let to = told.1 in
       omega (arith, away, from, to, next, end_is, order, size))
       (λ hand_is. let same = hand_is.0 in let order = can.taken.ordered in let long = some in omega (arith, away, same, order, long))
-      (can.rooms address b is of)
+      (can.rooms address b is found)
 
-  buffers_then : AreBuffers config tops (λ s. write world.memory (Current seat) word (Current s)) after
-  buffers_then = buffers_again config tops world.block (one_at copy (spare seat free)) seat copy free can_recut (λ s. world.memory (Current s)) (λ s. write world.memory (Current seat) word (Current s))
-      (λ other differs. updated_else (λ s. world.memory (Current s)) seat word other (λ same. differs (sym same)))
-      (λ there. subst (IsBuffer config tops after seat) (sym (updated_there (λ s. world.memory (Current s)) seat word)) own_buffer)
+  buffers_then : AreBuffers config tops (λ other_seat. write world.memory (Current seat) word (Current other_seat)) after
+  buffers_then = buffers_again config tops world.block (one_at copy (spare seat free)) seat copy free can_recut (λ seat. world.memory (Current seat)) (λ other_seat. write world.memory (Current seat) word (Current other_seat))
+      (λ other differs. updated_else (λ seat. world.memory (Current seat)) seat word other (λ same. differs (sym same)))
+      (λ there. subst (IsBuffer config tops after seat) (sym (updated_there (λ seat. world.memory (Current seat)) seat word)) own_buffer)
       (λ x more is.
-      let now : write world.memory (Current seat) word (Current seat) ≡ word = updated_there (λ s. world.memory (Current s)) seat word in
+      let now : write world.memory (Current seat) word (Current seat) ≡ word = updated_there (λ seat. world.memory (Current seat)) seat word in
       let told : (next_in word ≡ x) × (end_in word ≡ x + more) = ⊎_elim
       (λ away. absurd (none_else x (spare seat more) away.0 away.1 refl))
       (λ inside.
@@ -247,8 +247,8 @@ module _ (config : Config) (world : World) (seat words copy end : ℕ) (shared :
 
   -- all room of the seat is free words of its buffer then
   pub all_spare : (address : ℕ) (piece : Block) → back_world.block address ≡ Some piece → room_of piece ≡ Some seat → IsSpare seat piece
-  all_spare address piece is of = ⊎_elim
-      (λ away. absurd (none_else address piece away.0 away.1 of))
+  all_spare address piece is found = ⊎_elim
+      (λ away. absurd (none_else address piece away.0 away.1 found))
       (λ inside. (free, sym (is_free address piece inside.2).1))
       (retiled_cases world.block (one_at copy (spare seat free)) copy free address piece is)
 
@@ -262,15 +262,15 @@ module _ (config : Config) (world : World) (seat words copy end : ℕ) (shared :
     world = back_world;
     memory = refl;
     graph = refl;
-    shared = shared_recut config world (one_at copy (spare seat free)) seat copy free shared can_recut (λ x. world.memory (Heap x)) (λ x away. refl) (λ s. write world.memory (Current seat) word (Current s))
+    shared = shared_recut config world (one_at copy (spare seat free)) seat copy free shared can_recut (λ address. world.memory (Heap address)) (λ x away. refl) (λ other_seat. write world.memory (Current seat) word (Current other_seat))
         (λ x more is. let same = (is_free x (filler more) is).1 in absurd cc)
         buffers_then
-        (buffers_outside config tops world.block (one_at copy (spare seat free)) seat copy free can_recut (world.memory Cset) (λ s. world.memory (Current s)) (λ s. write world.memory (Current seat) word (Current s))
-        (λ other differs. updated_else (λ s. world.memory (Current s)) seat word other (λ same. differs (sym same)))
-        (λ there. ap end_in (updated_there (λ s. world.memory (Current s)) seat word) ∙ (let order = can.taken.ordered in omega (arith, end_then, order)))
+        (buffers_outside config tops world.block (one_at copy (spare seat free)) seat copy free can_recut (world.memory Cset) (λ seat. world.memory (Current seat)) (λ other_seat. write world.memory (Current seat) word (Current other_seat))
+        (λ other differs. updated_else (λ seat. world.memory (Current seat)) seat word other (λ same. differs (sym same)))
+        (λ there. ap end_in (updated_there (λ seat. world.memory (Current seat)) seat word) ∙ (let order = can.taken.ordered in omega (arith, end_then, order)))
         shared.evacuated.aside.no_rooms shared.owned.outside);
     own = own;
     keeps = keeps_recut config world (one_at copy (spare seat free)) seat copy free shared can_recut (write world.memory (Current seat) word) (buffer_else world.memory seat word) (λ x away. refl);
     others = others_recut config world (one_at copy (spare seat free)) seat copy free shared can_recut (write world.memory (Current seat) word) (buffer_else world.memory seat word) (λ x away. refl)
-        (λ s differs. updated_else (λ k. world.memory (Current k)) seat word s (λ same. differs (sym same)));
+        (λ s differs. updated_else (λ seat. world.memory (Current seat)) seat word s (λ same. differs (sym same)));
   }

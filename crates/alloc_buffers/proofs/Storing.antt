@@ -8,7 +8,7 @@ use Rattle.heap_words.specs.Words.{Word, Cset, Top, Current, Heap, write}
 use Rattle.regions.specs.Place.{base_of, IsOf}
 use Rattle.regions.proofs.PlaceLemmas.{regions_tile}
 use Rattle.heap_world.specs.World.{World, Block, Plot, hand, filler, spare, carved, words_of, room_of, is_loose, IsBuffer, AreBuffers, Shared}
-use Rattle.heap_world.proofs.Updates.{updated_there, updated_else}
+use Rattle.heap_world.proofs.FunctionUpdates.{updated_there, updated_else}
 use Rattle.heap_world.proofs.Pieces.{piece_cases}
 use Rattle.heap_world.proofs.Retiled.{IsTiling, IsStretch, one_at, two_at, one_tile, two_tiles, only_one, retiled, retiled_cases, new_there}
 use Rattle.heap_world.proofs.Recut.{CanRecut, buffers_again, buffers_outside}
@@ -20,8 +20,8 @@ use Rattle.alloc_buffers.specs.Facts.{CanTake}
 use Rattle.alloc_buffers.proofs.TakeSteps.{TakeStep, can_at, piece_stretch, piece_alone}
 
 -- a store into the word of a buffer changes no word of another kind
-pub buffer_else : (memory : Word → ℕ) (seat value : ℕ) (at : Word) → is_of_room at ≡ false → write memory (Current seat) value at ≡ memory at
-buffer_else memory seat value (Heap a) is = refl
+pub buffer_else : (memory : Word → ℕ) (seat value : ℕ) (word : Word) → is_of_room word ≡ false → write memory (Current seat) value word ≡ memory word
+buffer_else memory seat value (Heap address) is = refl
 buffer_else memory seat value (Current other) is = absurd (true≢false is)
 buffer_else memory seat value _ is = refl
 
@@ -34,12 +34,12 @@ record IsCut (new : Plot) (seat address words room : ℕ) : Type 0 where
 
 -- words can be cut so
 cut : (seat address words room : ℕ) → 1 ≤ words → words ≤ room → (new : Plot) × IsCut new seat address words room
-cut seat address words room some long = ⊎_elim
+cut seat address words room positive long = ⊎_elim
     (λ (whole : words ≡ room). (
       one_at address (hand seat words),
       record {
-        tiling = subst (IsTiling (one_at address (hand seat words)) address) whole (one_tile address (hand seat words) some);
-        pieces = λ x b is. inl (only_one address (hand seat words) x b is);
+        tiling = subst (IsTiling (one_at address (hand seat words)) address) whole (one_tile address (hand seat words) positive);
+        pieces = λ other_address b is. inl (only_one address (hand seat words) other_address b is);
         here = updated_there (λ b. None) address (Some (hand seat words));
         rest = λ less. absurd (omega (arith, less, whole));
       },
@@ -48,12 +48,12 @@ cut seat address words room some long = ⊎_elim
     let left : 1 ≤ room - words = omega (arith, part, long) in (
       two_at address (hand seat words) (spare seat (room - words)),
       record {
-        tiling = subst (IsTiling (two_at address (hand seat words) (spare seat (room - words))) address) (omega (arith, long)) (two_tiles address (hand seat words) (spare seat (room - words)) some left);
-        pieces = λ x b is. ⊎_elim
-            (λ (last : (x ≡ address + words) × (spare seat (room - words) ≡ b)). inr last)
-            (λ (other : (x ≢ address + words) × (one_at address (hand seat words) x ≡ Some b)). inl (only_one address (hand seat words) x b other.1))
-            (piece_cases (one_at address (hand seat words)) (address + words) (spare seat (room - words)) x b is);
-        here = updated_else (one_at address (hand seat words)) (address + words) (Some (spare seat (room - words))) address (omega (arith, some)) ∙ updated_there (λ b. None) address (Some (hand seat words));
+        tiling = subst (IsTiling (two_at address (hand seat words) (spare seat (room - words))) address) (omega (arith, long)) (two_tiles address (hand seat words) (spare seat (room - words)) positive left);
+        pieces = λ other_address piece is. ⊎_elim
+            (λ (last : (other_address ≡ address + words) × (spare seat (room - words) ≡ piece)). inr last)
+            (λ (other : (other_address ≢ address + words) × (one_at address (hand seat words) other_address ≡ Some piece)). inl (only_one address (hand seat words) other_address piece other.1))
+            (piece_cases (one_at address (hand seat words)) (address + words) (spare seat (room - words)) other_address piece is);
+        here = updated_else (one_at address (hand seat words)) (address + words) (Some (spare seat (room - words))) address (omega (arith, positive)) ∙ updated_there (λ b. None) address (Some (hand seat words));
         rest = λ less. updated_there (one_at address (hand seat words)) (address + words) (Some (spare seat (room - words)));
       },
     ))
@@ -74,7 +74,7 @@ module _ (config : Config) (world : World) (seat words : ℕ) (kind : Kind) (add
 
   -- no other piece begins there
   alone : (x : ℕ) (piece : Block) → address ≤ x → x < address + room → world.block x ≡ Some piece → (x ≡ address) × (old ≡ piece)
-  alone x piece from to is = piece_alone config tops world.block shared.parsable.plotted address old there some x piece from (omega (arith, to, so_long)) is
+  alone x piece at_most below is = piece_alone config tops world.block shared.parsable.plotted address old there some x piece at_most (omega (arith, below, so_long)) is
 
   can_recut : CanRecut config tops world.block new seat address room
   can_recut = record {
@@ -82,8 +82,8 @@ module _ (config : Config) (world : World) (seat words : ℕ) (kind : Kind) (add
     rooms = shared.owned.rooms;
     stretch = subst (IsStretch config tops world.block address) so_long (piece_stretch config tops world.block shared.parsable.plotted address old there some);
     tiling = is_cut.tiling;
-    olds = λ x b from to is. ap room_of (sym (alone x b from to is).1) ∙ of_seat;
-    loose = λ x b is. ⊎_elim (λ one. ap is_loose (sym one.1)) (λ two. ap is_loose (sym two.1)) (is_cut.pieces x b is);
+    olds = λ other_address piece from to is. ap room_of (sym (alone other_address piece from to is).1) ∙ of_seat;
+    loose = λ other_address piece is. ⊎_elim (λ one. ap is_loose (sym one.1)) (λ two. ap is_loose (sym two.1)) (is_cut.pieces other_address piece is);
     own = λ x other b is of. same_Some other seat (sym of ∙ ⊎_elim (λ one. ap room_of (sym one.1)) (λ two. ap room_of (sym two.1)) (is_cut.pieces x b is));
     hands = λ x other more is. ⊎_elim
         (λ (one : (x ≡ address) × (hand seat words ≡ hand other more)). let same = one.1 in let long : words ≡ more = cc in (let least = can.least in omega (arith, least, long)))
@@ -112,7 +112,7 @@ module _ (config : Config) (world : World) (seat words : ℕ) (kind : Kind) (add
 
   -- room of the seat elsewhere there is none
   none_else : (x : ℕ) (piece : Block) → (x < address) ⊎ (address + room ≤ x) → world.block x ≡ Some piece → room_of piece ≡ Some seat → ⊥
-  none_else x piece away is of = let here = can.rooms x piece is of in let least = can.least in let long = numbers.0 in omega (arith, away, here, least, long)
+  none_else x piece away is found = let here = can.rooms x piece is found in let least = can.least in let long = numbers.0 in omega (arith, away, here, least, long)
 
   -- the free words that are left
   rest_there : words < room → after (address + words) ≡ Some (spare seat (room - words))
@@ -134,15 +134,15 @@ module _ (config : Config) (world : World) (seat words : ℕ) (kind : Kind) (add
         to_top = omega (arith, high, end_is);
         free = λ more.
             let left : end_in word - next_in word ≡ room - words = omega (arith, next_is, end_is, long) in
-            inl (ap after next_is ∙ rest_there (omega (arith, more, next_is, end_is)) ∙ ap (λ n. Some (spare seat n)) (sym left));
+            inl (ap after next_is ∙ rest_there (omega (arith, more, next_is, end_is)) ∙ ap (λ words. Some (spare seat words)) (sym left));
       }
 
-  buffers_then : AreBuffers config tops (λ s. write world.memory (Current seat) word (Current s)) after
-  buffers_then = buffers_again config tops world.block new seat address room can_recut (λ s. world.memory (Current s)) (λ s. write world.memory (Current seat) word (Current s))
-      (λ other differs. updated_else (λ s. world.memory (Current s)) seat word other (λ same. differs (sym same)))
-      (λ there_is. subst (IsBuffer config tops after seat) (sym (updated_there (λ s. world.memory (Current s)) seat word)) own_buffer)
+  buffers_then : AreBuffers config tops (λ other_seat. write world.memory (Current seat) word (Current other_seat)) after
+  buffers_then = buffers_again config tops world.block new seat address room can_recut (λ seat. world.memory (Current seat)) (λ other_seat. write world.memory (Current seat) word (Current other_seat))
+      (λ other differs. updated_else (λ seat. world.memory (Current seat)) seat word other (λ same. differs (sym same)))
+      (λ there_is. subst (IsBuffer config tops after seat) (sym (updated_there (λ seat. world.memory (Current seat)) seat word)) own_buffer)
       (λ x more is.
-      let now : write world.memory (Current seat) word (Current seat) ≡ word = updated_there (λ s. world.memory (Current s)) seat word in
+      let now : write world.memory (Current seat) word (Current seat) ≡ word = updated_there (λ seat. world.memory (Current seat)) seat word in
       let told : (next_in word ≡ x) × (end_in word ≡ x + more) = ⊎_elim
       (λ away. absurd (none_else x (spare seat more) away.0 away.1 refl))
       (λ inside. ⊎_elim
@@ -177,7 +177,7 @@ module _ (config : Config) (world : World) (seat words : ℕ) (kind : Kind) (add
   -- what the seat counts on then: the room is in hand
   has_taken : CanTake config stored_world seat words (Ended (At address) (address + room))
   has_taken =
-      let now : write world.memory (Current seat) word (Current seat) ≡ word = updated_there (λ s. world.memory (Current s)) seat word in
+      let now : write world.memory (Current seat) word (Current seat) ≡ word = updated_there (λ seat. world.memory (Current seat)) seat word in
       can_at config world seat words kind (StoreBuffer address room) (Ended (At address) (address + room)) stored_world can refl refl refl
       (record {
         here = new_there config tops world.block new address room shared.parsable.plotted can_recut.stretch is_cut.tiling address (hand seat words) is_cut.here;
@@ -190,13 +190,13 @@ module _ (config : Config) (world : World) (seat words : ℕ) (kind : Kind) (add
             let most = shared.parsable.plotted.tops stretch.region stretch.within in
             subst (λ r. address + room ≤ base_of config r + config.region_words) (sym (regions_tile.of_no_other config stretch.region address of_region)) (omega (arith, high, most));
       })
-      (λ x b is of. ⊎_elim
-      (λ away. absurd (none_else x b away.0 away.1 of))
+      (λ x piece is of. ⊎_elim
+      (λ away. absurd (none_else x piece away.0 away.1 of))
       (λ inside. ⊎_elim
       (λ one. inr (one.0, sym one.1))
       (λ two. inl (room - words, sym two.1))
-      (is_cut.pieces x b inside.2))
-      (retiled_cases world.block new address room x b is))
+      (is_cut.pieces x piece inside.2))
+      (retiled_cases world.block new address room x piece is))
 
   -- the store of the buffer puts the words into hand
   stored : TakeStep config world seat words kind (StoreBuffer address room)
@@ -204,20 +204,20 @@ module _ (config : Config) (world : World) (seat words : ℕ) (kind : Kind) (add
     world = stored_world;
     memory = refl;
     graph = refl;
-    shared = shared_recut config world new seat address room shared can_recut (λ x. world.memory (Heap x)) (λ x away. refl) (λ s. write world.memory (Current seat) word (Current s))
+    shared = shared_recut config world new seat address room shared can_recut (λ address. world.memory (Heap address)) (λ x away. refl) (λ other_seat. write world.memory (Current seat) word (Current other_seat))
         (λ x more is. ⊎_elim
         (λ (one : (x ≡ address) × (hand seat words ≡ filler more)). let same = one.1 in absurd cc)
         (λ (two : (x ≡ address + words) × (spare seat (room - words) ≡ filler more)). let same = two.1 in absurd cc)
         (is_cut.pieces x (filler more) is))
         buffers_then
-        (buffers_outside config tops world.block new seat address room can_recut (world.memory Cset) (λ s. world.memory (Current s)) (λ s. write world.memory (Current seat) word (Current s))
-        (λ other differs. updated_else (λ s. world.memory (Current s)) seat word other (λ same. differs (sym same)))
-        (λ there. ap end_in (updated_there (λ s. world.memory (Current s)) seat word) ∙ end_is)
+        (buffers_outside config tops world.block new seat address room can_recut (world.memory Cset) (λ seat. world.memory (Current seat)) (λ other_seat. write world.memory (Current seat) word (Current other_seat))
+        (λ other differs. updated_else (λ seat. world.memory (Current seat)) seat word other (λ same. differs (sym same)))
+        (λ there. ap end_in (updated_there (λ seat. world.memory (Current seat)) seat word) ∙ end_is)
         shared.evacuated.aside.no_rooms shared.owned.outside);
     own = (has_taken, record { copying = refl; working = refl });
     keeps = keeps_recut config world new seat address room shared can_recut (write world.memory (Current seat) word) (buffer_else world.memory seat word) (λ x away. refl);
     others = others_recut config world new seat address room shared can_recut (write world.memory (Current seat) word) (buffer_else world.memory seat word) (λ x away. refl)
-        (λ s differs. updated_else (λ k. world.memory (Current k)) seat word s (λ same. differs (sym same)));
+        (λ s differs. updated_else (λ seat. world.memory (Current seat)) seat word s (λ same. differs (sym same)));
   }
 
 -- the step that stores the buffer, out of its free words or out of those that are carved

@@ -19,11 +19,11 @@ use Rattle.alloc_buffers.proofs.TakeSteps.{TakeStep, looked, left_of, buffer_sma
 
 -- what is carved above a top has the words that are wanted, and lies in the region
 pub carved_long : (config : Config) (words top : ℕ) → words ≤ 35 → top + words ≤ config.region_words → (words ≤ carved_words config top) × (top + carved_words config top ≤ config.region_words) × (carved_words config top ≤ 64)
-carved_long config words top few room = ⊎_elim
+carved_long config words top at_most room = ⊎_elim
     (λ (more : has_room config 64 top ≡ true).
     let is : carved_words config top ≡ 64 = cond-true (has_room config 64 top) 64 (config.region_words - top) more in
     let high : top + 64 ≤ config.region_words = leb-true (top + 64) config.region_words more in
-    (omega (arith, is, few), omega (arith, is, high), omega (arith, is)))
+    (omega (arith, is, at_most), omega (arith, is, high), omega (arith, is)))
     (λ (less : has_room config 64 top ≡ false).
     let is : carved_words config top ≡ config.region_words - top = cond-false (has_room config 64 top) 64 (config.region_words - top) less in
     let high : config.region_words < top + 64 = leb-false (top + 64) config.region_words less in

@@ -9,7 +9,7 @@ use Rattle.heap_words.specs.Words.{Word, Phase, Cset, Free, Evac, Claim, Top, Ta
 use Rattle.heap_words.specs.Touch.{touched}
 use Rattle.regions.specs.Sets.{IsIn, all_but}
 use Rattle.heap_world.specs.World.{World, IsOpen, IsEvacuating, Shared}
-use Rattle.heap_world.proofs.Updates.{updated, updated_there, updated_else}
+use Rattle.heap_world.proofs.FunctionUpdates.{updated, updated_there, updated_else}
 use Rattle.heap_world.proofs.Evacuated.{evacuated_owned}
 use Rattle.heap_world.proofs.FreeRegions.{owner_stays, free_before, free_without, open_stays, free_with, in_use_still}
 use Rattle.heap_world.proofs.RegionWorlds.{is_of_regions, region_world, keeps_regions, others_regions}
@@ -20,13 +20,13 @@ use Rattle.alloc_buffers.specs.Facts.{CanTake}
 use Rattle.alloc_buffers.proofs.TakeSteps.{TakeStep, can_at, looked, exchange_lost}
 
 -- a store into the free word changes no word but that
-free_else : (memory : Word → ℕ) (value : ℕ) (at : Word) → is_of_regions at ≡ false → write memory Free value at ≡ memory at
+free_else : (memory : Word → ℕ) (value : ℕ) (word : Word) → is_of_regions word ≡ false → write memory Free value word ≡ memory word
 free_else memory value Free is = absurd (true≢false is)
 free_else memory value Share is = refl
 free_else memory value _ is = refl
 
 -- nor does one into the word of the shared region
-share_else : (memory : Word → ℕ) (value : ℕ) (at : Word) → is_of_regions at ≡ false → write memory Share value at ≡ memory at
+share_else : (memory : Word → ℕ) (value : ℕ) (word : Word) → is_of_regions word ≡ false → write memory Share value word ≡ memory word
 share_else memory value Free is = refl
 share_else memory value Share is = absurd (true≢false is)
 share_else memory value _ is = refl
@@ -37,9 +37,9 @@ module _ (config : Config) (world : World) (seat words : ℕ) (kind : Kind) wher
 
   -- evacuation goes on with another free word and other owners
   evacuating : (free : ℕ) (owner : ℕ → Option ℕ) → Shared config world → ((region : ℕ) → IsIn free region → IsIn (world.memory Cset) region → ⊥) → ((region other : ℕ) → owner region ≡ Some other → IsIn (world.memory Cset) region → ⊥)
-      → IsEvacuating config (world.memory Phase) (world.memory Cset) (world.memory Evac) (world.memory Claim) free tops_now (λ region. world.memory (Tams region)) (λ a. world.memory (Heap a)) (λ n. world.memory (Black n)) world.block owner world.ghost.copying world.ghost.working
+      → IsEvacuating config (world.memory Phase) (world.memory Cset) (world.memory Evac) (world.memory Claim) free tops_now (λ region. world.memory (Tams region)) (λ address. world.memory (Heap address)) (λ number. world.memory (Black number)) world.block owner world.ghost.copying world.ghost.working
   evacuating free owner shared in_use nobodys =
-      evacuated_owned config (world.memory Phase) (world.memory Cset) (world.memory Evac) (world.memory Claim) (world.memory Free) tops_now (λ region. world.memory (Tams region)) (λ a. world.memory (Heap a)) (λ n. world.memory (Black n)) world.block world.ghost.owner
+      evacuated_owned config (world.memory Phase) (world.memory Cset) (world.memory Evac) (world.memory Claim) (world.memory Free) tops_now (λ region. world.memory (Tams region)) (λ address. world.memory (Heap address)) (λ number. world.memory (Black number)) world.block world.ghost.owner
       world.ghost.copying world.ghost.working shared.evacuated free owner in_use nobodys
 
   module _ (buffer shared_word region : ℕ) (shared : Shared config world) (can : CanTake config world seat words (TakeRegion buffer shared_word region)) where
@@ -62,12 +62,12 @@ module _ (config : Config) (world : World) (seat words : ℕ) (kind : Kind) wher
         let bit : bit_at (world.memory Free) region ≡ 1 = eqb-true _ _ won in
         let nobodys : world.ghost.owner region ≡ None = shared.owned.free_word.nobodys region within bit in
         let owner : ℕ → Option ℕ = updated world.ghost.owner region (Some seat) in
-        let w : World = region_world config world (touched world.memory (touch_at seat words (TakeRegion buffer shared_word region))) (updated world.ghost.owner region (Some seat)) (λ at is. free_else world.memory without at is) in
+        let other_world : World = region_world config world (touched world.memory (touch_at seat words (TakeRegion buffer shared_word region))) (updated world.ghost.owner region (Some seat)) (λ at is. free_else world.memory without at is) in
         let others_own : (r : ℕ) → r ≢ region → updated world.ghost.owner region (Some seat) r ≡ world.ghost.owner r = λ r differs. updated_else world.ghost.owner region (Some seat) r (λ e. differs (sym e)) in
         let opens : (r : ℕ) → IsOpen config (world.memory Free) (world.memory Cset) world.ghost.owner r → IsOpen config without (world.memory Cset) (updated world.ghost.owner region (Some seat)) r =
         open_stays config (world.memory Free) (world.memory Cset) region world.ghost.owner (updated world.ghost.owner region (Some seat)) within (λ r out. others_own r (λ same. out (ap (bit_at (world.memory Free)) same ∙ bit))) in
         record {
-          world = w;
+          world = other_world;
           memory = refl;
           graph = refl;
           shared = record {
@@ -92,9 +92,9 @@ module _ (config : Config) (world : World) (seat words : ℕ) (kind : Kind) wher
             pinned = shared.pinned;
           };
           own = (
-            subst (λ s. CanTake config w seat words s)
+            subst (λ take. CanTake config other_world seat words take)
                 (sym (cond-true (bit_at (world.memory Free) region == 1) (ShareRegion buffer shared_word region) (LoadFree buffer shared_word) won))
-                (can_at config world seat words kind (TakeRegion buffer shared_word region) (ShareRegion buffer shared_word region) w can refl refl
+                (can_at config world seat words kind (TakeRegion buffer shared_word region) (ShareRegion buffer shared_word region) other_world can refl refl
                 (and_from _ _ (and_from _ _ refl (and_from _ _ (lt-ltb shared_word (2 ^ 64) (omega (arith, numbers.1, few))) (lt-ltb (region + 1) (2 ^ 64) (omega (arith, within, few))))) (and_parts _ _ can.ready).1)
                 (record { is = can.facts.is; less = can.facts.less }, record { within = within; own = updated_there world.ghost.owner region (Some seat); empty = shared.owned.free_word.empty region within bit })
                 can.rooms),
@@ -109,11 +109,11 @@ module _ (config : Config) (world : World) (seat words : ℕ) (kind : Kind) wher
     looks_again : (bit_at (world.memory Free) region == 1) ≡ false → TakeStep config world seat words kind (TakeRegion buffer shared_word region)
     looks_again lost =
         let within = numbers.0 in
-        let w : World = region_world config world (touched world.memory (touch_at seat words (TakeRegion buffer shared_word region))) world.ghost.owner (λ at is. free_else world.memory without at is) in
+        let other_world : World = region_world config world (touched world.memory (touch_at seat words (TakeRegion buffer shared_word region))) world.ghost.owner (λ at is. free_else world.memory without at is) in
         let opens : (r : ℕ) → IsOpen config (world.memory Free) (world.memory Cset) world.ghost.owner r → IsOpen config without (world.memory Cset) world.ghost.owner r =
         open_stays config (world.memory Free) (world.memory Cset) region world.ghost.owner world.ghost.owner within (λ r out. refl) in
         record {
-          world = w;
+          world = other_world;
           memory = refl;
           graph = refl;
           shared = record {
@@ -134,9 +134,9 @@ module _ (config : Config) (world : World) (seat words : ℕ) (kind : Kind) wher
             pinned = shared.pinned;
           };
           own = (
-            subst (λ s. CanTake config w seat words s)
+            subst (λ take. CanTake config other_world seat words take)
                 (sym (cond-false (bit_at (world.memory Free) region == 1) (ShareRegion buffer shared_word region) (LoadFree buffer shared_word) lost))
-                (can_at config world seat words kind (TakeRegion buffer shared_word region) (LoadFree buffer shared_word) w can refl refl
+                (can_at config world seat words kind (TakeRegion buffer shared_word region) (LoadFree buffer shared_word) other_world can refl refl
                 (and_from _ _ refl (le-leb shared_word config.regions numbers.1)) (record { is = can.facts.is; less = can.facts.less }) can.rooms),
             record { copying = refl; working = refl },
           );
@@ -183,7 +183,7 @@ module _ (config : Config) (world : World) (seat words : ℕ) (kind : Kind) wher
     shares_it : (world.memory Share == shared_word) ≡ true → TakeStep config world seat words kind (ShareRegion buffer shared_word region)
     shares_it won =
         let own = can.facts.1.own in
-        let w : World = region_world config world (write world.memory Share (region + 1)) (given_up region shared own) (λ at is. share_else world.memory (region + 1) at is) in
+        let other_world : World = region_world config world (write world.memory Share (region + 1)) (given_up region shared own) (λ at is. share_else world.memory (region + 1) at is) in
         let opens : (r : ℕ) → IsOpen config (world.memory Free) (world.memory Cset) world.ghost.owner r → IsOpen config (world.memory Free) (world.memory Cset) (given_up region shared own) r =
         λ r is. record { within = is.within; in_use = is.in_use; nobodys = nobodys_still region shared own r is.nobodys; outside = is.outside } in
         let here : IsOpen config (world.memory Free) (world.memory Cset) (given_up region shared own) region =
@@ -194,7 +194,7 @@ module _ (config : Config) (world : World) (seat words : ℕ) (kind : Kind) wher
           outside = λ inside. shared.evacuated.aside.nobodys region seat own inside;
         } in
         record {
-          world = w;
+          world = other_world;
           memory = ap (write world.memory Share) (sym (cond-true (world.memory Share == shared_word) (region + 1) (world.memory Share) won));
           graph = refl;
           shared = record {
@@ -206,7 +206,7 @@ module _ (config : Config) (world : World) (seat words : ℕ) (kind : Kind) wher
                 empty = shared.owned.free_word.empty;
                 nobodys = λ r inside bit. nobodys_still region shared own r (shared.owned.free_word.nobodys r inside bit);
               };
-              shared_one = λ r is. let same : region ≡ r = omega (arith, is) in subst (λ k. IsOpen config (world.memory Free) (world.memory Cset) (given_up region shared own) k) same here;
+              shared_one = λ r is. let same : region ≡ r = omega (arith, is) in subst (λ other_region. IsOpen config (world.memory Free) (world.memory Cset) (given_up region shared own) other_region) same here;
               rooms = shared.owned.rooms;
               buffers = shared.owned.buffers;
               outside = shared.owned.outside;
@@ -219,9 +219,9 @@ module _ (config : Config) (world : World) (seat words : ℕ) (kind : Kind) wher
             pinned = shared.pinned;
           };
           own = (
-            subst (λ s. CanTake config w seat words s)
+            subst (λ take. CanTake config other_world seat words take)
                 (sym (cond-true (world.memory Share == shared_word) (LoadTop buffer region) (GiveBack buffer region) won))
-                (can_at config world seat words kind (ShareRegion buffer shared_word region) (LoadTop buffer region) w can refl refl
+                (can_at config world seat words kind (ShareRegion buffer shared_word region) (LoadTop buffer region) other_world can refl refl
                 (and_from _ _ (and_from _ _ (lt-ltb region config.regions can.facts.1.within) refl) refl)
                 (record { is = can.facts.0.is; less = can.facts.0.less }, here) can.rooms),
             record { copying = refl; working = refl },
@@ -248,7 +248,7 @@ module _ (config : Config) (world : World) (seat words : ℕ) (kind : Kind) wher
       let own = taken.own in
       let few = config.in_range.most_regions in
       let fits : region < 64 = (let within = taken.within in omega (arith, within, few)) in
-      let w : World = region_world config world (touched world.memory (touch_at seat words (GiveBack buffer region))) (given_up region shared own) (λ at is. free_else world.memory (bit_or (world.memory Free) (only region)) at is) in
+      let other_world : World = region_world config world (touched world.memory (touch_at seat words (GiveBack buffer region))) (given_up region shared own) (λ at is. free_else world.memory (bit_or (world.memory Free) (only region)) at is) in
       let opens : (other_region : ℕ) → IsOpen config (world.memory Free) (world.memory Cset) world.ghost.owner other_region → IsOpen config (bit_or (world.memory Free) (only region)) (world.memory Cset) (given_up region shared own) other_region =
       λ other_region is. record {
         within = is.within;
@@ -257,7 +257,7 @@ module _ (config : Config) (world : World) (seat words : ℕ) (kind : Kind) wher
         outside = is.outside;
       } in
       record {
-        world = w;
+        world = other_world;
         memory = refl;
         graph = refl;
         shared = record {
@@ -284,7 +284,7 @@ module _ (config : Config) (world : World) (seat words : ℕ) (kind : Kind) wher
           pinned = shared.pinned;
         };
         own = (
-          can_at config world seat words kind (GiveBack buffer region) (LoadShared buffer) w can refl refl refl (record { is = can.facts.0.is; less = can.facts.0.less }) can.rooms,
+          can_at config world seat words kind (GiveBack buffer region) (LoadShared buffer) other_world can refl refl refl (record { is = can.facts.0.is; less = can.facts.0.less }) can.rooms,
           record { copying = refl; working = refl },
         );
         keeps = keeps_regions config world (touched world.memory (touch_at seat words (GiveBack buffer region))) (given_up region shared own) (λ at is. free_else world.memory (bit_or (world.memory Free) (only region)) at is) seat;

@@ -50,13 +50,13 @@ module _ (config : Config) (world other_world : World) (seat : ℕ) (rely : Rely
   take_stays words (Ended NoRoom end) facts = subst (λ buffer. end_in buffer < next_in buffer + words) (sym rely.current) facts
 
 -- all that it counts on stays
-pub can_take_stays : (config : Config) (world other_world : World) (seat words : ℕ) (take : TakeSpot) → Rely config seat world other_world → CanTake config world seat words take → CanTake config other_world seat words take
-can_take_stays config world other_world seat words take rely can = record {
+pub can_take_stays : (config : Config) (world next_world : World) (seat words : ℕ) (take : TakeSpot) → Rely config seat world next_world → CanTake config world seat words take → CanTake config next_world seat words take
+can_take_stays config world next_world seat words take rely can = record {
   seated = can.seated;
   least = can.least;
   most = can.most;
   ready = can.ready;
-  facts = take_stays config world other_world seat rely words take can.facts;
+  facts = take_stays config world next_world seat rely words take can.facts;
   rooms = λ a x is room. can.rooms a x (rely.no_rooms a x is room) room;
   records_none = rely.marks.recording ∙ can.records_none;
   scans_none = rely.marks.scanning ∙ can.scans_none;

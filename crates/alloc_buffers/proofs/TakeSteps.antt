@@ -23,11 +23,11 @@ use Rattle.alloc_buffers.specs.Facts.{TakeFacts, IsSpare, IsRoomAt, CanTake}
 -- what a step of a taking of room owes: whether the seat copies, and on what it works, stays as it is
 abbrev pub TakeStep : Config → World → ℕ → ℕ → Kind → TakeSpot → Type 0
 TakeStep config world seat words kind take =
-    PartStep config world seat (touch_at seat words take) (λ w. CanTake config w seat words (next_at config words kind take (world.memory (touch_at seat words take).word)) × SameWork world w seat)
+    PartStep config world seat (touch_at seat words take) (λ next_world. CanTake config next_world seat words (next_at config words kind take (world.memory (touch_at seat words take).word)) × SameWork world next_world seat)
 
 -- an exchange from another word than the one that stands there changes nothing
-pub exchange_lost : (memory : Word → ℕ) (at : Word) (expect value : ℕ) → (memory at == expect) ≡ false → touched memory (touch at (exchanges expect value)) ≡ memory
-exchange_lost memory at expect value lost = ap (write memory at) (cond-false (memory at == expect) value (memory at) lost) ∙ sym (load_keeps memory at)
+pub exchange_lost : (memory : Word → ℕ) (word : Word) (expect value : ℕ) → (memory word == expect) ≡ false → touched memory (touch word (exchanges expect value)) ≡ memory
+exchange_lost memory word expect value lost = ap (write memory word) (cond-false (memory word == expect) value (memory word) lost) ∙ sym (load_keeps memory word)
 
 -- free words of a buffer are none that were carved
 pub spare_uncarved : (seat more : ℕ) → IsSpare seat (carved seat more) → ⊥
@@ -48,11 +48,11 @@ store_ready config seat words address room seated long small =
     (and_from _ _ (lt-ltb seat (seat_count config.mutators config.helpers) seated) (lt-ltb (buffer_word (address + words) (address + room)) (2 ^ 64) (omega (arith, long, small))))
     (and_from _ _ (le-leb words room long) (lt-ltb (address + room) (2 ^ 32) (omega (arith, small))))
 
-module _ (config : Config) (top : ℕ → ℕ) (block : Plot) (plotted : IsPlotted config top block) (at : ℕ) (piece : Block) (is : block at ≡ Some piece) (some : 1 ≤ words_of piece) where
+module _ (config : Config) (top : ℕ → ℕ) (block : Plot) (plotted : IsPlotted config top block) (other_address : ℕ) (piece : Block) (is : block other_address ≡ Some piece) (some : 1 ≤ words_of piece) where
   -- the words of a piece are a stretch
-  pub piece_stretch : IsStretch config top block at (words_of piece)
+  pub piece_stretch : IsStretch config top block other_address (words_of piece)
   piece_stretch =
-      let used = plotted.in_use at piece is in
+      let used = plotted.in_use other_address piece is in
       record {
         region = used.region;
         within = used.within;
@@ -61,7 +61,7 @@ module _ (config : Config) (top : ℕ → ℕ) (block : Plot) (plotted : IsPlott
         some = some;
         first = piece;
         begins = is;
-        last_at = at;
+        last_at = other_address;
         last_from = omega arith;
         last = piece;
         ends = is;
@@ -69,11 +69,11 @@ module _ (config : Config) (top : ℕ → ℕ) (block : Plot) (plotted : IsPlott
       }
 
   -- and no other piece begins there
-  pub piece_alone : (address : ℕ) (b : Block) → at ≤ address → address < at + words_of piece → block address ≡ Some b → (address ≡ at) × (piece ≡ b)
-  piece_alone address b from to there = ⊎_elim
-      (λ (same : address ≡ at). (same, same_Some piece b (sym is ∙ ap block (sym same) ∙ there)))
-      (λ (other : address ≢ at). let far = plotted.apart at address piece b is there (omega (arith, from, other)) in absurd (omega (arith, far, to)))
-      (cases_eq address at)
+  pub piece_alone : (address : ℕ) (b : Block) → other_address ≤ address → address < other_address + words_of piece → block address ≡ Some b → (address ≡ other_address) × (piece ≡ b)
+  piece_alone address b at_most below there = ⊎_elim
+      (λ (same : address ≡ other_address). (same, same_Some piece b (sym is ∙ ap block (sym same) ∙ there)))
+      (λ (other : address ≢ other_address). let far = plotted.apart other_address address piece b is there (omega (arith, at_most, other)) in absurd (omega (arith, far, below)))
+      (cases_eq address other_address)
 
 module _ (config : Config) (world : World) (seat words : ℕ) (kind : Kind) where
   -- the tops, and the buffers
@@ -84,9 +84,9 @@ module _ (config : Config) (world : World) (seat words : ℕ) (kind : Kind) wher
   buffers seat = world.memory (Current seat)
 
   -- what it counts on at another spot, in a world with the same seats that record and scan
-  pub can_at : (take next : TakeSpot) (w : World) → CanTake config world seat words take → w.ghost.recording ≡ world.ghost.recording → w.ghost.scanning ≡ world.ghost.scanning → is_ready config seat words next ≡ true → TakeFacts config w seat words next
-      → ((address : ℕ) (piece : Block) → w.block address ≡ Some piece → room_of piece ≡ Some seat → IsRoomAt seat words next address piece) → CanTake config w seat words next
-  can_at take next w can recording scanning ready facts rooms = record {
+  pub can_at : (take next : TakeSpot) (next_world : World) → CanTake config world seat words take → next_world.ghost.recording ≡ world.ghost.recording → next_world.ghost.scanning ≡ world.ghost.scanning → is_ready config seat words next ≡ true → TakeFacts config next_world seat words next
+      → ((address : ℕ) (piece : Block) → next_world.block address ≡ Some piece → room_of piece ≡ Some seat → IsRoomAt seat words next address piece) → CanTake config next_world seat words next
+  can_at take next next_world can recording scanning ready facts rooms = record {
     seated = can.seated;
     least = can.least;
     most = can.most;
@@ -107,21 +107,21 @@ module _ (config : Config) (world : World) (seat words : ℕ) (kind : Kind) wher
     shared = shared;
     own = (subst (CanTake config world seat words) (sym leads) (can_at take next world can refl refl ready facts rooms), record { copying = refl; working = refl });
     keeps = keeps_of config seat world world (rely_same config seat world);
-    others = λ j d. rely_same config j world;
+    others = λ seat d. rely_same config seat world;
   }
 
   -- the free words of the seat's buffer, where it has nothing carved
   pub left_of : Shared config world → ((address : ℕ) (piece : Block) → world.block address ≡ Some piece → room_of piece ≡ Some seat → IsSpare seat piece) → next_in (world.memory (Current seat)) < end_in (world.memory (Current seat))
       → world.block (next_in (world.memory (Current seat))) ≡ Some (spare seat (free_words (world.memory (Current seat))))
-  left_of shared rooms some = ⊎_elim
+  left_of shared rooms below = ⊎_elim
       (λ there. there)
       (λ has. absurd (spare_uncarved seat has.1 (rooms has.0 (carved seat has.1) has.2 refl)))
-      ((shared.owned.buffers.each seat (λ none. (let next : next_in (world.memory (Current seat)) ≡ 0 = ap next_in none in let end : end_in (world.memory (Current seat)) ≡ 0 = ap end_in none in omega (arith, next, end, some)))).free some)
+      ((shared.owned.buffers.each seat (λ none. (let next : next_in (world.memory (Current seat)) ≡ 0 = ap next_in none in let end : end_in (world.memory (Current seat)) ≡ 0 = ap end_in none in omega (arith, next, end, below)))).free below)
 
   -- a buffer ends low
   pub buffer_small : Shared config world → world.memory (Current seat) ≢ 0 → end_in (world.memory (Current seat)) < 2 ^ 32
-  buffer_small shared some =
-      let is = shared.owned.buffers.each seat some in
+  buffer_small shared positive =
+      let is = shared.owned.buffers.each seat positive in
       region_end_small config tops is.region (end_in (world.memory (Current seat))) is.within (shared.parsable.plotted.tops is.region is.within) is.to_top
 
   -- the seat's free words begin where its buffer's word tells

@@ -150,15 +150,9 @@ impl TakeSpot {
         ensures inside { table_index result < table_words config }
     {
         match self {
-            TakeSpot::LoadBuffer => Access::Load {
-                at: config.cur_at(seat),
-            },
-            TakeSpot::LoadShared { .. } => Access::Load {
-                at: config.share_at(),
-            },
-            TakeSpot::LoadTop { region, .. } => Access::Load {
-                at: config.top_at(region),
-            },
+            TakeSpot::LoadBuffer => Access::load(config.cur_at(seat)),
+            TakeSpot::LoadShared { .. } => Access::load(config.share_at()),
+            TakeSpot::LoadTop { region, .. } => Access::load(config.top_at(region)),
             TakeSpot::Carve {
                 region,
                 top,
@@ -167,41 +161,29 @@ impl TakeSpot {
             } => {
                 // keeps IsPlotted, IsFilled and AreRooms
                 // keeps KeepsSnapshot.floors, KeepsMarking.young, IsUpdating.limits and IsUpdating.young
-                Access::Exchange {
-                    at: config.top_at(region),
-                    expect: top,
-                    value: top + room,
-                }
+                Access::exchange(config.top_at(region), top, top + room)
             }
-            TakeSpot::LoadFree { .. } => Access::Load {
-                at: config.free_at(),
-            },
+            TakeSpot::LoadFree { .. } => Access::load(config.free_at()),
             // keeps IsFreeWord and AreSetAside
-            TakeSpot::TakeRegion { region, .. } => Access::And {
-                at: config.free_at(),
-                value: all_but(region),
-            },
+            TakeSpot::TakeRegion { region, .. } => Access::and(config.free_at(), all_but(region)),
             // keeps ShareIsOpen
-            TakeSpot::ShareRegion { shared, region, .. } => Access::Exchange {
-                at: config.share_at(),
-                expect: shared,
-                value: region as u64 + 1,
-            },
+            TakeSpot::ShareRegion { shared, region, .. } => Access::exchange(
+                config.share_at(),
+                shared,
+                region as u64 + 1,
+            ),
             // keeps IsFreeWord, ShareIsOpen and AreSetAside
-            TakeSpot::GiveBack { region, .. } => Access::Or {
-                at: config.free_at(),
-                value: 1 << region,
-            },
+            TakeSpot::GiveBack { region, .. } => Access::or(config.free_at(), 1 << region),
             // keeps AreUnwritten.fillers and AreBuffers
-            TakeSpot::Fill { buffer, .. } => Access::Store {
-                at: config.heap_at(next_of(buffer)),
-                value: filler(end_of(buffer) - next_of(buffer)),
-            },
+            TakeSpot::Fill { buffer, .. } => Access::store(
+                config.heap_at(next_of(buffer)),
+                filler(end_of(buffer) - next_of(buffer)),
+            ),
             // keeps AreBuffers and AreRooms
-            TakeSpot::StoreBuffer { address, room } => Access::Store {
-                at: config.cur_at(seat),
-                value: buffer(address + words, address + room),
-            },
+            TakeSpot::StoreBuffer { address, room } => Access::store(
+                config.cur_at(seat),
+                buffer(address + words, address + room),
+            ),
             TakeSpot::Ended { .. } => unreachable!(),
         }
     }

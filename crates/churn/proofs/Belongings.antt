@@ -43,7 +43,7 @@ IsLink f (Some m) = (m.thread ≡ f) × (m.count ≡ 1) × IsThread f
 
 -- what belongs to a thread is the same in two graphs
 pub record Same (thread : ℕ) (graph other_graph : Graph) : Type 0 where
-  pub root : (r : ℕ) → graph.root thread r ≡ other_graph.root thread r
+  pub root : (index : ℕ) → graph.root thread index ≡ other_graph.root thread index
   pub count : graph.count thread ≡ other_graph.count thread
   pub object : (n : ℕ) → graph.object (own thread n) ≡ other_graph.object (own thread n)
   pub link : field_of graph hub thread ≡ field_of other_graph hub thread
@@ -52,7 +52,7 @@ pub record Same (thread : ℕ) (graph other_graph : Graph) : Type 0 where
 pub record IsTidyThread (graph : Graph) (thread : ℕ) : Type 0 where
   pub hub_root : graph.root thread 0 ≡ Some hub
   pub box_root : IsBox thread (graph.root thread own_box)
-  pub leaf_root : (r : ℕ) → 2 ≤ r → IsLeaf thread (graph.root thread r)
+  pub leaf_root : (index : ℕ) → 2 ≤ index → IsLeaf thread (graph.root thread index)
   pub slots : (f : ℕ) → IsLeaf thread (field_of graph (own thread 1) f)
   pub slot_count : length (fields_of graph (own thread 1)) ≤ 16
   pub leaves : (n f : ℕ) → 2 ≤ n → field_of graph (own thread n) f ≡ None
@@ -65,11 +65,11 @@ pub record Tidy (graph : Graph) : Type 0 where
   pub hub_nums : (named graph (Some hub)).nums ≡ []
   pub links : (f : ℕ) → IsLink f (field_of graph hub f)
   pub threads : (thread : ℕ) → IsThread thread → IsTidyThread graph thread
-  pub high_root : (thread r : ℕ) → 5 ≤ r → graph.root thread r ≡ None
-  pub no_root : (thread r : ℕ) → (IsThread thread → ⊥) → graph.root thread r ≡ None
+  pub high_root : (thread index : ℕ) → 5 ≤ index → graph.root thread index ≡ None
+  pub no_root : (thread index : ℕ) → (IsThread thread → ⊥) → graph.root thread index ≡ None
   pub no_count : (thread : ℕ) → (IsThread thread → ⊥) → graph.count thread ≡ 0
   pub no_object : (name : Name) → (IsThread name.thread → ⊥) → same_name name hub ≡ false → graph.object name ≡ None
-  pub no_pin : (thread s : ℕ) → graph.pin thread s ≡ None
+  pub no_pin : (thread slot : ℕ) → graph.pin thread slot ≡ None
 
 -- what may be the n-th object of a thread
 pub record Fits (t n : ℕ) (object : Object) : Type 0 where
@@ -78,29 +78,29 @@ pub record Fits (t n : ℕ) (object : Object) : Type 0 where
   pub leaf : 2 ≤ n → (f : ℕ) → get_or object.refs f None ≡ None
   pub small : size object ≤ 19
 
-pub Same-itself : (t : ℕ) (graph : Graph) → Same t graph graph
-Same-itself t graph = record { root = λ r. refl; count = refl; object = λ n. refl; link = refl }
+pub Same-itself : (thread : ℕ) (graph : Graph) → Same thread graph graph
+Same-itself thread graph = record { root = λ r. refl; count = refl; object = λ n. refl; link = refl }
 
 pub Same-flip : {t : ℕ} {g h : Graph} → Same t g h → Same t h g
-Same-flip s = record { root = λ r. sym (s.root r); count = sym s.count; object = λ n. sym (s.object n); link = sym s.link }
+Same-flip same = record { root = λ thread. sym (same.root thread); count = sym same.count; object = λ name. sym (same.object name); link = sym same.link }
 
 pub Same-join : {t : ℕ} {g h k : Graph} → Same t g h → Same t h k → Same t g k
-Same-join s u = record { root = λ r. s.root r ∙ u.root r; count = s.count ∙ u.count; object = λ n. s.object n ∙ u.object n; link = s.link ∙ u.link }
+Same-join same u = record { root = λ thread. same.root thread ∙ u.root thread; count = same.count ∙ u.count; object = λ name. same.object name ∙ u.object name; link = same.link ∙ u.link }
 
 pub box_of : (t : ℕ) (reference : Reference) → IsBox t reference → IsOf t reference
-box_of t None h = tt
-box_of t (Some m) h = h.0
+box_of t None is_box = tt
+box_of t (Some m) is_box = is_box.0
 
 pub leaf_of : (t : ℕ) (reference : Reference) → IsLeaf t reference → IsOf t reference
-leaf_of t None h = tt
-leaf_of t (Some m) h = h.0
+leaf_of t None leaf = tt
+leaf_of t (Some m) leaf = leaf.0
 
 pub name_of : (name : Name) (t n : ℕ) → name.thread ≡ t → name.count ≡ n → name ≡ own t n
-name_of name t n thread count = λ i. record { thread = thread i; count = count i }
+name_of name t n thread count = λ other_thread. record { thread = thread other_thread; count = count other_thread }
 
 -- what a thread's references name is the same
-pub named_same : (t : ℕ) (graph other_graph : Graph) → Same t graph other_graph → (reference : Reference) → IsOf t reference → named graph reference ≡ named other_graph reference
-named_same t graph other_graph s None of = refl
-named_same t graph other_graph s (Some m) of =
-    let same : graph.object m ≡ other_graph.object m = subst (λ (u : ℕ). graph.object (own u m.count) ≡ other_graph.object (own u m.count)) (sym of) (s.object m.count) in
+pub named_same : (thread : ℕ) (graph other_graph : Graph) → Same thread graph other_graph → (reference : Reference) → IsOf thread reference → named graph reference ≡ named other_graph reference
+named_same thread graph other_graph same None is_of = refl
+named_same thread graph other_graph s (Some name) is_of =
+    let same : graph.object name ≡ other_graph.object name = subst (λ (u : ℕ). graph.object (own u name.count) ≡ other_graph.object (own u name.count)) (sym is_of) (s.object name.count) in
     ap (λ o. unwrap_or o (record { refs = []; nums = [] })) same

@@ -27,9 +27,9 @@ held graph thread = graph.root thread new_leaf ∷ graph.root thread old_leaf �
 abbrev pub IsKnown : Graph → Name → Type 0
 IsKnown graph name = (name ≡ hub) ⊎ ((t : ℕ) × IsThread t × ((name ≡ own t 1) ⊎ (IsLeaf t (Some name) × Contains (held graph t) (Some name))))
 
-by_root : (graph : Graph) → Tidy graph → (thread r : ℕ) (name : Name) → IsThread thread → graph.root thread r ≡ Some name → IsKnown graph name
+by_root : (graph : Graph) → Tidy graph → (thread index : ℕ) (name : Name) → IsThread thread → graph.root thread index ≡ Some name → IsKnown graph name
 by_root graph tidy thread zero name is held =
-    let e : Some hub ≡ Some name = sym (tidy.threads thread is).hub_root ∙ held in
+    let found : Some hub ≡ Some name = sym (tidy.threads thread is).hub_root ∙ held in
     inl (cc)
 by_root graph tidy thread (suc zero) name is held =
     let box = subst (IsBox thread) held (tidy.threads thread is).box_root in
@@ -73,13 +73,13 @@ by_field graph tidy name other_name field known is =
     ]
 
 known_reachable : (graph : Graph) → Tidy graph → (name : Name) → IsReachable graph name → IsKnown graph name
-known_reachable graph tidy _ (from_root t r name is) =
-    elim (thread_or_not t) [
-      | inl thread ↦ by_root graph tidy t r name thread is
-      | inr out ↦ let never : None ≡ Some name = sym (tidy.no_root t r out) ∙ is in absurd cc
+known_reachable graph tidy _ (from_root other_thread index name is) =
+    elim (thread_or_not other_thread) [
+      | inl thread ↦ by_root graph tidy other_thread index name thread is
+      | inr out ↦ let never : None ≡ Some name = sym (tidy.no_root other_thread index out) ∙ is in absurd cc
     ]
-known_reachable graph tidy _ (from_pin t s held is) = absurd (none-some held (sym (tidy.no_pin t s) ∙ is))
-known_reachable graph tidy _ (from_field m name f reached is) = by_field graph tidy m name f (known_reachable graph tidy m reached) is
+known_reachable graph tidy _ (from_pin thread slot held is) = absurd (none-some held (sym (tidy.no_pin thread slot) ∙ is))
+known_reachable graph tidy _ (from_field other_name name field reached is) = by_field graph tidy other_name name field (known_reachable graph tidy other_name reached) is
 
 -- each is small
 known_small : (graph : Graph) → Tidy graph → (name : Name) → IsKnown graph name → size (named graph (Some name)) ≤ 19
@@ -152,7 +152,7 @@ known_named graph name known =
 few_reachable : (graph : Graph) (names : List Name) → Tidy graph → IsReach graph names → length names ≤ 61
 few_reachable graph names tidy reach =
     let fewer = length-le_from_is_member same_name-laws names (known_names graph) (distinct names reach.in_order)
-    (λ q there. list_any-from_Contains same_name-laws q (known_names graph) (known_named graph q (known_reachable graph tidy q (reach.only q (Contains-from_any same_name-true q names there))))) in
+    (λ name there. list_any-from_Contains same_name-laws name (known_names graph) (known_named graph name (known_reachable graph tidy name (reach.only name (Contains-from_any same_name-true name names there))))) in
     omega (arith, few_names graph tidy, fewer)
 
 -- so few words are live

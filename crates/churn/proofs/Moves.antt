@@ -2,8 +2,9 @@
 use Rattle.std.proofs.Common.{ℕ, ◌≡◌, ◌+◌, ◌<◌, ◌≤◌, Bool, true, false, List, [], length, get_or, set, eqb, replicate, Some, None, refl, ap, ◌∙◌, sym, subst, inl, inr, arith, get_or-set_same, get_or-set_other, length-set}
 use Rattle.std.specs.Prelude.{◌≢◌, ◌==◌, ◌&&◌, if◌then◌else◌, unwrap_or}
 use Rattle.std.proofs.lemmas.Bool.{cases_lt, ne_eqb}
-use Rattle.std.proofs.lemmas.Bool.Decides.{Decides-eqb, eqb_tells}
+use Rattle.std.proofs.lemmas.Bool.Decides.{eqb_tells}
 use Rattle.std.proofs.lemmas.List.{get_or_past, get_or-replicate, length-replicate}
+use Rattle.shen_graph.proofs.Numbers.{eqb_apart, eqb_itself}
 use Rattle.shen_graph.specs.declared.name.Name.{Name}
 use Rattle.shen_graph.specs.Graph.{Graph, Object, Reference, named, hub, same_name, with_root, with_object, with_named, with_fresh, blank}
 use Rattle.shen_graph.specs.Reach.{size}
@@ -20,8 +21,8 @@ pub record Moved (thread : ℕ) (graph other_graph g_then h_then : Graph) : Type
   pub beside : (u : ℕ) → IsThread u → u ≢ thread → Same u other_graph h_then
   pub grows : graph.count thread ≤ g_then.count thread
 
-pub stays : (t : ℕ) (graph other_graph : Graph) → Tidy graph → Tidy other_graph → Same t graph other_graph → Moved t graph other_graph graph other_graph
-stays t graph other_graph tidy other same = record { same = same; tidy = tidy; other = other; frame = λ u _ _. Same-itself u graph; beside = λ u _ _. Same-itself u other_graph; grows = omega arith }
+pub stays : (thread : ℕ) (graph next_graph : Graph) → Tidy graph → Tidy next_graph → Same thread graph next_graph → Moved thread graph next_graph graph next_graph
+stays thread graph next_graph tidy other same = record { same = same; tidy = tidy; other = other; frame = λ thread _ _. Same-itself thread graph; beside = λ thread _ _. Same-itself thread next_graph; grows = omega arith }
 
 -- a root that was set, and one that was not
 pub root_case : (P : Reference → Type 0) (u t s r : ℕ) (reference other_reference : Reference) → (u ≡ t → s ≡ r → P reference) → P other_reference → P (if (u == t) && (s == r) then reference else other_reference)
@@ -37,25 +38,25 @@ with_root-tidy graph t r reference tidy thread low high box leaf = record {
   hub_size = tidy.hub_size;
   hub_nums = tidy.hub_nums;
   links = tidy.links;
-  threads = λ u is. record {
-    hub_root = root_case (λ x. x ≡ Some hub) u t 0 r reference (graph.root u 0) (λ _ e. absurd (omega arith)) (tidy.threads u is).hub_root;
-    box_root = root_case (IsBox u) u t 1 r reference (graph.root u own_box) (λ a b. subst (λ (k : ℕ). IsBox k reference) (sym a) (box (sym b))) (tidy.threads u is).box_root;
-    leaf_root = λ s above. root_case (IsLeaf u) u t s r reference (graph.root u s) (λ a b. subst (λ (k : ℕ). IsLeaf k reference) (sym a) (leaf (omega arith))) ((tidy.threads u is).leaf_root s above);
-    slots = (tidy.threads u is).slots;
-    slot_count = (tidy.threads u is).slot_count;
-    leaves = (tidy.threads u is).leaves;
-    small = (tidy.threads u is).small;
+  threads = λ thread is. record {
+    hub_root = root_case (λ x. x ≡ Some hub) thread t 0 r reference (graph.root thread 0) (λ _ e. absurd (omega arith)) (tidy.threads thread is).hub_root;
+    box_root = root_case (IsBox thread) thread t 1 r reference (graph.root thread own_box) (λ a b. subst (λ (k : ℕ). IsBox k reference) (sym a) (box (sym b))) (tidy.threads thread is).box_root;
+    leaf_root = λ index above. root_case (IsLeaf thread) thread t index r reference (graph.root thread index) (λ a b. subst (λ (k : ℕ). IsLeaf k reference) (sym a) (leaf (omega arith))) ((tidy.threads thread is).leaf_root index above);
+    slots = (tidy.threads thread is).slots;
+    slot_count = (tidy.threads thread is).slot_count;
+    leaves = (tidy.threads thread is).leaves;
+    small = (tidy.threads thread is).small;
   };
-  high_root = λ u s above. root_case (λ x. x ≡ None) u t s r reference (graph.root u s) (λ a b. absurd (omega arith)) (tidy.high_root u s above);
-  no_root = λ u s out. root_case (λ x. x ≡ None) u t s r reference (graph.root u s) (λ a b. absurd (out (subst IsThread (sym a) thread))) (tidy.no_root u s out);
+  high_root = λ thread index above. root_case (λ x. x ≡ None) thread t index r reference (graph.root thread index) (λ a b. absurd (omega arith)) (tidy.high_root thread index above);
+  no_root = λ other_thread index out. root_case (λ x. x ≡ None) other_thread t index r reference (graph.root other_thread index) (λ a b. absurd (out (subst IsThread (sym a) thread))) (tidy.no_root other_thread index out);
   no_count = tidy.no_count;
   no_object = tidy.no_object;
   no_pin = tidy.no_pin;
 }
 
-with_root-same : (graph other_graph : Graph) (t r : ℕ) (reference : Reference) → Same t graph other_graph → Same t (with_root graph t r reference) (with_root other_graph t r reference)
-with_root-same graph other_graph t r reference same = record {
-  root = λ s. ap (λ (x : Reference). if (t == t) && (s == r) then reference else x) (same.root s);
+with_root-same : (graph other_graph : Graph) (thread r : ℕ) (reference : Reference) → Same thread graph other_graph → Same thread (with_root graph thread r reference) (with_root other_graph thread r reference)
+with_root-same graph other_graph thread r reference same = record {
+  root = λ other_thread. ap (λ (other_reference : Reference). if (thread == thread) && (other_thread == r) then reference else other_reference) (same.root other_thread);
   count = same.count;
   object = same.object;
   link = same.link;
@@ -63,22 +64,22 @@ with_root-same graph other_graph t r reference same = record {
 
 with_root-frame : (graph : Graph) (t r thread : ℕ) (reference : Reference) → thread ≢ t → Same thread graph (with_root graph t r reference)
 with_root-frame graph t r thread reference apart = record {
-  root = λ s. root_case (λ x. graph.root thread s ≡ x) thread t s r reference (graph.root thread s) (λ a b. absurd (apart a)) refl;
+  root = λ index. root_case (λ x. graph.root thread index ≡ x) thread t index r reference (graph.root thread index) (λ a b. absurd (apart a)) refl;
   count = refl;
   object = λ n. refl;
   link = refl;
 }
 
-pub moved_root : (t : ℕ) (graph other_graph g_then h_then : Graph) (r : ℕ) (reference other_reference : Reference) → IsThread t → Moved t graph other_graph g_then h_then → reference ≡ other_reference → 1 ≤ r → r < 5 → (r ≡ 1 → IsBox t reference) → (2 ≤ r → IsLeaf t reference)
-    → Moved t graph other_graph (with_root g_then t r reference) (with_root h_then t r other_reference)
-moved_root t graph other_graph g_then h_then r reference other_reference thread m same low high box leaf =
-    subst (λ (x : Reference). Moved t graph other_graph (with_root g_then t r reference) (with_root h_then t r x)) same (record {
-      same = with_root-same g_then h_then t r reference m.same;
-      tidy = with_root-tidy g_then t r reference m.tidy thread low high box leaf;
-      other = with_root-tidy h_then t r reference m.other thread low high box leaf;
-      frame = λ u is apart. Same-join (m.frame u is apart) (with_root-frame g_then t r u reference apart);
-      beside = λ u is apart. Same-join (m.beside u is apart) (with_root-frame h_then t r u reference apart);
-      grows = m.grows;
+pub moved_root : (thread : ℕ) (graph next_graph g_then h_then : Graph) (r : ℕ) (reference other_reference : Reference) → IsThread thread → Moved thread graph next_graph g_then h_then → reference ≡ other_reference → 1 ≤ r → r < 5 → (r ≡ 1 → IsBox thread reference) → (2 ≤ r → IsLeaf thread reference)
+    → Moved thread graph next_graph (with_root g_then thread r reference) (with_root h_then thread r other_reference)
+moved_root t graph next_graph g_then h_then r reference other_reference thread moved same low high box leaf =
+    subst (λ (other_reference : Reference). Moved t graph next_graph (with_root g_then t r reference) (with_root h_then t r other_reference)) same (record {
+      same = with_root-same g_then h_then t r reference moved.same;
+      tidy = with_root-tidy g_then t r reference moved.tidy thread low high box leaf;
+      other = with_root-tidy h_then t r reference moved.other thread low high box leaf;
+      frame = λ thread is apart. Same-join (moved.frame thread is apart) (with_root-frame g_then t r thread reference apart);
+      beside = λ thread is apart. Same-join (moved.beside thread is apart) (with_root-frame h_then t r thread reference apart);
+      grows = moved.grows;
     })
 
 -- an object that is another, and one that is not
@@ -91,10 +92,10 @@ object_case P graph name other_name object here there =
     at false is = rw is there
 
 named_other : (graph : Graph) (name other_name : Name) (object : Object) → same_name name other_name ≡ false → named (with_object graph other_name object) (Some name) ≡ named graph (Some name)
-named_other graph name other_name object e = rw e refl
+named_other graph name other_name object same = rw same refl
 
 field_other : (graph : Graph) (name other_name : Name) (object : Object) (f : ℕ) → same_name name other_name ≡ false → field_of (with_object graph other_name object) name f ≡ field_of graph name f
-field_other graph name other_name object f e = ap (λ (object : Object). get_or object.refs f None) (named_other graph name other_name object e)
+field_other graph name other_name object f same = ap (λ (object : Object). get_or object.refs f None) (named_other graph name other_name object same)
 
 -- a thread's objects are not the hub, nor those of another
 not_hub : (t n : ℕ) → IsThread t → same_name hub (own t n) ≡ false
@@ -122,7 +123,7 @@ own_object-tidy graph t n object tidy thread fits =
             (λ e. subst (λ (k : ℕ). IsLeaf k (get_or object.refs f None)) (sym (ap (λ name. name.thread) e)) (fits.box (sym (ap (λ name. name.count) e)) f)) ((tidy.threads u is).slots f);
         slot_count = object_case (λ x. length x.refs ≤ 16) graph (own u 1) (own t n) object (λ e. fits.box_size (sym (ap (λ name. name.count) e))) (tidy.threads u is).slot_count;
         leaves = λ k f above. object_case (λ x. get_or x.refs f None ≡ None) graph (own u k) (own t n) object
-            (λ e. let c : k ≡ n = ap (λ name. name.count) e in fits.leaf (omega arith) f) ((tidy.threads u is).leaves k f above);
+            (λ e. let same : k ≡ n = ap (λ name. name.count) e in fits.leaf (omega arith) f) ((tidy.threads u is).leaves k f above);
         small = λ k. object_case (λ x. size x ≤ 19) graph (own u k) (own t n) object (λ e. fits.small) ((tidy.threads u is).small k);
       };
       high_root = tidy.high_root;
@@ -137,15 +138,15 @@ own_object-tidy graph t n object tidy thread fits =
         let other : name.thread ≢ t = λ is. out (subst IsThread (sym is) thread) in
         rw (not_another name.thread name.count t n other) (tidy.no_object name out apart)
 
-own_object-same : (graph other_graph : Graph) (t n : ℕ) (object : Object) → IsThread t → Same t graph other_graph → Same t (with_object graph (own t n) object) (with_object other_graph (own t n) object)
+own_object-same : (graph other_graph : Graph) (thread n : ℕ) (object : Object) → IsThread thread → Same thread graph other_graph → Same thread (with_object graph (own thread n) object) (with_object other_graph (own thread n) object)
 own_object-same graph other_graph t n object thread same = record {
   root = same.root;
   count = same.count;
-  object = λ k. ap (λ x. if same_name (own t k) (own t n) then Some object else x) (same.object k);
+  object = λ name. ap (λ x. if same_name (own t name) (own t n) then Some object else x) (same.object name);
   link = field_other graph hub (own t n) object t (not_hub t n thread) ∙ same.link ∙ sym (field_other other_graph hub (own t n) object t (not_hub t n thread));
 }
 
-own_object-frame : (graph : Graph) (t n u : ℕ) (object : Object) → IsThread t → u ≢ t → Same u graph (with_object graph (own t n) object)
+own_object-frame : (graph : Graph) (t n thread : ℕ) (object : Object) → IsThread t → thread ≢ t → Same thread graph (with_object graph (own t n) object)
 own_object-frame graph t n u object thread apart = record {
   root = λ r. refl;
   count = refl;
@@ -153,20 +154,20 @@ own_object-frame graph t n u object thread apart = record {
   link = sym (field_other graph hub (own t n) object u (not_hub t n thread));
 }
 
-pub moved_own : (t : ℕ) (graph other_graph : Graph) (n : ℕ) (object other_object : Object) → IsThread t → Tidy graph → Tidy other_graph → Same t graph other_graph → object ≡ other_object → Fits t n object
-    → Moved t graph other_graph (with_object graph (own t n) object) (with_object other_graph (own t n) other_object)
-moved_own t graph other_graph n object other_object thread tidy other same is fits =
-    subst (λ (x : Object). Moved t graph other_graph (with_object graph (own t n) object) (with_object other_graph (own t n) x)) is (record {
-      same = own_object-same graph other_graph t n object thread same;
+pub moved_own : (thread : ℕ) (graph next_graph : Graph) (n : ℕ) (object other_object : Object) → IsThread thread → Tidy graph → Tidy next_graph → Same thread graph next_graph → object ≡ other_object → Fits thread n object
+    → Moved thread graph next_graph (with_object graph (own thread n) object) (with_object next_graph (own thread n) other_object)
+moved_own t graph next_graph n object other_object thread tidy other same is fits =
+    subst (λ (other_object : Object). Moved t graph next_graph (with_object graph (own t n) object) (with_object next_graph (own t n) other_object)) is (record {
+      same = own_object-same graph next_graph t n object thread same;
       tidy = own_object-tidy graph t n object tidy thread fits;
-      other = own_object-tidy other_graph t n object other thread fits;
-      frame = λ u _ apart. own_object-frame graph t n u object thread apart;
-      beside = λ u _ apart. own_object-frame other_graph t n u object thread apart;
+      other = own_object-tidy next_graph t n object other thread fits;
+      frame = λ other_thread _ apart. own_object-frame graph t n other_thread object thread apart;
+      beside = λ other_thread _ apart. own_object-frame next_graph t n other_thread object thread apart;
       grows = omega arith;
     })
 
 -- an object more
-with_fresh-tidy : (graph : Graph) (t : ℕ) (object : Object) → Tidy graph → IsThread t → Fits t (graph.count t + 1) object → Tidy (with_fresh graph t object)
+with_fresh-tidy : (graph : Graph) (thread : ℕ) (object : Object) → Tidy graph → IsThread thread → Fits thread (graph.count thread + 1) object → Tidy (with_fresh graph thread object)
 with_fresh-tidy graph t object tidy thread fits =
     let w = own_object-tidy graph t (graph.count t + 1) object tidy thread fits in
     record {
@@ -185,7 +186,7 @@ with_fresh-tidy graph t object tidy thread fits =
       };
       high_root = w.high_root;
       no_root = w.no_root;
-      no_count = λ u out. rw (eqb_other u out) (tidy.no_count u out);
+      no_count = λ thread out. rw (eqb_other thread out) (tidy.no_count thread out);
       no_object = w.no_object;
       no_pin = w.no_pin;
     }
@@ -193,33 +194,27 @@ with_fresh-tidy graph t object tidy thread fits =
     eqb_other : (u : ℕ) → (IsThread u → ⊥) → eqb u t ≡ false
     eqb_other u out = elim (eqb_tells u t) [ inl w ↦ absurd (out (subst IsThread (sym w.1) thread)) | inr w ↦ w.0 ]
 
-pub eqb_itself : (t : ℕ) → eqb t t ≡ true
-eqb_itself t = (Decides-eqb t t).1 refl
-
-pub eqb_apart : (u t : ℕ) → u ≢ t → eqb u t ≡ false
-eqb_apart u t apart = ne_eqb u t apart
-
-fresh-frame : (graph : Graph) (t u : ℕ) (object : Object) → IsThread t → u ≢ t → Same u graph (with_fresh graph t object)
+fresh-frame : (graph : Graph) (thread other_thread : ℕ) (object : Object) → IsThread thread → other_thread ≢ thread → Same other_thread graph (with_fresh graph thread object)
 fresh-frame graph t u object thread apart =
     let f = own_object-frame graph t (graph.count t + 1) u object thread apart in
     record { root = f.root; count = rw (eqb_apart u t apart) refl; object = f.object; link = f.link }
 
-pub moved_fresh : (t : ℕ) (graph other_graph : Graph) (object : Object) → IsThread t → Tidy graph → Tidy other_graph → Same t graph other_graph → Fits t (graph.count t + 1) object
-    → Moved t graph other_graph (with_fresh graph t object) (with_fresh other_graph t object)
-moved_fresh t graph other_graph object thread tidy other same fits =
-    let fits_there : Fits t (other_graph.count t + 1) object = subst (λ (k : ℕ). Fits t (k + 1) object) same.count fits in
-    let w = own_object-same graph other_graph t (graph.count t + 1) object thread same in
+pub moved_fresh : (thread : ℕ) (graph next_graph : Graph) (object : Object) → IsThread thread → Tidy graph → Tidy next_graph → Same thread graph next_graph → Fits thread (graph.count thread + 1) object
+    → Moved thread graph next_graph (with_fresh graph thread object) (with_fresh next_graph thread object)
+moved_fresh t graph next_graph object thread tidy other same fits =
+    let fits_there : Fits t (next_graph.count t + 1) object = subst (λ (k : ℕ). Fits t (k + 1) object) same.count fits in
+    let w = own_object-same graph next_graph t (graph.count t + 1) object thread same in
     record {
       same = record {
         root = same.root;
         count = ap (λ k. if t == t then k + 1 else k) same.count;
-        object = subst (λ (k : ℕ). (n : ℕ) → (with_object graph (own t (graph.count t + 1)) object).object (own t n) ≡ (with_object other_graph (own t (k + 1)) object).object (own t n)) same.count w.object;
-        link = subst (λ (k : ℕ). field_of (with_object graph (own t (graph.count t + 1)) object) hub t ≡ field_of (with_object other_graph (own t (k + 1)) object) hub t) same.count w.link;
+        object = subst (λ (k : ℕ). (n : ℕ) → (with_object graph (own t (graph.count t + 1)) object).object (own t n) ≡ (with_object next_graph (own t (k + 1)) object).object (own t n)) same.count w.object;
+        link = subst (λ (k : ℕ). field_of (with_object graph (own t (graph.count t + 1)) object) hub t ≡ field_of (with_object next_graph (own t (k + 1)) object) hub t) same.count w.link;
       };
       tidy = with_fresh-tidy graph t object tidy thread fits;
-      other = with_fresh-tidy other_graph t object other thread fits_there;
+      other = with_fresh-tidy next_graph t object other thread fits_there;
       frame = λ u is apart. fresh-frame graph t u object thread apart;
-      beside = λ u is apart. fresh-frame other_graph t u object thread apart;
+      beside = λ u is apart. fresh-frame next_graph t u object thread apart;
       grows = rw (eqb_itself t) (omega arith);
     }
 
@@ -229,17 +224,17 @@ abbrev pub hub_with : Graph → ℕ → Reference → Object
 hub_with graph t reference = record { refs = set (fields_of graph hub) t reference; nums = (named graph (Some hub)).nums }
 
 -- of the fields of an object one is another
-pub field_case : (P : ℕ → Reference → Type 0) (xs : List Reference) (i : ℕ) (reference : Reference) → ((index : ℕ) → P index (get_or xs index None)) → P i reference → (index : ℕ) → P index (get_or (set xs i reference) index None)
-field_case P xs i reference before now index =
+pub field_case : (P : ℕ → Reference → Type 0) (references : List Reference) (i : ℕ) (reference : Reference) → ((index : ℕ) → P index (get_or references index None)) → P i reference → (index : ℕ) → P index (get_or (set references i reference) index None)
+field_case P references i reference before now index =
     elim (eqb_tells index i) [
-      | inl w ↦ elim (cases_lt i (length xs)) [
-        | inl within ↦ subst (λ (k : ℕ). P k (get_or (set xs i reference) k None)) (sym w.1) (rw (get_or-set_same xs i reference None within) now)
+      | inl w ↦ elim (cases_lt i (length references)) [
+        | inl within ↦ subst (λ (index : ℕ). P index (get_or (set references i reference) index None)) (sym w.1) (rw (get_or-set_same references i reference None within) now)
         | inr past ↦
-            let short : length (set xs i reference) ≤ index = omega (arith, length-set xs i reference, w.1) in
-            let e : get_or (set xs i reference) index None ≡ get_or xs index None = get_or_past (set xs i reference) index None short ∙ sym (get_or_past xs index None (omega (arith, w.1))) in
-            rw e (before index)
+            let short : length (set references i reference) ≤ index = omega (arith, length-set references i reference, w.1) in
+            let same : get_or (set references i reference) index None ≡ get_or references index None = get_or_past (set references i reference) index None short ∙ sym (get_or_past references index None (omega (arith, w.1))) in
+            rw same (before index)
       ]
-      | inr w ↦ rw (get_or-set_other xs i index reference None w.1) (before index)
+      | inr w ↦ rw (get_or-set_other references i index reference None w.1) (before index)
     ]
 
 hub-tidy : (graph : Graph) (t : ℕ) (reference : Reference) → Tidy graph → IsThread t → IsBox t reference → Tidy (with_object graph hub (hub_with graph t reference))
@@ -260,7 +255,7 @@ hub-tidy graph t reference tidy thread box = record {
   high_root = tidy.high_root;
   no_root = tidy.no_root;
   no_count = tidy.no_count;
-  no_object = λ m out apart. rw apart (tidy.no_object m out apart);
+  no_object = λ name out apart. rw apart (tidy.no_object name out apart);
   no_pin = tidy.no_pin;
 } where
   link : (reference : Reference) → IsBox t reference → IsLink t reference
@@ -270,7 +265,7 @@ hub-tidy graph t reference tidy thread box = record {
 hub-link : (graph : Graph) (t : ℕ) (reference : Reference) → Tidy graph → IsThread t → field_of (with_object graph hub (hub_with graph t reference)) hub t ≡ reference
 hub-link graph t reference tidy thread = let size = tidy.hub_size in get_or-set_same (fields_of graph hub) t reference None (omega arith)
 
-hub-frame : (graph : Graph) (t u : ℕ) (reference : Reference) → IsThread u → u ≢ t → Same u graph (with_object graph hub (hub_with graph t reference))
+hub-frame : (graph : Graph) (t thread : ℕ) (reference : Reference) → IsThread thread → thread ≢ t → Same thread graph (with_object graph hub (hub_with graph t reference))
 hub-frame graph t u reference thread apart = record {
   root = λ r. refl;
   count = refl;
@@ -278,30 +273,30 @@ hub-frame graph t u reference thread apart = record {
   link = sym (get_or-set_other (fields_of graph hub) t u reference None apart);
 }
 
-pub moved_hub : (t : ℕ) (graph other_graph : Graph) (reference other_reference : Reference) → IsThread t → Tidy graph → Tidy other_graph → Same t graph other_graph → reference ≡ other_reference → IsBox t reference
-    → Moved t graph other_graph (with_object graph hub (hub_with graph t reference)) (with_object other_graph hub (hub_with other_graph t other_reference))
-moved_hub t graph other_graph reference other_reference thread tidy other same is box =
-    subst (λ (x : Reference). Moved t graph other_graph (with_object graph hub (hub_with graph t reference)) (with_object other_graph hub (hub_with other_graph t x))) is (record {
+pub moved_hub : (thread : ℕ) (graph next_graph : Graph) (reference other_reference : Reference) → IsThread thread → Tidy graph → Tidy next_graph → Same thread graph next_graph → reference ≡ other_reference → IsBox thread reference
+    → Moved thread graph next_graph (with_object graph hub (hub_with graph thread reference)) (with_object next_graph hub (hub_with next_graph thread other_reference))
+moved_hub t graph next_graph reference other_reference thread tidy other same is box =
+    subst (λ (other_reference : Reference). Moved t graph next_graph (with_object graph hub (hub_with graph t reference)) (with_object next_graph hub (hub_with next_graph t other_reference))) is (record {
       same = record {
         root = same.root;
         count = same.count;
-        object = λ k. rw (not_hub_too t k thread) (same.object k);
-        link = hub-link graph t reference tidy thread ∙ sym (hub-link other_graph t reference other thread);
+        object = λ name. rw (not_hub_too t name thread) (same.object name);
+        link = hub-link graph t reference tidy thread ∙ sym (hub-link next_graph t reference other thread);
       };
       tidy = hub-tidy graph t reference tidy thread box;
-      other = hub-tidy other_graph t reference other thread box;
-      frame = λ u is apart. hub-frame graph t u reference is apart;
-      beside = λ u is apart. hub-frame other_graph t u reference is apart;
+      other = hub-tidy next_graph t reference other thread box;
+      frame = λ thread is apart. hub-frame graph t thread reference is apart;
+      beside = λ thread is apart. hub-frame next_graph t thread reference is apart;
       grows = omega arith;
     })
 
 -- a field of the box, and a number of a leaf
 
 abbrev pub with_slot : Object → ℕ → Reference → Object
-with_slot object k reference = record { refs = set object.refs k reference; nums = object.nums }
+with_slot object name reference = record { refs = set object.refs name reference; nums = object.nums }
 
 abbrev pub with_value : Object → ℕ → ℕ → Object
-with_value object i n = record { refs = object.refs; nums = set object.nums i n }
+with_value object name n = record { refs = object.refs; nums = set object.nums name n }
 
 box-fits : (graph : Graph) (t k : ℕ) (reference : Reference) → Tidy graph → IsThread t → IsLeaf t reference → Fits t 1 (with_slot (named graph (Some (own t 1))) k reference)
 box-fits graph t k reference tidy thread leaf =
@@ -314,15 +309,15 @@ box-fits graph t k reference tidy thread leaf =
       small = omega (arith, length-set (fields_of graph (own t 1)) k reference);
     }
 
-pub moved_box : (t : ℕ) (graph other_graph : Graph) (reference : Reference) (k : ℕ) (other_reference : Reference) → IsThread t → Tidy graph → Tidy other_graph → Same t graph other_graph → IsBox t reference → IsLeaf t other_reference
-    → Moved t graph other_graph (with_named graph reference (with_slot (named graph reference) k other_reference)) (with_named other_graph reference (with_slot (named other_graph reference) k other_reference))
-moved_box t graph other_graph None k other_reference thread tidy other same box leaf = stays t graph other_graph tidy other same
-moved_box t graph other_graph (Some m) k other_reference thread tidy other same box leaf =
-    let same_box = named_same t graph other_graph same (Some (own t 1)) refl in
-    subst (λ (name : Name). Moved t graph other_graph (with_object graph name (with_slot (named graph (Some name)) k other_reference)) (with_object other_graph name (with_slot (named other_graph (Some name)) k other_reference)))
-    (sym (name_of m t 1 box.0 box.1))
-    (moved_own t graph other_graph 1 (with_slot (named graph (Some (own t 1))) k other_reference) (with_slot (named other_graph (Some (own t 1))) k other_reference) thread tidy other same
-    (ap (λ o. with_slot o k other_reference) same_box) (box-fits graph t k other_reference tidy thread leaf))
+pub moved_box : (thread : ℕ) (graph next_graph : Graph) (reference : Reference) (k : ℕ) (other_reference : Reference) → IsThread thread → Tidy graph → Tidy next_graph → Same thread graph next_graph → IsBox thread reference → IsLeaf thread other_reference
+    → Moved thread graph next_graph (with_named graph reference (with_slot (named graph reference) k other_reference)) (with_named next_graph reference (with_slot (named next_graph reference) k other_reference))
+moved_box t graph next_graph None k reference thread tidy other same box leaf = stays t graph next_graph tidy other same
+moved_box t graph next_graph (Some other_name) k reference thread tidy other same box leaf =
+    let same_box = named_same t graph next_graph same (Some (own t 1)) refl in
+    subst (λ (name : Name). Moved t graph next_graph (with_object graph name (with_slot (named graph (Some name)) k reference)) (with_object next_graph name (with_slot (named next_graph (Some name)) k reference)))
+    (sym (name_of other_name t 1 box.0 box.1))
+    (moved_own t graph next_graph 1 (with_slot (named graph (Some (own t 1))) k reference) (with_slot (named next_graph (Some (own t 1))) k reference) thread tidy other same
+    (ap (λ o. with_slot o k reference) same_box) (box-fits graph t k reference tidy thread leaf))
 
 leaf-fits : (graph : Graph) (t n i x : ℕ) → Tidy graph → IsThread t → 2 ≤ n → Fits t n (with_value (named graph (Some (own t n))) i x)
 leaf-fits graph t n i x tidy thread above =
@@ -334,15 +329,15 @@ leaf-fits graph t n i x tidy thread above =
       small = omega (arith, length-set (named graph (Some (own t n))).nums i x);
     }
 
-pub moved_leaf : (t : ℕ) (graph other_graph : Graph) (reference : Reference) (i x : ℕ) → IsThread t → Tidy graph → Tidy other_graph → Same t graph other_graph → IsLeaf t reference
-    → Moved t graph other_graph (with_named graph reference (with_value (named graph reference) i x)) (with_named other_graph reference (with_value (named other_graph reference) i x))
-moved_leaf t graph other_graph None i x thread tidy other same leaf = stays t graph other_graph tidy other same
-moved_leaf t graph other_graph (Some m) i x thread tidy other same leaf =
-    let same_leaf = named_same t graph other_graph same (Some (own t m.count)) refl in
-    subst (λ (name : Name). Moved t graph other_graph (with_object graph name (with_value (named graph (Some name)) i x)) (with_object other_graph name (with_value (named other_graph (Some name)) i x)))
-    (sym (name_of m t m.count leaf.0 refl))
-    (moved_own t graph other_graph m.count (with_value (named graph (Some (own t m.count))) i x) (with_value (named other_graph (Some (own t m.count))) i x) thread tidy other same
-    (ap (λ o. with_value o i x) same_leaf) (leaf-fits graph t m.count i x tidy thread leaf.1))
+pub moved_leaf : (thread : ℕ) (graph next_graph : Graph) (reference : Reference) (i x : ℕ) → IsThread thread → Tidy graph → Tidy next_graph → Same thread graph next_graph → IsLeaf thread reference
+    → Moved thread graph next_graph (with_named graph reference (with_value (named graph reference) i x)) (with_named next_graph reference (with_value (named next_graph reference) i x))
+moved_leaf t graph next_graph None i x thread tidy other same leaf = stays t graph next_graph tidy other same
+moved_leaf t graph next_graph (Some other_name) i x thread tidy other same leaf =
+    let same_leaf = named_same t graph next_graph same (Some (own t other_name.count)) refl in
+    subst (λ (name : Name). Moved t graph next_graph (with_object graph name (with_value (named graph (Some name)) i x)) (with_object next_graph name (with_value (named next_graph (Some name)) i x)))
+    (sym (name_of other_name t other_name.count leaf.0 refl))
+    (moved_own t graph next_graph other_name.count (with_value (named graph (Some (own t other_name.count))) i x) (with_value (named next_graph (Some (own t other_name.count))) i x) thread tidy other same
+    (ap (λ o. with_value o i x) same_leaf) (leaf-fits graph t other_name.count i x tidy thread leaf.1))
 
 -- what is new fits
 
@@ -362,7 +357,7 @@ first-fits t = record {
 }
 
 pub later-fits : (t n refs nums : ℕ) → 2 ≤ n → refs + nums ≤ 16 → Fits t n (blank refs nums)
-later-fits t n refs nums above few = record {
+later-fits t n refs nums above at_most = record {
   box = λ is. absurd (omega arith);
   box_size = λ is. absurd (omega arith);
   leaf = λ _ f. none_in refs f;

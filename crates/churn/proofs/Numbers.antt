@@ -7,6 +7,7 @@ use Rattle.std.proofs.lemmas.Bool.Decides.{eqb_tells}
 use Rattle.std.proofs.lemmas.List.{get_or_past, get_or-replicate, length-replicate, length-map}
 use Rattle.std.proofs.lemmas.List.Sums.{sum_by-cons}
 use Rattle.std.proofs.lemmas.Option.{get_or_from_slice_get}
+use Rattle.shen_graph.proofs.Lists.{all_append}
 use Rattle.shen_graph.specs.declared.command.Command.{Command}
 use Rattle.shen_graph.specs.declared.command.Command.TheVariants.{New, Get, Set, Cas, Xchg, Rd, Wr, Copy, Drop, Same, Gc, Pin, Unpin}
 use Rattle.shen_graph.specs.declared.command.Reply.{Reply}
@@ -21,7 +22,7 @@ use Rattle.churn.specs.Laws.{in_turn}
 use Rattle.churn.proofs.Belongings.{IsThread}
 use Rattle.churn.proofs.Moves.{object_case}
 use Rattle.churn.proofs.BelowTheHub.{of_thread-here, of_thread-there, thread_or_not}
-use Rattle.churn.proofs.Opening.{script_is, script_none, all_append}
+use Rattle.churn.proofs.Opening.{script_is, script_none}
 
 -- no number of an object is above
 abbrev pub AreBelow : ℕ → Object → Type 0
@@ -49,15 +50,15 @@ object_below most graph name object below here m = object_case (AreBelow most) g
 
 named_below : (most : ℕ) (graph : Graph) (reference : Reference) (object : Object) → IsBelow most graph → AreBelow most object → IsBelow most (with_named graph reference object)
 named_below most graph None object below here = below
-named_below most graph (Some n) object below here = object_below most graph n object below here
+named_below most graph (Some name) object below here = object_below most graph name object below here
 
-field_below : (most : ℕ) (graph : Graph) (thread r k : ℕ) (reference : Reference) → IsBelow most graph → IsBelow most (with_field graph thread r k reference)
-field_below most graph thread r k reference below = named_below most graph (graph.root thread r) _ below (null_below most graph (graph.root thread r) below)
+field_below : (most : ℕ) (graph : Graph) (thread index k : ℕ) (reference : Reference) → IsBelow most graph → IsBelow most (with_field graph thread index k reference)
+field_below most graph thread index k reference below = named_below most graph (graph.root thread index) _ below (null_below most graph (graph.root thread index) below)
 
 set_below : (most : ℕ) (xs : List ℕ) (index v : ℕ) → ((other_index : ℕ) → get_or xs other_index 0 ≤ most) → v ≤ most → (other_index : ℕ) → get_or (set xs index v) other_index 0 ≤ most
 set_below most xs index v before now other_index =
     elim (eqb_tells other_index index) [
-      | inl w ↦ subst (λ (j : ℕ). get_or (set xs index v) j 0 ≤ most) (sym w.1) (at_place (cases_lt index (length xs)))
+      | inl w ↦ subst (λ (other_index : ℕ). get_or (set xs index v) other_index 0 ≤ most) (sym w.1) (at_place (cases_lt index (length xs)))
       | inr w ↦ subst (λ (x : ℕ). x ≤ most) (sym (get_or-set_other xs index other_index v 0 w.1)) (before other_index)
     ]
   where
@@ -65,9 +66,9 @@ set_below most xs index v before now other_index =
     at_place (inl within) = subst (λ (x : ℕ). x ≤ most) (sym (get_or-set_same xs index v 0 within)) now
     at_place (inr past) = subst (λ (x : ℕ). x ≤ most) (sym (get_or_past (set xs index v) index 0 (omega (arith, length-set xs index v)))) (omega arith)
 
-number_below : (most : ℕ) (graph : Graph) (thread r i v : ℕ) → IsBelow most graph → v ≤ most → IsBelow most (with_number graph thread r i v)
-number_below most graph thread r i v below now =
-    named_below most graph (graph.root thread r) _ below (set_below most (named graph (graph.root thread r)).nums i v (null_below most graph (graph.root thread r) below) now)
+number_below : (most : ℕ) (graph : Graph) (thread index other_index v : ℕ) → IsBelow most graph → v ≤ most → IsBelow most (with_number graph thread index other_index v)
+number_below most graph thread index other_index v below now =
+    named_below most graph (graph.root thread index) _ below (set_below most (named graph (graph.root thread index)).nums other_index v (null_below most graph (graph.root thread index) below) now)
 
 zeros_below : (most nums index : ℕ) → get_or (replicate nums 0) index 0 ≤ most
 zeros_below most nums index =
@@ -89,78 +90,78 @@ either_below most true = omega arith
 either_below most false = omega arith
 
 outcome_below : (most : ℕ) (graph : Graph) (thread : ℕ) (command : Command) → IsBelow most graph → WritesBelow most command → Below most (outcome graph thread command)
-outcome_below most graph thread (New dst refs nums) below w =
+outcome_below most graph thread (New dst refs nums) below writes_below =
     record { told = omega arith; left = object_below most graph (fresh graph thread) (blank refs nums) below (zeros_below most nums) }
-outcome_below most graph thread (Get dst src field) below w =
-    on_below most (field_at graph thread src field) graph (λ v. answers (shown v) (with_root graph thread dst v)) below (λ v _. record { told = shown_below most v; left = below })
-outcome_below most graph thread (Set obj field val) below w =
+outcome_below most graph thread (Get dst src field) below writes_below =
+    on_below most (field_at graph thread src field) graph (λ v. answers (shown v) (with_root graph thread dst v)) below (λ reference _. record { told = shown_below most reference; left = below })
+outcome_below most graph thread (Set obj field val) below writes_below =
     on_below most (field_at graph thread obj field) graph (λ _. answers reply.Ok (with_field graph thread obj field (graph.root thread val))) below
     (λ v _. record { told = omega arith; left = field_below most graph thread obj field (graph.root thread val) below })
-outcome_below most graph thread (Cas obj field expect val) below w =
+outcome_below most graph thread (Cas obj field expect val) below writes_below =
     on_below most (field_at graph thread obj field) graph (λ v. if same_reference v (graph.root thread expect) then answers reply.Yes (with_field graph thread obj field (graph.root thread val)) else answers reply.No graph) below
     (λ v _. elim (same_reference v (graph.root thread expect)) as (λ b. Below most (if b then answers reply.Yes (with_field graph thread obj field (graph.root thread val)) else answers reply.No graph))
     [ true ↦ record { told = omega arith; left = field_below most graph thread obj field (graph.root thread val) below } | false ↦ record { told = omega arith; left = below } ])
-outcome_below most graph thread (Xchg dst obj field val) below w =
+outcome_below most graph thread (Xchg dst obj field val) below writes_below =
     on_below most (field_at graph thread obj field) graph (λ v. answers (shown v) (with_root (with_field graph thread obj field (graph.root thread val)) thread dst v)) below
-    (λ v _. record { told = shown_below most v; left = field_below most graph thread obj field (graph.root thread val) below })
-outcome_below most graph thread (Rd obj index) below w =
+    (λ reference _. record { told = shown_below most reference; left = field_below most graph thread obj field (graph.root thread val) below })
+outcome_below most graph thread (Rd obj index) below writes_below =
     on_below most (number_at graph thread obj index) graph (λ n. answers (reply.Number n) graph) below
     (λ v is. record { told = subst (λ (k : ℕ). k ≤ most) (get_or_from_slice_get (named graph (graph.root thread obj)).nums index v 0 is) (null_below most graph (graph.root thread obj) below index); left = below })
-outcome_below most graph thread (Wr obj index value) below w =
+outcome_below most graph thread (Wr obj index value) below writes_below =
     on_below most (number_at graph thread obj index) graph (λ _. answers reply.Ok (with_number graph thread obj index value)) below
-    (λ v _. record { told = omega arith; left = number_below most graph thread obj index value below w })
-outcome_below most graph thread (Copy dst src) below w = record { told = omega arith; left = below }
-outcome_below most graph thread (Drop dst) below w = record { told = omega arith; left = below }
-outcome_below most graph thread (Same a b) below w = record { told = either_below most (same_reference (graph.root thread a) (graph.root thread b)); left = below }
-outcome_below most graph thread Gc below w = record { told = omega arith; left = below }
-outcome_below most graph thread (Pin slot obj) below w = record { told = omega arith; left = below }
-outcome_below most graph thread (Unpin slot) below w =
+    (λ v _. record { told = omega arith; left = number_below most graph thread obj index value below writes_below })
+outcome_below most graph thread (Copy dst src) below writes_below = record { told = omega arith; left = below }
+outcome_below most graph thread (Drop dst) below writes_below = record { told = omega arith; left = below }
+outcome_below most graph thread (Same index other_index) below writes_below = record { told = either_below most (same_reference (graph.root thread index) (graph.root thread other_index)); left = below }
+outcome_below most graph thread Gc below writes_below = record { told = omega arith; left = below }
+outcome_below most graph thread (Pin slot obj) below writes_below = record { told = omega arith; left = below }
+outcome_below most graph thread (Unpin slot) below writes_below =
     on_below most (graph.pin thread slot) graph (λ _. answers reply.Ok (with_pin graph thread slot None)) below (λ v _. record { told = omega arith; left = below })
 
 -- an entry
 
-legal_below : (most : ℕ) (graph other_graph : Graph) (t : ℕ) (command : Command) (r : Reply) → IsBelow most graph → WritesBelow most command → IsLegal 16 256 graph t command r other_graph → Below most (answers r other_graph)
-legal_below most graph other_graph t command r below writes legal =
+legal_below : (most : ℕ) (graph other_graph : Graph) (thread : ℕ) (command : Command) (answer : Reply) → IsBelow most graph → WritesBelow most command → IsLegal 16 256 graph thread command answer other_graph → Below most (answers answer other_graph)
+legal_below most graph other_graph thread command answer below writes legal =
     elim legal [
-      | inl done ↦ subst (Below most) (sym done.1) (outcome_below most graph t command below writes)
+      | inl done ↦ subst (Below most) (sym done.1) (outcome_below most graph thread command below writes)
       | inr later ↦ elim later [
         | inl full ↦ record {
-          told = subst (λ (x : Reply). number_summed x ≤ most) (sym full.1) (omega arith);
+          told = subst (λ (answer : Reply). number_summed answer ≤ most) (sym full.1) (omega arith);
           left = subst (IsBelow most) (sym full.2) below;
         }
         | inr pinning ↦ record {
-          told = subst (λ (x : Reply). number_summed x ≤ most) (sym pinning.reply) (omega arith);
+          told = subst (λ (answer : Reply). number_summed answer ≤ most) (sym pinning.reply) (omega arith);
           left = subst (IsBelow most) (sym pinning.graph) below;
         }
       ]
     ]
 
-told_below : (most : ℕ) (graph : Graph) (es : List Entry) → IsBelow most graph → AllByRecursion (λ e. WritesBelow most e.command) es → EachIsLegal 16 256 graph es → AllByRecursion (λ r. number_summed r ≤ most) (replies_of es)
+told_below : (most : ℕ) (graph : Graph) (entries : List Entry) → IsBelow most graph → AllByRecursion (λ e. WritesBelow most e.command) entries → EachIsLegal 16 256 graph entries → AllByRecursion (λ r. number_summed r ≤ most) (replies_of entries)
 told_below most graph [] below writes legal = tt
-told_below most graph (e ∷ es) below writes legal =
-    let b = legal_below most graph (after_entry graph e) e.thread e.command e.reply below writes.0 legal.0 in
-    (b.told, told_below most (after_entry graph e) es b.left writes.1 legal.1)
+told_below most graph (entry ∷ entries) below writes legal =
+    let b = legal_below most graph (after_entry graph entry) entry.thread entry.command entry.reply below writes.0 legal.0 in
+    (b.told, told_below most (after_entry graph entry) entries b.left writes.1 legal.1)
 
-pub sum_below : (most : ℕ) (rs : List Reply) → AllByRecursion (λ r. number_summed r ≤ most) rs → sum_by number_summed rs ≤ length rs * most
-sum_below most [] h = omega arith
-sum_below most (r ∷ rs) h =
-    let rest = sum_below most rs h.1 in
-    let here : number_summed r ≤ most = h.0 in
-    let cons = sum_by-cons number_summed r rs in
-    let count : length (r ∷ rs) * most ≡ length rs * most + most = omega arith in
+pub sum_below : (most : ℕ) (replies : List Reply) → AllByRecursion (λ r. number_summed r ≤ most) replies → sum_by number_summed replies ≤ length replies * most
+sum_below most [] all = omega arith
+sum_below most (answer ∷ replies) all =
+    let rest = sum_below most replies all.1 in
+    let here : number_summed answer ≤ most = all.0 in
+    let cons = sum_by-cons number_summed answer replies in
+    let count : length (answer ∷ replies) * most ≡ length replies * most + most = omega arith in
     omega arith
 
 -- what holds of all commands of all scripts holds of the command of each entry
 
-pub each_command : (P : Command → Type 0) (es : List Entry) → ((thread : ℕ) → AllByRecursion P (commands_of (of_thread es thread))) → AllByRecursion (λ e. P e.command) es
+pub each_command : (P : Command → Type 0) (entries : List Entry) → ((thread : ℕ) → AllByRecursion P (commands_of (of_thread entries thread))) → AllByRecursion (λ e. P e.command) entries
 each_command P [] h = tt
-each_command P (e ∷ es) h =
-    let here : AllByRecursion P (e.command ∷ commands_of (of_thread es e.thread)) =
-    subst (λ (entries : List Entry). AllByRecursion P (commands_of entries)) (of_thread-here e es) (h e.thread) in (
+each_command P (entry ∷ other_entries) h =
+    let here : AllByRecursion P (entry.command ∷ commands_of (of_thread other_entries entry.thread)) =
+    subst (λ (entries : List Entry). AllByRecursion P (commands_of entries)) (of_thread-here entry other_entries) (h entry.thread) in (
       here.0,
-      each_command P es (λ thread. elim (eqb_tells thread e.thread) as (λ _. AllByRecursion P (commands_of (of_thread es thread))) [
-        | inl w ↦ subst (λ (u : ℕ). AllByRecursion P (commands_of (of_thread es u))) (sym w.1) here.1
-        | inr w ↦ subst (λ (entries : List Entry). AllByRecursion P (commands_of entries)) (of_thread-there e es thread w.1) (h thread)
+      each_command P other_entries (λ thread. elim (eqb_tells thread entry.thread) as (λ _. AllByRecursion P (commands_of (of_thread other_entries thread))) [
+        | inl w ↦ subst (λ (u : ℕ). AllByRecursion P (commands_of (of_thread other_entries u))) (sym w.1) here.1
+        | inr w ↦ subst (λ (entries : List Entry). AllByRecursion P (commands_of entries)) (of_thread-there entry other_entries thread w.1) (h thread)
       ]),
     )
 
@@ -170,14 +171,14 @@ rounds_below seed count a (suc n) within =
     all_append (WritesBelow (seed + count)) (round seed a) (flat_map (round seed) (range_with_len (a + 1) n))
     (tt, (omega arith, (tt, (tt, (tt, (tt, (tt, (tt, tt)))))))) (rounds_below seed count (a + 1) n (omega arith))
 
-script_below : (seed count t : ℕ) → AllByRecursion (WritesBelow (seed + count)) (churn_script seed count t)
-script_below seed count t = (tt, (tt, rounds_below seed count 0 count (omega arith)))
+script_below : (seed count thread : ℕ) → AllByRecursion (WritesBelow (seed + count)) (churn_script seed count thread)
+script_below seed count thread = (tt, (tt, rounds_below seed count 0 count (omega arith)))
 
-commands_below : (seed count : ℕ) (es : List Entry) → Follows (churn_scripts seed count) es → AllByRecursion (λ e. WritesBelow (seed + count) e.command) es
-commands_below seed count es follows =
-    each_command (WritesBelow (seed + count)) es (λ t. elim (thread_or_not t) [
-      | inl is ↦ subst (AllByRecursion (WritesBelow (seed + count))) (sym (follows t ∙ script_is seed count t is)) (script_below seed count t)
-      | inr out ↦ subst (AllByRecursion (WritesBelow (seed + count))) (sym (follows t ∙ script_none seed count t out)) tt
+commands_below : (seed count : ℕ) (entries : List Entry) → Follows (churn_scripts seed count) entries → AllByRecursion (λ e. WritesBelow (seed + count) e.command) entries
+commands_below seed count entries follows =
+    each_command (WritesBelow (seed + count)) entries (λ thread. elim (thread_or_not thread) [
+      | inl is ↦ subst (AllByRecursion (WritesBelow (seed + count))) (sym (follows thread ∙ script_is seed count thread is)) (script_below seed count thread)
+      | inr out ↦ subst (AllByRecursion (WritesBelow (seed + count))) (sym (follows thread ∙ script_none seed count thread out)) tt
     ])
 
 begins_below : (most : ℕ) → IsBelow most (opening 3)
@@ -188,10 +189,10 @@ begins_below most n = at (same_name n hub) refl
     at false is i = rw is (subst (λ (k : ℕ). k ≤ most) (sym (get_or_past [] i 0 (omega arith))) (omega arith))
 
 -- the sum of the numbers that a run tells
-pub run_below : (seed count : ℕ) (es : List Entry) → Follows (churn_scripts seed count) es → EachIsLegal 16 256 (opening 3) es
-    → sum_by number_summed (replies_of es) ≤ length (replies_of es) * (seed + count)
-run_below seed count es follows legal =
-    sum_below (seed + count) (replies_of es) (told_below (seed + count) (opening 3) es (begins_below (seed + count)) (commands_below seed count es follows) legal)
+pub run_below : (seed count : ℕ) (entries : List Entry) → Follows (churn_scripts seed count) entries → EachIsLegal 16 256 (opening 3) entries
+    → sum_by number_summed (replies_of entries) ≤ length (replies_of entries) * (seed + count)
+run_below seed count entries follows legal =
+    sum_below (seed + count) (replies_of entries) (told_below (seed + count) (opening 3) entries (begins_below (seed + count)) (commands_below seed count entries follows) legal)
 
 -- how long the scripts are
 
@@ -199,13 +200,13 @@ rounds_long : (seed a n : ℕ) → length (flat_map (round seed) (range_with_len
 rounds_long seed a zero = refl
 rounds_long seed a (suc n) = omega (arith, length-append (round seed a) (flat_map (round seed) (range_with_len (a + 1) n)), rounds_long seed (a + 1) n)
 
-part_long : (seed count thread : ℕ) (es : List Entry) → IsThread thread → Follows (churn_scripts seed count) es → length (of_thread es thread) ≡ 2 + 8 * count
-part_long seed count thread es is follows =
-    sym (length-map (of_thread es thread) (λ e. e.command)) ∙ ap (length {A = Command}) (follows thread ∙ script_is seed count thread is) ∙ omega (arith, rounds_long seed 0 count)
+part_long : (seed count thread : ℕ) (entries : List Entry) → IsThread thread → Follows (churn_scripts seed count) entries → length (of_thread entries thread) ≡ 2 + 8 * count
+part_long seed count thread entries is follows =
+    sym (length-map (of_thread entries thread) (λ e. e.command)) ∙ ap (length {A = Command}) (follows thread ∙ script_is seed count thread is) ∙ omega (arith, rounds_long seed 0 count)
 
-pub run_long : (seed count : ℕ) (es : List Entry) → Follows (churn_scripts seed count) es → length (in_turn es) ≡ 6 + 24 * count
-run_long seed count es follows =
-    let one = part_long seed count 1 es (omega arith, omega arith) follows in
-    let two = part_long seed count 2 es (omega arith, omega arith) follows in
-    let three = part_long seed count 3 es (omega arith, omega arith) follows in
-    omega (arith, length-append (of_thread es 1) (of_thread es 2 ++ of_thread es 3), length-append (of_thread es 2) (of_thread es 3))
+pub run_long : (seed count : ℕ) (entries : List Entry) → Follows (churn_scripts seed count) entries → length (in_turn entries) ≡ 6 + 24 * count
+run_long seed count entries follows =
+    let one = part_long seed count 1 entries (omega arith, omega arith) follows in
+    let two = part_long seed count 2 entries (omega arith, omega arith) follows in
+    let three = part_long seed count 3 entries (omega arith, omega arith) follows in
+    omega (arith, length-append (of_thread entries 1) (of_thread entries 2 ++ of_thread entries 3), length-append (of_thread entries 2) (of_thread entries 3))

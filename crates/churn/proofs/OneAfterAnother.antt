@@ -5,6 +5,7 @@ use Rattle.std.specs.List.{AllByRecursion}
 use Rattle.std.proofs.lemmas.Bool.Decides.{eqb_tells}
 use Rattle.std.proofs.lemmas.List.{append-nil, ext_get_or}
 use Rattle.std.proofs.lemmas.List.Elements.{filter-append, All-nil, All-cons}
+use Rattle.shen_graph.proofs.Numbers.{eqb_apart, eqb_itself}
 use Rattle.shen_graph.specs.declared.command.Reply.TheVariants as reply
 use Rattle.shen_graph.specs.declared.name.Name.{Name}
 use Rattle.shen_graph.specs.Graph.{Graph, Reference, named, hub, opening, same_name}
@@ -13,7 +14,6 @@ use Rattle.shen_graph.specs.History.{Entry, after_entry, after, EachIsLegal, of_
 use Rattle.shen_graph.proofs.PlainLemmas.{fun_ext, same_name-true}
 use Rattle.churn.specs.Laws.{IsWorkloadRun, in_turn, NoneIsFull, RunsAreInTurn, OneInTurn}
 use Rattle.churn.proofs.Belongings.{IsThread, fields_of, field_of, IsLink, Same, Tidy, Same-itself, Same-join}
-use Rattle.churn.proofs.Moves.{eqb_itself, eqb_apart}
 use Rattle.churn.proofs.BelowTheHub.{IsGiven, Going, solo, thread_or_not, replied}
 use Rattle.churn.proofs.Opening.{tidy_opening, going_opening, thread_cases}
 use Rattle.churn.proofs.Refusals.{none_from, after-append, legal-append}
@@ -24,7 +24,7 @@ out_link : (f : ℕ) (reference : Reference) → IsLink f reference → (IsThrea
 out_link f None link out = refl
 out_link f (Some m) link out = absurd (out link.2)
 
-same_hub : (graph other_graph : Graph) → Tidy graph → Tidy other_graph → ((t : ℕ) → IsThread t → Same t graph other_graph) → named graph (Some hub) ≡ named other_graph (Some hub)
+same_hub : (graph other_graph : Graph) → Tidy graph → Tidy other_graph → ((thread : ℕ) → IsThread thread → Same thread graph other_graph) → named graph (Some hub) ≡ named other_graph (Some hub)
 same_hub graph other_graph tidy other same =
     let refs : fields_of graph hub ≡ fields_of other_graph hub = ext_get_or None (fields_of graph hub) (fields_of other_graph hub) (tidy.hub_size ∙ sym other.hub_size) (λ f _. field f) in
     let nums : (named graph (Some hub)).nums ≡ (named other_graph (Some hub)).nums = tidy.hub_nums ∙ sym other.hub_nums in
@@ -36,12 +36,12 @@ same_hub graph other_graph tidy other same =
       | inr out ↦ out_link f (field_of graph hub f) (tidy.links f) out ∙ sym (out_link f (field_of other_graph hub f) (other.links f) out)
     ]
 
-pub same_graph : (graph other_graph : Graph) → Tidy graph → Tidy other_graph → ((other_thread : ℕ) → IsThread other_thread → Same other_thread graph other_graph) → graph ≡ other_graph
+pub same_graph : (graph other_graph : Graph) → Tidy graph → Tidy other_graph → ((thread : ℕ) → IsThread thread → Same thread graph other_graph) → graph ≡ other_graph
 same_graph graph other_graph tidy other same =
     let object = fun_ext graph.object other_graph.object object_at in
     let root = fun_ext graph.root other_graph.root (λ other_thread. fun_ext (graph.root other_thread) (other_graph.root other_thread) (root_at other_thread)) in
     let count = fun_ext graph.count other_graph.count count_at in
-    let pin = fun_ext graph.pin other_graph.pin (λ other_thread. fun_ext (graph.pin other_thread) (other_graph.pin other_thread) (λ s. tidy.no_pin other_thread s ∙ sym (other.no_pin other_thread s))) in
+    let pin = fun_ext graph.pin other_graph.pin (λ other_thread. fun_ext (graph.pin other_thread) (other_graph.pin other_thread) (λ slot. tidy.no_pin other_thread slot ∙ sym (other.no_pin other_thread slot))) in
     λ i. record { object = object i; root = root i; count = count i; pin = pin i }
   where
     object_at : (name : Name) → graph.object name ≡ other_graph.object name
@@ -66,90 +66,90 @@ same_graph graph other_graph tidy other same =
 abbrev IsNotFull : Entry → Type 0
 IsNotFull entry = entry.reply ≢ reply.Full
 
-all_given : (es : List Entry) → AllByRecursion IsGiven es → IsWithoutFull es
-all_given [] h = All-nil IsNotFull
-all_given (e ∷ es) h = All-cons IsNotFull e es h.0.0 (all_given es h.1)
+all_given : (entries : List Entry) → AllByRecursion IsGiven entries → IsWithoutFull entries
+all_given [] all = All-nil IsNotFull
+all_given (entry ∷ entries) all = All-cons IsNotFull entry entries all.0.0 (all_given entries all.1)
 
-pub given_append : (xs ys : List Entry) → AllByRecursion IsGiven xs → AllByRecursion IsGiven ys → AllByRecursion IsGiven (xs ++ ys)
-given_append [] ys h k = k
-given_append (x ∷ xs) ys h k = (h.0, given_append xs ys h.1 k)
+pub given_append : (entries other_entries : List Entry) → AllByRecursion IsGiven entries → AllByRecursion IsGiven other_entries → AllByRecursion IsGiven (entries ++ other_entries)
+given_append [] entries all k = k
+given_append (entry ∷ other_entries) entries all k = (all.0, given_append other_entries entries all.1 k)
 
-pub given_of : (thread : ℕ) (es : List Entry) → AllByRecursion IsGiven es → AllByRecursion IsGiven (of_thread es thread)
-given_of thread [] h = tt
-given_of thread (e ∷ es) h =
-    elim (e.thread == thread) as (λ b. AllByRecursion IsGiven (if b then e ∷ of_thread es thread else of_thread es thread))
-    [ true ↦ (h.0, given_of thread es h.1) | false ↦ given_of thread es h.1 ]
+pub given_of : (thread : ℕ) (entries : List Entry) → AllByRecursion IsGiven entries → AllByRecursion IsGiven (of_thread entries thread)
+given_of thread [] all = tt
+given_of thread (entry ∷ entries) all =
+    elim (entry.thread == thread) as (λ b. AllByRecursion IsGiven (if b then entry ∷ of_thread entries thread else of_thread entries thread))
+    [ true ↦ (all.0, given_of thread entries all.1) | false ↦ given_of thread entries all.1 ]
 
-pub run_given : (seed count : ℕ) (es : List Entry) → IsWorkloadRun seed count es → AllByRecursion IsGiven es
-run_given seed count es run =
-    none_from seed count es [] run.legal.crowded tidy_opening (going_opening seed count es run.follows) run.legal.each
+pub run_given : (seed count : ℕ) (entries : List Entry) → IsWorkloadRun seed count entries → AllByRecursion IsGiven entries
+run_given seed count entries run =
+    none_from seed count entries [] run.legal.crowded tidy_opening (going_opening seed count entries run.follows) run.legal.each
 
 pub none_is_full : NoneIsFull
 none_is_full seed count es run = all_given es (run_given seed count es run)
 
-pub given_at : (es : List Entry) (index : ℕ) (entry : Entry) → AllByRecursion IsGiven es → slice_get es index ≡ Some entry → IsGiven entry
-given_at [] index entry h is = cc
-given_at (x ∷ es) zero entry h is = let same : x ≡ entry = cc in subst IsGiven same h.0
-given_at (x ∷ es) (suc index) entry h is = given_at es index entry h.1 is
+pub given_at : (entries : List Entry) (index : ℕ) (entry : Entry) → AllByRecursion IsGiven entries → slice_get entries index ≡ Some entry → IsGiven entry
+given_at [] index entry all is = cc
+given_at (other_entry ∷ entries) zero entry all is = let same : other_entry ≡ entry = cc in subst IsGiven same all.0
+given_at (other_entry ∷ entries) (suc index) entry all is = given_at entries index entry all.1 is
 
 -- the entries of one thread, and then of another
 
 abbrev pub AreOf : ℕ → List Entry → Type 0
-AreOf t es = AllByRecursion (λ e. e.thread ≡ t) es
+AreOf t entries = AllByRecursion (λ e. e.thread ≡ t) entries
 
-pub of_thread-are : (thread : ℕ) (es : List Entry) → AreOf thread (of_thread es thread)
+pub of_thread-are : (thread : ℕ) (entries : List Entry) → AreOf thread (of_thread entries thread)
 of_thread-are thread [] = tt
-of_thread-are thread (e ∷ es) =
-    elim (eqb_tells e.thread thread) as (λ _. AreOf thread (of_thread (e ∷ es) thread)) [
-      | inl w ↦ rw w.0 (w.1, of_thread-are thread es)
-      | inr w ↦ rw w.0 (of_thread-are thread es)
+of_thread-are thread (entry ∷ entries) =
+    elim (eqb_tells entry.thread thread) as (λ _. AreOf thread (of_thread (entry ∷ entries) thread)) [
+      | inl w ↦ rw w.0 (w.1, of_thread-are thread entries)
+      | inr w ↦ rw w.0 (of_thread-are thread entries)
     ]
 
-pub all_of : (thread : ℕ) (es : List Entry) → AreOf thread es → of_thread es thread ≡ es
-all_of thread [] h = refl
-all_of thread (e ∷ es) h =
-    let here : eqb e.thread thread ≡ true = ap (λ u. eqb u thread) h.0 ∙ eqb_itself thread in
-    rw here (ap (λ l. e ∷ l) (all_of thread es h.1))
+pub all_of : (thread : ℕ) (entries : List Entry) → AreOf thread entries → of_thread entries thread ≡ entries
+all_of thread [] are_of = refl
+all_of thread (entry ∷ entries) are_of =
+    let here : eqb entry.thread thread ≡ true = ap (λ u. eqb u thread) are_of.0 ∙ eqb_itself thread in
+    rw here (ap (λ l. entry ∷ l) (all_of thread entries are_of.1))
 
-pub none_of : (t thread : ℕ) (es : List Entry) → thread ≢ t → AreOf t es → of_thread es thread ≡ []
-none_of t thread [] apart h = refl
-none_of t thread (e ∷ es) apart h =
-    let there : eqb e.thread thread ≡ false = ap (λ v. eqb v thread) h.0 ∙ eqb_apart t thread (λ is. apart (sym is)) in
-    rw there (none_of t thread es apart h.1)
+pub none_of : (t thread : ℕ) (entries : List Entry) → thread ≢ t → AreOf t entries → of_thread entries thread ≡ []
+none_of t thread [] apart are_of = refl
+none_of t thread (entry ∷ entries) apart are_of =
+    let there : eqb entry.thread thread ≡ false = ap (λ v. eqb v thread) are_of.0 ∙ eqb_apart t thread (λ is. apart (sym is)) in
+    rw there (none_of t thread entries apart are_of.1)
 
 -- what stands in one of the three parts
-parts : (es : List Entry) (t : ℕ) → of_thread (in_turn es) t ≡ of_thread (of_thread es 1) t ++ (of_thread (of_thread es 2) t ++ of_thread (of_thread es 3) t)
-parts es t =
-    filter-append (λ (entry : Entry). entry.thread == t) (of_thread es 1) (of_thread es 2 ++ of_thread es 3)
-    ∙ ap (λ l. of_thread (of_thread es 1) t ++ l) (filter-append (λ (entry : Entry). entry.thread == t) (of_thread es 2) (of_thread es 3))
+parts : (entries : List Entry) (t : ℕ) → of_thread (in_turn entries) t ≡ of_thread (of_thread entries 1) t ++ (of_thread (of_thread entries 2) t ++ of_thread (of_thread entries 3) t)
+parts entries t =
+    filter-append (λ (entry : Entry). entry.thread == t) (of_thread entries 1) (of_thread entries 2 ++ of_thread entries 3)
+    ∙ ap (λ l. of_thread (of_thread entries 1) t ++ l) (filter-append (λ (entry : Entry). entry.thread == t) (of_thread entries 2) (of_thread entries 3))
 
-own_part : (es : List Entry) (thread : ℕ) → of_thread (of_thread es thread) thread ≡ of_thread es thread
-own_part es thread = all_of thread (of_thread es thread) (of_thread-are thread es)
+own_part : (entries : List Entry) (thread : ℕ) → of_thread (of_thread entries thread) thread ≡ of_thread entries thread
+own_part entries thread = all_of thread (of_thread entries thread) (of_thread-are thread entries)
 
-other_part : (es : List Entry) (thread u : ℕ) → u ≢ thread → of_thread (of_thread es thread) u ≡ []
-other_part es thread u apart = none_of thread u (of_thread es thread) apart (of_thread-are thread es)
+other_part : (entries : List Entry) (thread other_thread : ℕ) → other_thread ≢ thread → of_thread (of_thread entries thread) other_thread ≡ []
+other_part entries thread other_thread apart = none_of thread other_thread (of_thread entries thread) apart (of_thread-are thread entries)
 
-pub in_turn-thread : (graph : Graph) (es : List Entry) → Going graph es → (thread : ℕ) → of_thread (in_turn es) thread ≡ of_thread es thread
-in_turn-thread graph es going thread =
-    parts es thread ∙ elim (thread_or_not thread) as (λ _. of_thread (of_thread es 1) thread ++ (of_thread (of_thread es 2) thread ++ of_thread (of_thread es 3) thread) ≡ of_thread es thread) [
-      | inl is ↦ elim (thread_cases thread is) as (λ _. of_thread (of_thread es 1) thread ++ (of_thread (of_thread es 2) thread ++ of_thread (of_thread es 3) thread) ≡ of_thread es thread) [
-        | inl one ↦ rw (one, own_part es 1, other_part es 2 1 (λ e. omega arith), other_part es 3 1 (λ e. omega arith)) (append-nil (of_thread es 1))
-        | inr more ↦ elim more as (λ _. of_thread (of_thread es 1) thread ++ (of_thread (of_thread es 2) thread ++ of_thread (of_thread es 3) thread) ≡ of_thread es thread) [
-          | inl two ↦ rw (two, other_part es 1 2 (λ e. omega arith), own_part es 2, other_part es 3 2 (λ e. omega arith)) (append-nil (of_thread es 2))
-          | inr three ↦ rw (three, other_part es 1 3 (λ e. omega arith), other_part es 2 3 (λ e. omega arith), own_part es 3) refl
+pub in_turn-thread : (graph : Graph) (entries : List Entry) → Going graph entries → (thread : ℕ) → of_thread (in_turn entries) thread ≡ of_thread entries thread
+in_turn-thread graph entries going thread =
+    parts entries thread ∙ elim (thread_or_not thread) as (λ _. of_thread (of_thread entries 1) thread ++ (of_thread (of_thread entries 2) thread ++ of_thread (of_thread entries 3) thread) ≡ of_thread entries thread) [
+      | inl is ↦ elim (thread_cases thread is) as (λ _. of_thread (of_thread entries 1) thread ++ (of_thread (of_thread entries 2) thread ++ of_thread (of_thread entries 3) thread) ≡ of_thread entries thread) [
+        | inl one ↦ rw (one, own_part entries 1, other_part entries 2 1 (λ e. omega arith), other_part entries 3 1 (λ e. omega arith)) (append-nil (of_thread entries 1))
+        | inr more ↦ elim more as (λ _. of_thread (of_thread entries 1) thread ++ (of_thread (of_thread entries 2) thread ++ of_thread (of_thread entries 3) thread) ≡ of_thread entries thread) [
+          | inl two ↦ rw (two, other_part entries 1 2 (λ e. omega arith), own_part entries 2, other_part entries 3 2 (λ e. omega arith)) (append-nil (of_thread entries 2))
+          | inr three ↦ rw (three, other_part entries 1 3 (λ e. omega arith), other_part entries 2 3 (λ e. omega arith), own_part entries 3) refl
         ]
       ]
       | inr out ↦
-          rw (other_part es 1 thread (λ e. out (omega arith, omega arith)), other_part es 2 thread (λ e. out (omega arith, omega arith)), other_part es 3 thread (λ e. out (omega arith, omega arith)))
+          rw (other_part entries 1 thread (λ e. out (omega arith, omega arith)), other_part entries 2 thread (λ e. out (omega arith, omega arith)), other_part entries 3 thread (λ e. out (omega arith, omega arith)))
           (sym (going.others thread out))
     ]
 
 -- The three parts, one after the other.
-pub record InTurn (es : List Entry) : Type 0 where
-  pub legal : EachIsLegal 16 256 (opening 3) (in_turn es)
-  pub graph : after (opening 3) es ≡ after (opening 3) (in_turn es)
+pub record InTurn (entries : List Entry) : Type 0 where
+  pub legal : EachIsLegal 16 256 (opening 3) (in_turn entries)
+  pub graph : after (opening 3) entries ≡ after (opening 3) (in_turn entries)
 
-pub turns : (es : List Entry) → Going (opening 3) es → EachIsLegal 16 256 (opening 3) es → AllByRecursion IsGiven es → InTurn es
+pub turns : (entries : List Entry) → Going (opening 3) entries → EachIsLegal 16 256 (opening 3) entries → AllByRecursion IsGiven entries → InTurn entries
 turns es going legal given =
     let g = opening 3 in
     let is_one : IsThread 1 = (omega arith, omega arith) in
@@ -173,10 +173,10 @@ turns es going legal given =
     each : (es : List Entry) (graph : Graph) → Same 1 (after (opening 3) es) graph → Same 2 (after (opening 3) es) graph → Same 3 (after (opening 3) es) graph → (t : ℕ) → IsThread t → Same t (after (opening 3) es) graph
     each es graph one two three t is =
         elim (thread_cases t is) [
-          | inl at ↦ subst (λ (u : ℕ). Same u (after (opening 3) es) graph) (sym at) one
+          | inl at ↦ subst (λ (thread : ℕ). Same thread (after (opening 3) es) graph) (sym at) one
           | inr more ↦ elim more [
-            | inl at ↦ subst (λ (u : ℕ). Same u (after (opening 3) es) graph) (sym at) two
-            | inr at ↦ subst (λ (u : ℕ). Same u (after (opening 3) es) graph) (sym at) three
+            | inl at ↦ subst (λ (thread : ℕ). Same thread (after (opening 3) es) graph) (sym at) two
+            | inr at ↦ subst (λ (thread : ℕ). Same thread (after (opening 3) es) graph) (sym at) three
           ]
         ]
 
@@ -204,37 +204,37 @@ runs_are_in_turn seed count es run =
 
 abbrev pub AskTheSame : List Entry → List Entry → Type 0
 AskTheSame [] [] = Unit {0}
-AskTheSame [] (y ∷ ys) = ⊥
-AskTheSame (x ∷ xs) [] = ⊥
-AskTheSame (x ∷ xs) (y ∷ ys) = (x.thread ≡ y.thread) × (x.command ≡ y.command) × AskTheSame xs ys
+AskTheSame [] (entry ∷ entries) = ⊥
+AskTheSame (entry ∷ entries) [] = ⊥
+AskTheSame (entry ∷ entries) (other_entry ∷ other_entries) = (entry.thread ≡ other_entry.thread) × (entry.command ≡ other_entry.command) × AskTheSame entries other_entries
 
 ask_append : (xs ys vs ws : List Entry) → AskTheSame xs ys → AskTheSame vs ws → AskTheSame (xs ++ vs) (ys ++ ws)
-ask_append [] [] vs ws h k = k
-ask_append [] (y ∷ ys) vs ws h k = absurd h
-ask_append (x ∷ xs) [] vs ws h k = absurd h
-ask_append (x ∷ xs) (y ∷ ys) vs ws h k = (h.0, h.1, ask_append xs ys vs ws h.2 k)
+ask_append [] [] entries other_entries ask_the_same k = k
+ask_append [] (entry ∷ rest) entries other_entries ask_the_same k = absurd ask_the_same
+ask_append (entry ∷ rest) [] entries other_entries ask_the_same k = absurd ask_the_same
+ask_append (entry ∷ rest) (other_entry ∷ ys) entries other_entries ask_the_same k = (ask_the_same.0, ask_the_same.1, ask_append rest ys entries other_entries ask_the_same.2 k)
 
-ask_one : (t : ℕ) (xs ys : List Entry) → AreOf t xs → AreOf t ys → commands_of xs ≡ commands_of ys → AskTheSame xs ys
-ask_one t [] [] h k same = tt
-ask_one t [] (y ∷ ys) h k same = cc
-ask_one t (x ∷ xs) [] h k same = cc
-ask_one t (x ∷ xs) (y ∷ ys) h k same =
-    let head : x.command ≡ y.command = cc in
-    let rest : commands_of xs ≡ commands_of ys = cc in
-    (h.0 ∙ sym k.0, head, ask_one t xs ys h.1 k.1 rest)
+ask_one : (t : ℕ) (entries other_entries : List Entry) → AreOf t entries → AreOf t other_entries → commands_of entries ≡ commands_of other_entries → AskTheSame entries other_entries
+ask_one t [] [] are_of k same = tt
+ask_one t [] (entry ∷ entries) are_of k same = cc
+ask_one t (entry ∷ entries) [] are_of k same = cc
+ask_one t (entry ∷ entries) (other_entry ∷ other_entries) are_of k same =
+    let head : entry.command ≡ other_entry.command = cc in
+    let rest : commands_of entries ≡ commands_of other_entries = cc in
+    (are_of.0 ∙ sym k.0, head, ask_one t entries other_entries are_of.1 k.1 rest)
 
-one_answer : (graph : Graph) (xs ys : List Entry) → AskTheSame xs ys → EachIsLegal 16 256 graph xs → EachIsLegal 16 256 graph ys → AllByRecursion IsGiven xs → AllByRecursion IsGiven ys → xs ≡ ys
-one_answer graph [] [] ask a b c d = refl
-one_answer graph [] (y ∷ ys) ask a b c d = absurd ask
-one_answer graph (x ∷ xs) [] ask a b c d = absurd ask
-one_answer graph (x ∷ xs) (y ∷ ys) ask a b c d =
-    let outcomes : (outcome graph x.thread x.command).reply ≡ (outcome graph y.thread y.command).reply =
-    ap (λ t. (outcome graph t x.command).reply) ask.0 ∙ ap (λ k. (outcome graph y.thread k).reply) ask.1 in
-    let reply : x.reply ≡ y.reply = replied graph (after_entry graph x) x a.0 c.0 ∙ outcomes ∙ sym (replied graph (after_entry graph y) y b.0 d.0) in
-    let same : x ≡ y = λ i. record { thread = ask.0 i; command = ask.1 i; reply = reply i } in
-    let legal : EachIsLegal 16 256 (after_entry graph x) ys = subst (λ (entry : Entry). EachIsLegal 16 256 (after_entry graph entry) ys) (sym same) b.1 in
-    let rest = one_answer (after_entry graph x) xs ys ask.2 a.1 legal c.1 d.1 in
-    ap (λ e. e ∷ xs) same ∙ ap (λ l. y ∷ l) rest
+one_answer : (graph : Graph) (entries other_entries : List Entry) → AskTheSame entries other_entries → EachIsLegal 16 256 graph entries → EachIsLegal 16 256 graph other_entries → AllByRecursion IsGiven entries → AllByRecursion IsGiven other_entries → entries ≡ other_entries
+one_answer graph [] [] ask each_is_legal b all d = refl
+one_answer graph [] (entry ∷ entries) ask each_is_legal b all d = absurd ask
+one_answer graph (entry ∷ entries) [] ask each_is_legal b all d = absurd ask
+one_answer graph (other_entry ∷ entries) (y ∷ other_entries) ask each_is_legal b all d =
+    let outcomes : (outcome graph other_entry.thread other_entry.command).reply ≡ (outcome graph y.thread y.command).reply =
+    ap (λ t. (outcome graph t other_entry.command).reply) ask.0 ∙ ap (λ k. (outcome graph y.thread k).reply) ask.1 in
+    let reply : other_entry.reply ≡ y.reply = replied graph (after_entry graph other_entry) other_entry each_is_legal.0 all.0 ∙ outcomes ∙ sym (replied graph (after_entry graph y) y b.0 d.0) in
+    let same : other_entry ≡ y = λ i. record { thread = ask.0 i; command = ask.1 i; reply = reply i } in
+    let legal : EachIsLegal 16 256 (after_entry graph other_entry) other_entries = subst (λ (entry : Entry). EachIsLegal 16 256 (after_entry graph entry) other_entries) (sym same) b.1 in
+    let rest = one_answer (after_entry graph other_entry) entries other_entries ask.2 each_is_legal.1 legal all.1 d.1 in
+    ap (λ e. e ∷ entries) same ∙ ap (λ l. y ∷ l) rest
 
 pub one_in_turn : OneInTurn
 one_in_turn seed count a b first second =

@@ -15,46 +15,46 @@ before_not name other_name ab ba =
       | inr x ↦ elim ba [ inl y ↦ omega (arith, x.0, y) | inr y ↦ omega (arith, x.1, y.1) ]
     ]
 
-before_each : (name : Name) (ns : List Name) (other_name : Name) → InOrder (name ∷ ns) → Contains ns other_name → IsBefore name other_name
+before_each : (name : Name) (names : List Name) (other_name : Name) → InOrder (name ∷ names) → Contains names other_name → IsBefore name other_name
 before_each name [] other_name order there = absurd (Contains-nil other_name there)
-before_each name (n ∷ ns) other_name order there =
-    elim (Contains-cons_cases n ns other_name there) [
+before_each name (n ∷ names) other_name order there =
+    elim (Contains-cons_cases n names other_name there) [
       | inl is ↦ subst (IsBefore name) is order.0
-      | inr later ↦ before_join name n other_name order.0 (before_each n ns other_name order.1 later)
+      | inr later ↦ before_join name n other_name order.0 (before_each n names other_name order.1 later)
     ]
 
-order_rest : (name : Name) (ns : List Name) → InOrder (name ∷ ns) → InOrder ns
+order_rest : (name : Name) (names : List Name) → InOrder (name ∷ names) → InOrder names
 order_rest name [] order = tt
-order_rest name (n ∷ ns) order = order.1
+order_rest name (other_name ∷ names) order = order.1
 
 abbrev pub AreAmong : List Name → List Name → Type 0
-AreAmong xs ys = (name : Name) → Contains xs name → Contains ys name
+AreAmong names other_names = (name : Name) → Contains names name → Contains other_names name
 
-among_rest : (name other_name : Name) (xs ys : List Name) → name ≡ other_name → InOrder (name ∷ xs) → AreAmong (name ∷ xs) (other_name ∷ ys) → AreAmong xs ys
-among_rest name other_name xs ys same order among x there =
-    elim (Contains-cons_cases other_name ys x (among x (Contains-append_right (name ∷ []) xs x there))) [
-      | inl is ↦ let before : IsBefore name name = subst (IsBefore name) (sym (same ∙ is)) (before_each name xs x order there) in absurd (before_not name name before before)
+among_rest : (name other_name : Name) (names other_names : List Name) → name ≡ other_name → InOrder (name ∷ names) → AreAmong (name ∷ names) (other_name ∷ other_names) → AreAmong names other_names
+among_rest name other_name names other_names same order among x there =
+    elim (Contains-cons_cases other_name other_names x (among x (Contains-append_right (name ∷ []) names x there))) [
+      | inl is ↦ let before : IsBefore name name = subst (IsBefore name) (sym (same ∙ is)) (before_each name names x order there) in absurd (before_not name name before before)
       | inr later ↦ later
     ]
 
-same_heads : (name other_name : Name) (xs ys : List Name) → InOrder (name ∷ xs) → InOrder (other_name ∷ ys) → AreAmong (name ∷ xs) (other_name ∷ ys) → AreAmong (other_name ∷ ys) (name ∷ xs) → name ≡ other_name
-same_heads name other_name xs ys first second there back =
-    elim (Contains-cons_cases other_name ys name (there name (0, omega arith, refl))) [
+same_heads : (name other_name : Name) (names other_names : List Name) → InOrder (name ∷ names) → InOrder (other_name ∷ other_names) → AreAmong (name ∷ names) (other_name ∷ other_names) → AreAmong (other_name ∷ other_names) (name ∷ names) → name ≡ other_name
+same_heads name other_name names other_names first second there back =
+    elim (Contains-cons_cases other_name other_names name (there name (0, omega arith, refl))) [
       | inl is ↦ sym is
-      | inr later ↦ elim (Contains-cons_cases name xs other_name (back other_name (0, omega arith, refl))) [
+      | inr later ↦ elim (Contains-cons_cases name names other_name (back other_name (0, omega arith, refl))) [
         | inl is ↦ is
-        | inr other ↦ absurd (before_not name other_name (before_each name xs other_name first other) (before_each other_name ys name second later))
+        | inr other ↦ absurd (before_not name other_name (before_each name names other_name first other) (before_each other_name other_names name second later))
       ]
     ]
 
-one_order : (xs ys : List Name) → InOrder xs → InOrder ys → AreAmong xs ys → AreAmong ys xs → xs ≡ ys
+one_order : (names other_names : List Name) → InOrder names → InOrder other_names → AreAmong names other_names → AreAmong other_names names → names ≡ other_names
 one_order [] [] first second there back = refl
-one_order [] (b ∷ ys) first second there back = absurd (Contains-nil b (back b (0, omega arith, refl)))
-one_order (a ∷ xs) [] first second there back = absurd (Contains-nil a (there a (0, omega arith, refl)))
-one_order (a ∷ xs) (b ∷ ys) first second there back =
-    let same = same_heads a b xs ys first second there back in
-    let rest = one_order xs ys (order_rest a xs first) (order_rest b ys second) (among_rest a b xs ys same first there) (among_rest b a ys xs (sym same) second back) in
-    ap (λ n. n ∷ xs) same ∙ ap (λ l. b ∷ l) rest
+one_order [] (name ∷ names) first second there back = absurd (Contains-nil name (back name (0, omega arith, refl)))
+one_order (name ∷ names) [] first second there back = absurd (Contains-nil name (there name (0, omega arith, refl)))
+one_order (name ∷ names) (other_name ∷ other_names) first second there back =
+    let same = same_heads name other_name names other_names first second there back in
+    let rest = one_order names other_names (order_rest name names first) (order_rest other_name other_names second) (among_rest name other_name names other_names same first there) (among_rest other_name name other_names names (sym same) second back) in
+    ap (λ n. n ∷ names) same ∙ ap (λ l. other_name ∷ l) rest
 
-pub one_reach : (graph : Graph) (xs ys : List Name) → IsReach graph xs → IsReach graph ys → xs ≡ ys
-one_reach graph xs ys a b = one_order xs ys a.in_order b.in_order (λ n there. b.all n (a.only n there)) (λ n there. a.all n (b.only n there))
+pub one_reach : (graph : Graph) (names other_names : List Name) → IsReach graph names → IsReach graph other_names → names ≡ other_names
+one_reach graph names other_names reach b = one_order names other_names reach.in_order b.in_order (λ n there. b.all n (reach.only n there)) (λ n there. reach.all n (b.only n there))

@@ -1,10 +1,11 @@
 -- How the workload begins.
-use Rattle.std.proofs.Common.{ℕ, zero, suc, ◌≡◌, ◌≤◌, ◌⊎◌, Bool, true, false, List, [], ◌∷◌, ◌++◌, length, get_or, Some, None, refl, ap, ◌∙◌, sym, subst, inl, inr, arith}
+use Rattle.std.proofs.Common.{ℕ, zero, suc, ◌≡◌, ◌≤◌, ◌⊎◌, Bool, true, false, List, [], ◌∷◌, length, get_or, Some, None, refl, ap, ◌∙◌, sym, subst, inl, inr, arith}
 use Rattle.std.specs.Prelude.{if◌then◌else◌, ◌&&◌, ◌==◌, nat_le}
 use Rattle.std.specs.List.{AllByRecursion, flat_map, range_with_len}
 use Rattle.std.proofs.lemmas.Bool.{cases_lt, ne_eqb, false≢true}
 use Rattle.std.proofs.lemmas.Bool.Decides.{leb_tells}
 use Rattle.std.proofs.lemmas.List.{get_or_past}
+use Rattle.shen_graph.proofs.Lists.{all_append}
 use Rattle.shen_graph.specs.declared.command.Command.TheVariants.{Set}
 use Rattle.shen_graph.specs.Graph.{Object, named, hub, opening}
 use Rattle.shen_graph.specs.Reach.{size}
@@ -25,9 +26,9 @@ thread_cases t is =
 
 -- three tests together
 third_false : (a b c : Bool) → c ≡ false → (a && b && c) ≡ false
-third_false true true c e = e
-third_false true false c e = refl
-third_false false b c e = refl
+third_false true true c same = same
+third_false true false c same = refl
+third_false false b c same = refl
 
 first_two : (a b c : Bool) → (a && b && c) ≡ true → (a ≡ true) × (b ≡ true)
 first_two true true c e = (refl, refl)
@@ -35,19 +36,19 @@ first_two true false c e = absurd (false≢true e)
 first_two false b c e = absurd (false≢true e)
 
 from_test : (m n : ℕ) → nat_le m n ≡ true → m ≤ n
-from_test m n e = elim (leb_tells m n) [ inl w ↦ w.1 | inr w ↦ absurd (false≢true (sym w.0 ∙ e)) ]
+from_test m n same = elim (leb_tells m n) [ inl w ↦ w.1 | inr w ↦ absurd (false≢true (sym w.0 ∙ same)) ]
 
-pub begins_none : (thread r : ℕ) → 1 ≤ r → (opening 3).root thread r ≡ None
-begins_none thread r low =
-    let e : (nat_le 1 thread && nat_le thread 3 && (r == 0)) ≡ false = third_false (nat_le 1 thread) (nat_le thread 3) (r == 0) (ne_eqb r 0 (λ (none : r ≡ 0). omega (arith, low))) in
+pub begins_none : (thread index : ℕ) → 1 ≤ index → (opening 3).root thread index ≡ None
+begins_none thread index low =
+    let e : (nat_le 1 thread && nat_le thread 3 && (index == 0)) ≡ false = third_false (nat_le 1 thread) (nat_le thread 3) (index == 0) (ne_eqb index 0 (λ (none : index ≡ 0). omega (arith, low))) in
     rw e refl
 
-begins_out : (thread r : ℕ) → (IsThread thread → ⊥) → (opening 3).root thread r ≡ None
-begins_out thread r out = at (nat_le 1 thread && nat_le thread 3 && (r == 0)) refl
+begins_out : (thread index : ℕ) → (IsThread thread → ⊥) → (opening 3).root thread index ≡ None
+begins_out thread index out = at (nat_le 1 thread && nat_le thread 3 && (index == 0)) refl
   where
-    at : (b : _) → (nat_le 1 thread && nat_le thread 3 && (r == 0)) ≡ b → (if b then Some hub else None) ≡ None
+    at : (b : _) → (nat_le 1 thread && nat_le thread 3 && (index == 0)) ≡ b → (if b then Some hub else None) ≡ None
     at true is =
-        let both = first_two (nat_le 1 thread) (nat_le thread 3) (r == 0) is in
+        let both = first_two (nat_le 1 thread) (nat_le thread 3) (index == 0) is in
         absurd (out (from_test 1 thread both.0, from_test thread 3 both.1))
     at false is = refl
 
@@ -63,46 +64,42 @@ tidy_opening = record {
   hub_size = refl;
   hub_nums = refl;
   links = λ f. subst (IsLink f) (sym (none_in 16 f)) tt;
-  threads = λ t is. record {
-    hub_root = elim (thread_cases t is) as (λ _. (opening 3).root t 0 ≡ Some hub) [
+  threads = λ thread is. record {
+    hub_root = elim (thread_cases thread is) as (λ _. (opening 3).root thread 0 ≡ Some hub) [
       | inl one ↦ rw one refl
-      | inr more ↦ elim more as (λ _. (opening 3).root t 0 ≡ Some hub) [ inl two ↦ rw two refl | inr three ↦ rw three refl ]
+      | inr more ↦ elim more as (λ _. (opening 3).root thread 0 ≡ Some hub) [ inl two ↦ rw two refl | inr three ↦ rw three refl ]
     ];
-    box_root = subst (IsBox t) (sym (begins_none t 1 (omega arith))) tt;
-    leaf_root = λ r above. subst (IsLeaf t) (sym (begins_none t r (omega arith))) tt;
-    slots = λ f. subst (IsLeaf t) (sym (bare_field t 1 f is)) tt;
-    slot_count = subst (λ (object : Object). length object.refs ≤ 16) (sym (begins_bare t 1 is)) (omega arith);
-    leaves = λ n f above. bare_field t n f is;
-    small = λ n. subst (λ (object : Object). size object ≤ 19) (sym (begins_bare t n is)) (omega arith);
+    box_root = subst (IsBox thread) (sym (begins_none thread 1 (omega arith))) tt;
+    leaf_root = λ index above. subst (IsLeaf thread) (sym (begins_none thread index (omega arith))) tt;
+    slots = λ f. subst (IsLeaf thread) (sym (bare_field thread 1 f is)) tt;
+    slot_count = subst (λ (object : Object). length object.refs ≤ 16) (sym (begins_bare thread 1 is)) (omega arith);
+    leaves = λ n f above. bare_field thread n f is;
+    small = λ n. subst (λ (object : Object). size object ≤ 19) (sym (begins_bare thread n is)) (omega arith);
   };
-  high_root = λ t r above. begins_none t r (omega arith);
+  high_root = λ thread index above. begins_none thread index (omega arith);
   no_root = begins_out;
-  no_count = λ t out. refl;
+  no_count = λ thread out. refl;
   no_object = λ m out apart. rw apart refl;
   no_pin = λ t s. refl;
 }
 
 -- the commands after a thread's first
 
-pub all_append : {A : Type 0} (P : A → Type 0) (xs ys : List A) → AllByRecursion P xs → AllByRecursion P ys → AllByRecursion P (xs ++ ys)
-all_append P [] ys h k = k
-all_append P (x ∷ xs) ys h k = (h.0, all_append P xs ys h.1 k)
+round_later : (field seed i : ℕ) → AllByRecursion (IsLater field) (round seed i)
+round_later field seed i = (makes _ _ (omega arith), (writes _, (stores _, (drops, (loads _, (reads, (swaps _, (exchanges _, tt))))))))
 
-round_later : (t seed i : ℕ) → AllByRecursion (IsLater t) (round seed i)
-round_later t seed i = (makes _ _ (omega arith), (writes _, (stores _, (drops, (loads _, (reads, (swaps _, (exchanges _, tt))))))))
+rounds_later : (field seed : ℕ) (rounds : List ℕ) → AllByRecursion (IsLater field) (flat_map (round seed) rounds)
+rounds_later field seed [] = tt
+rounds_later field seed (i ∷ rounds) = all_append (IsLater field) (round seed i) (flat_map (round seed) rounds) (round_later field seed i) (rounds_later field seed rounds)
 
-rounds_later : (t seed : ℕ) (rounds : List ℕ) → AllByRecursion (IsLater t) (flat_map (round seed) rounds)
-rounds_later t seed [] = tt
-rounds_later t seed (i ∷ rounds) = all_append (IsLater t) (round seed i) (flat_map (round seed) rounds) (round_later t seed i) (rounds_later t seed rounds)
+pub script_later : (seed count field : ℕ) → AllByRecursion (IsLater field) (Set shared_hub field own_box ∷ flat_map (round seed) (range_with_len 0 count))
+script_later seed count field = (links, rounds_later field seed (range_with_len 0 count))
 
-pub script_later : (seed count t : ℕ) → AllByRecursion (IsLater t) (Set shared_hub t own_box ∷ flat_map (round seed) (range_with_len 0 count))
-script_later seed count t = (links, rounds_later t seed (range_with_len 0 count))
-
-pub script_is : (seed count t : ℕ) → IsThread t → script_of (churn_scripts seed count) t ≡ churn_script seed count t
-script_is seed count t is =
-    elim (thread_cases t is) as (λ _. script_of (churn_scripts seed count) t ≡ churn_script seed count t) [
+pub script_is : (seed count thread : ℕ) → IsThread thread → script_of (churn_scripts seed count) thread ≡ churn_script seed count thread
+script_is seed count thread is =
+    elim (thread_cases thread is) as (λ _. script_of (churn_scripts seed count) thread ≡ churn_script seed count thread) [
       | inl one ↦ rw one refl
-      | inr more ↦ elim more as (λ _. script_of (churn_scripts seed count) t ≡ churn_script seed count t) [ inl two ↦ rw two refl | inr three ↦ rw three refl ]
+      | inr more ↦ elim more as (λ _. script_of (churn_scripts seed count) thread ≡ churn_script seed count thread) [ inl two ↦ rw two refl | inr three ↦ rw three refl ]
     ]
 
 pub script_none : (seed count t : ℕ) → (IsThread t → ⊥) → script_of (churn_scripts seed count) t ≡ []
@@ -113,13 +110,13 @@ script_none seed count (suc t) out =
       | inr past ↦ get_or_past (churn_scripts seed count) t [] (omega arith)
     ]
 
-nothing_of : (es : List Entry) → commands_of es ≡ [] → es ≡ []
+nothing_of : (entries : List Entry) → commands_of entries ≡ [] → entries ≡ []
 nothing_of [] is = refl
-nothing_of (e ∷ es) is = cc
+nothing_of (entry ∷ entries) is = cc
 
 -- a history that follows the scripts begins with all of them ahead
-pub going_opening : (seed count : ℕ) (es : List Entry) → Follows (churn_scripts seed count) es → Going (opening 3) es
-going_opening seed count es follows = record {
-  ahead = λ t is. inl (refl, (Set shared_hub t own_box ∷ flat_map (round seed) (range_with_len 0 count), follows t ∙ script_is seed count t is, script_later seed count t));
-  others = λ t out. nothing_of (of_thread es t) (follows t ∙ script_none seed count t out);
+pub going_opening : (seed count : ℕ) (entries : List Entry) → Follows (churn_scripts seed count) entries → Going (opening 3) entries
+going_opening seed count entries follows = record {
+  ahead = λ thread is. inl (refl, (Set shared_hub thread own_box ∷ flat_map (round seed) (range_with_len 0 count), follows thread ∙ script_is seed count thread is, script_later seed count thread));
+  others = λ t out. nothing_of (of_thread entries t) (follows t ∙ script_none seed count t out);
 }

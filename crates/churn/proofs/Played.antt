@@ -21,38 +21,38 @@ use Rattle.churn.proofs.OneAfterAnother.{AreOf, all_of, none_of, given_append, g
 -- the commands of a thread, each with its outcome
 abbrev pub played : Graph → ℕ → List Command → List Entry
 played graph t [] = []
-played graph t (c ∷ cs) = record { thread = t; command = c; reply = (outcome graph t c).reply } ∷ played (outcome graph t c).graph t cs
+played graph t (command ∷ script) = record { thread = t; command = command; reply = (outcome graph t command).reply } ∷ played (outcome graph t command).graph t script
 
 -- none of them is to pin an object
 abbrev PinNone : List Command → Type 0
-PinNone cs = AllByRecursion (λ c. IsPin c → ⊥) cs
+PinNone script = AllByRecursion (λ c. IsPin c → ⊥) script
 
-played_after : (graph : Graph) (t : ℕ) (command : Command) → (IsPin command → ⊥) → after_entry graph (record { thread = t; command = command; reply = (outcome graph t command).reply }) ≡ (outcome graph t command).graph
-played_after graph t command never = rw (outcome_given graph t command) (leaves_outcome graph t command (outcome graph t command).reply never)
+played_after : (graph : Graph) (thread : ℕ) (command : Command) → (IsPin command → ⊥) → after_entry graph (record { thread = thread; command = command; reply = (outcome graph thread command).reply }) ≡ (outcome graph thread command).graph
+played_after graph thread command never = rw (outcome_given graph thread command) (leaves_outcome graph thread command (outcome graph thread command).reply never)
 
-played_legal : (graph : Graph) (t : ℕ) (cs : List Command) → PinNone cs → EachIsLegal 16 256 graph (played graph t cs)
-played_legal graph t [] none = tt
-played_legal graph t (c ∷ cs) none =
-    let left = played_after graph t c none.0 in (
-      subst (λ (h : Graph). IsLegal 16 256 graph t c (outcome graph t c).reply h) (sym left) (inl (pins_none graph t c none.0, refl)),
-      subst (λ (h : Graph). EachIsLegal 16 256 h (played (outcome graph t c).graph t cs)) (sym left) (played_legal (outcome graph t c).graph t cs none.1),
+played_legal : (graph : Graph) (thread : ℕ) (script : List Command) → PinNone script → EachIsLegal 16 256 graph (played graph thread script)
+played_legal graph thread [] none = tt
+played_legal graph thread (command ∷ script) none =
+    let left = played_after graph thread command none.0 in (
+      subst (λ (other_graph : Graph). IsLegal 16 256 graph thread command (outcome graph thread command).reply other_graph) (sym left) (inl (pins_none graph thread command none.0, refl)),
+      subst (λ (other_graph : Graph). EachIsLegal 16 256 other_graph (played (outcome graph thread command).graph thread script)) (sym left) (played_legal (outcome graph thread command).graph thread script none.1),
     )
 
-played_given : (graph : Graph) (t : ℕ) (cs : List Command) → PinNone cs → AllByRecursion IsGiven (played graph t cs)
-played_given graph t [] none = tt
-played_given graph t (c ∷ cs) none =
-    ((λ full. let e : true ≡ false = ap is_full (sym full) ∙ outcome_given graph t c in cc, none.0), played_given (outcome graph t c).graph t cs none.1)
+played_given : (graph : Graph) (thread : ℕ) (script : List Command) → PinNone script → AllByRecursion IsGiven (played graph thread script)
+played_given graph thread [] none = tt
+played_given graph thread (command ∷ script) none =
+    ((λ full. let same : true ≡ false = ap is_full (sym full) ∙ outcome_given graph thread command in cc, none.0), played_given (outcome graph thread command).graph thread script none.1)
 
-script_pins_none : (seed count t : ℕ) → PinNone (churn_script seed count t)
-script_pins_none seed count t = (λ is. is, all_pin_none t (Set shared_hub t own_box ∷ flat_map (round seed) (range_with_len 0 count)) (script_later seed count t))
+script_pins_none : (seed count thread : ℕ) → PinNone (churn_script seed count thread)
+script_pins_none seed count thread = (λ is. is, all_pin_none thread (Set shared_hub thread own_box ∷ flat_map (round seed) (range_with_len 0 count)) (script_later seed count thread))
 
-played_of : (graph : Graph) (t : ℕ) (cs : List Command) → AreOf t (played graph t cs)
+played_of : (graph : Graph) (t : ℕ) (script : List Command) → AreOf t (played graph t script)
 played_of graph t [] = tt
-played_of graph t (c ∷ cs) = (refl, played_of (outcome graph t c).graph t cs)
+played_of graph t (command ∷ script) = (refl, played_of (outcome graph t command).graph t script)
 
-played_commands : (graph : Graph) (t : ℕ) (cs : List Command) → commands_of (played graph t cs) ≡ cs
+played_commands : (graph : Graph) (t : ℕ) (script : List Command) → commands_of (played graph t script) ≡ script
 played_commands graph t [] = refl
-played_commands graph t (c ∷ cs) = ap (λ l. c ∷ l) (played_commands (outcome graph t c).graph t cs)
+played_commands graph t (command ∷ script) = ap (λ l. command ∷ l) (played_commands (outcome graph t command).graph t script)
 
 -- three threads, one after the other
 abbrev pub first_part : ℕ → ℕ → List Entry
@@ -76,25 +76,25 @@ whole seed count = first_part seed count ++ (second_part seed count ++ third_par
 -- which of three parts a thread has
 
 pick : (a b c : List Entry) (thread : ℕ) → AreOf 1 a → AreOf 2 b → AreOf 3 c → of_thread (a ++ (b ++ c)) thread ≡ of_thread a thread ++ (of_thread b thread ++ of_thread c thread)
-pick a b c thread one two three =
-    filter-append (λ (entry : Entry). entry.thread == thread) a (b ++ c) ∙ ap (λ l. of_thread a thread ++ l) (filter-append (λ (entry : Entry). entry.thread == thread) b c)
+pick entries other_entries c thread are_of two three =
+    filter-append (λ (entry : Entry). entry.thread == thread) entries (other_entries ++ c) ∙ ap (λ l. of_thread entries thread ++ l) (filter-append (λ (entry : Entry). entry.thread == thread) other_entries c)
 
 picked_first : (a b c : List Entry) → AreOf 1 a → AreOf 2 b → AreOf 3 c → of_thread (a ++ (b ++ c)) 1 ≡ a
-picked_first a b c one two three =
-    pick a b c 1 one two three ∙ rw (all_of 1 a one, none_of 2 1 b (λ e. omega arith) two, none_of 3 1 c (λ e. omega arith) three) (append-nil a)
+picked_first entries other_entries c are_of two three =
+    pick entries other_entries c 1 are_of two three ∙ rw (all_of 1 entries are_of, none_of 2 1 other_entries (λ e. omega arith) two, none_of 3 1 c (λ e. omega arith) three) (append-nil entries)
 
 picked_second : (a b c : List Entry) → AreOf 1 a → AreOf 2 b → AreOf 3 c → of_thread (a ++ (b ++ c)) 2 ≡ b
-picked_second a b c one two three =
-    pick a b c 2 one two three ∙ rw (none_of 1 2 a (λ e. omega arith) one, all_of 2 b two, none_of 3 2 c (λ e. omega arith) three) (append-nil b)
+picked_second entries other_entries c are_of two three =
+    pick entries other_entries c 2 are_of two three ∙ rw (none_of 1 2 entries (λ e. omega arith) are_of, all_of 2 other_entries two, none_of 3 2 c (λ e. omega arith) three) (append-nil other_entries)
 
 picked_third : (a b c : List Entry) → AreOf 1 a → AreOf 2 b → AreOf 3 c → of_thread (a ++ (b ++ c)) 3 ≡ c
-picked_third a b c one two three =
-    pick a b c 3 one two three ∙ rw (none_of 1 3 a (λ e. omega arith) one, none_of 2 3 b (λ e. omega arith) two, all_of 3 c three) refl
+picked_third entries other_entries c are_of two three =
+    pick entries other_entries c 3 are_of two three ∙ rw (none_of 1 3 entries (λ e. omega arith) are_of, none_of 2 3 other_entries (λ e. omega arith) two, all_of 3 c three) refl
 
-picked_none : (a b c : List Entry) (t : ℕ) → (IsThread t → ⊥) → AreOf 1 a → AreOf 2 b → AreOf 3 c → of_thread (a ++ (b ++ c)) t ≡ []
-picked_none a b c t out one two three =
-    pick a b c t one two three
-    ∙ rw (none_of 1 t a (λ e. out (omega arith, omega arith)) one, none_of 2 t b (λ e. out (omega arith, omega arith)) two, none_of 3 t c (λ e. out (omega arith, omega arith)) three) refl
+picked_none : (a b c : List Entry) (thread : ℕ) → (IsThread thread → ⊥) → AreOf 1 a → AreOf 2 b → AreOf 3 c → of_thread (a ++ (b ++ c)) thread ≡ []
+picked_none entries other_entries c thread out are_of two three =
+    pick entries other_entries c thread are_of two three
+    ∙ rw (none_of 1 thread entries (λ e. out (omega arith, omega arith)) are_of, none_of 2 thread other_entries (λ e. out (omega arith, omega arith)) two, none_of 3 thread c (λ e. out (omega arith, omega arith)) three) refl
 
 whole_follows : (seed count : ℕ) → Follows (churn_scripts seed count) (whole seed count)
 whole_follows seed count t =

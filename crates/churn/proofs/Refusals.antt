@@ -27,30 +27,30 @@ use Rattle.churn.proofs.Bounds.{few_live}
 abbrev pub AsksFew : Command → Type 0
 AsksFew command = words_asked (Some command) ≤ 19
 
-later_few : (t : ℕ) (command : Command) → IsLater t command → AsksFew command
-later_few t _ (makes refs nums few) = omega arith
-later_few t _ (writes value) = omega arith
-later_few t _ links = omega arith
-later_few t _ (stores k) = omega arith
-later_few t _ drops = omega arith
-later_few t _ (loads k) = omega arith
-later_few t _ reads = omega arith
-later_few t _ (swaps k) = omega arith
-later_few t _ (exchanges k) = omega arith
+later_few : (field : ℕ) (command : Command) → IsLater field command → AsksFew command
+later_few field _ (makes refs nums few) = omega arith
+later_few field _ (writes value) = omega arith
+later_few field _ links = omega arith
+later_few field _ (stores k) = omega arith
+later_few field _ drops = omega arith
+later_few field _ (loads k) = omega arith
+later_few field _ reads = omega arith
+later_few field _ (swaps k) = omega arith
+later_few field _ (exchanges k) = omega arith
 
-all_few : (t : ℕ) (cs : List Command) → AllByRecursion (IsLater t) cs → AllByRecursion AsksFew cs
-all_few t [] h = tt
-all_few t (c ∷ cs) h = (later_few t c h.0, all_few t cs h.1)
+all_few : (field : ℕ) (script : List Command) → AllByRecursion (IsLater field) script → AllByRecursion AsksFew script
+all_few field [] all = tt
+all_few field (command ∷ script) all = (later_few field command all.0, all_few field script all.1)
 
-ahead_few : (graph : Graph) (t : ℕ) (command : Command) (cs : List Command) → Ahead graph t (command ∷ cs) → AsksFew command
-ahead_few graph t command cs ahead =
+ahead_few : (graph : Graph) (field : ℕ) (command : Command) (script : List Command) → Ahead graph field (command ∷ script) → AsksFew command
+ahead_few graph field command script ahead =
     elim ahead [
       | inl first ↦ let is : New 1 16 0 ≡ command = cc (first.1.1) in subst AsksFew is (omega arith)
-      | inr later ↦ later_few t command later.1.0
+      | inr later ↦ later_few field command later.1.0
     ]
 
-script_few : (seed count t : ℕ) → AllByRecursion AsksFew (churn_script seed count t)
-script_few seed count t = (omega arith, all_few t (Set shared_hub t own_box ∷ flat_map (round seed) (range_with_len 0 count)) (script_later seed count t))
+script_few : (seed count thread : ℕ) → AllByRecursion AsksFew (churn_script seed count thread)
+script_few seed count thread = (omega arith, all_few thread (Set shared_hub thread own_box ∷ flat_map (round seed) (range_with_len 0 count)) (script_later seed count thread))
 
 scripts_few : (seed count index : ℕ) → AllByRecursion AsksFew (get_or (churn_scripts seed count) index [])
 scripts_few seed count zero = script_few seed count 1
@@ -58,16 +58,16 @@ scripts_few seed count (suc zero) = script_few seed count 2
 scripts_few seed count (suc (suc zero)) = script_few seed count 3
 scripts_few seed count (suc (suc (suc index))) = subst (AllByRecursion AsksFew) (sym (get_or_past (churn_scripts seed count) (suc (suc (suc index))) [] (omega arith))) tt
 
-few_at : (cs : List Command) (index : ℕ) (command : Command) → AllByRecursion AsksFew cs → index < length cs → AsksFew (get_or cs index command)
-few_at [] index command h within = absurd (omega arith)
-few_at (c ∷ cs) zero command h within = h.0
-few_at (c ∷ cs) (suc index) command h within = few_at cs index command h.1 (omega arith)
+few_at : (script : List Command) (index : ℕ) (command : Command) → AllByRecursion AsksFew script → index < length script → AsksFew (get_or script index command)
+few_at [] index command all within = absurd (omega arith)
+few_at (other_command ∷ script) zero command all within = all.0
+few_at (other_command ∷ script) (suc index) command all within = few_at script index command all.1 (omega arith)
 
-asked_at : (cs : List Command) (index : ℕ) → AllByRecursion AsksFew cs → words_asked (slice_get cs index) ≤ 19
-asked_at cs index h =
-    elim (cases_lt index (length cs)) [
-      | inl within ↦ subst (λ (found : Option Command). words_asked found ≤ 19) (sym (slice_get-get_or cs index (New own_box 16 0) within)) (few_at cs index (New own_box 16 0) h within)
-      | inr past ↦ subst (λ (found : Option Command). words_asked found ≤ 19) (sym (slice_get_past cs index past)) (omega arith)
+asked_at : (script : List Command) (index : ℕ) → AllByRecursion AsksFew script → words_asked (slice_get script index) ≤ 19
+asked_at script index all =
+    elim (cases_lt index (length script)) [
+      | inl within ↦ subst (λ (found : Option Command). words_asked found ≤ 19) (sym (slice_get-get_or script index (New own_box 16 0) within)) (few_at script index (New own_box 16 0) all within)
+      | inr past ↦ subst (λ (found : Option Command). words_asked found ≤ 19) (sym (slice_get_past script index past)) (omega arith)
     ]
 
 -- what the other threads ask for
@@ -109,15 +109,15 @@ not_crowded seed count before entry tidy few crowded =
 
 pub after-append : (graph : Graph) (past more : List Entry) → after graph (past ++ more) ≡ after (after graph past) more
 after-append graph [] more = refl
-after-append graph (e ∷ past) more = after-append (after_entry graph e) past more
+after-append graph (entry ∷ past) more = after-append (after_entry graph entry) past more
 
 pub legal-append : (graph : Graph) (past more : List Entry) → EachIsLegal 16 256 graph past → EachIsLegal 16 256 (after graph past) more → EachIsLegal 16 256 graph (past ++ more)
 legal-append graph [] more legal rest = rest
-legal-append graph (e ∷ past) more legal rest = (legal.0, legal-append (after_entry graph e) past more legal.1 rest)
+legal-append graph (entry ∷ past) more legal rest = (legal.0, legal-append (after_entry graph entry) past more legal.1 rest)
 
-full_is : (r : Reply) → is_full r ≡ true → r ≡ reply.Full
+full_is : (answer : Reply) → is_full answer ≡ true → answer ≡ reply.Full
 full_is reply.Full is = refl
-full_is (reply.Ref n) is = cc
+full_is (reply.Ref name) is = cc
 full_is reply.Null is = cc
 full_is reply.Ok is = cc
 full_is reply.Yes is = cc
@@ -126,36 +126,36 @@ full_is (reply.Number n) is = cc
 full_is reply.Bad is = cc
 full_is (reply.At place) is = cc
 
-not_full_is : (r : Reply) → is_full r ≡ false → r ≢ reply.Full
-not_full_is r is full = let e : true ≡ false = ap is_full (sym full) ∙ is in cc
+not_full_is : (answer : Reply) → is_full answer ≡ false → answer ≢ reply.Full
+not_full_is answer is full = let same : true ≡ false = ap is_full (sym full) ∙ is in cc
 
-seam : (before es : List Entry) (entry : Entry) → slice_get (before ++ entry ∷ es) (length before) ≡ Some entry
-seam [] es entry = refl
-seam (x ∷ before) es entry = seam before es entry
+seam : (before entries : List Entry) (entry : Entry) → slice_get (before ++ entry ∷ entries) (length before) ≡ Some entry
+seam [] entries entry = refl
+seam (other_entry ∷ before) entries entry = seam before entries entry
 
 -- What a history says of its refusals, from one of its places on.
 abbrev pub NoneFrom : ℕ → ℕ → List Entry → Type 0
-NoneFrom seed count es = (before : List Entry) → AreCrowded 16 256 (opening 3) (churn_scripts seed count) (before ++ es) → Tidy (after (opening 3) before)
-    → Going (after (opening 3) before) es → EachIsLegal 16 256 (after (opening 3) before) es → AllByRecursion IsGiven es
+NoneFrom seed count entries = (before : List Entry) → AreCrowded 16 256 (opening 3) (churn_scripts seed count) (before ++ entries) → Tidy (after (opening 3) before)
+    → Going (after (opening 3) before) entries → EachIsLegal 16 256 (after (opening 3) before) entries → AllByRecursion IsGiven entries
 
-pub none_from : (seed count : ℕ) (es : List Entry) → NoneFrom seed count es
+pub none_from : (seed count : ℕ) (entries : List Entry) → NoneFrom seed count entries
 none_from seed count [] before crowded tidy going legal = tt
-none_from seed count (e ∷ es) before crowded tidy going legal = by_reply (is_full e.reply) refl (none_from seed count es)
+none_from seed count (entry ∷ other_entries) before crowded tidy going legal = by_reply (is_full entry.reply) refl (none_from seed count other_entries)
   where
-    by_reply : (holds : Bool) → is_full e.reply ≡ holds → NoneFrom seed count es → AllByRecursion IsGiven (e ∷ es)
+    by_reply : (holds : Bool) → is_full entry.reply ≡ holds → NoneFrom seed count other_entries → AllByRecursion IsGiven (entry ∷ other_entries)
     by_reply true is rest =
         let g = after (opening 3) before in
-        let c = crowded (length before) e (seam before es e) (full_is e.reply is) in
-        let here : IsCrowded 16 256 (opening 3) (churn_scripts seed count) before e =
-        subst (λ (entries : List Entry). IsCrowded 16 256 (opening 3) (churn_scripts seed count) entries e) (take-append_seam before (e ∷ es)) c in
-        absurd (not_crowded seed count before e tidy (ahead_few g e.thread e.command (commands_of (of_thread es e.thread)) (going-here g e es going)) here)
+        let c = crowded (length before) entry (seam before other_entries entry) (full_is entry.reply is) in
+        let here : IsCrowded 16 256 (opening 3) (churn_scripts seed count) before entry =
+        subst (λ (entries : List Entry). IsCrowded 16 256 (opening 3) (churn_scripts seed count) entries entry) (take-append_seam before (entry ∷ other_entries)) c in
+        absurd (not_crowded seed count before entry tidy (ahead_few g entry.thread entry.command (commands_of (of_thread other_entries entry.thread)) (going-here g entry other_entries going)) here)
     by_reply false is rest =
         let g = after (opening 3) before in
-        let given : IsGiven e =
-        (not_full_is e.reply is, ahead_pins_none g e.thread e.command (commands_of (of_thread es e.thread)) (going-here g e es going)) in
-        let w = entry-step g g e es tidy tidy (Same-itself e.thread g) going legal.0 given in
-        let now : after (opening 3) (before ++ e ∷ []) ≡ after_entry g e = after-append (opening 3) before (e ∷ []) in (
+        let given : IsGiven entry =
+        (not_full_is entry.reply is, ahead_pins_none g entry.thread entry.command (commands_of (of_thread other_entries entry.thread)) (going-here g entry other_entries going)) in
+        let w = entry-step g g entry other_entries tidy tidy (Same-itself entry.thread g) going legal.0 given in
+        let now : after (opening 3) (before ++ entry ∷ []) ≡ after_entry g entry = after-append (opening 3) before (entry ∷ []) in (
           given,
-          rest (before ++ e ∷ []) (subst (AreCrowded 16 256 (opening 3) (churn_scripts seed count)) (sym (append_assoc before (e ∷ []) es)) crowded)
-              (subst Tidy (sym now) w.moved.tidy) (subst (λ (graph : Graph). Going graph es) (sym now) w.going) (subst (λ (graph : Graph). EachIsLegal 16 256 graph es) (sym now) legal.1),
+          rest (before ++ entry ∷ []) (subst (AreCrowded 16 256 (opening 3) (churn_scripts seed count)) (sym (append_assoc before (entry ∷ []) other_entries)) crowded)
+              (subst Tidy (sym now) w.moved.tidy) (subst (λ (graph : Graph). Going graph other_entries) (sym now) w.going) (subst (λ (graph : Graph). EachIsLegal 16 256 graph other_entries) (sym now) legal.1),
         )

@@ -22,13 +22,13 @@ use Rattle.churn.proofs.Numbers.{run_below, run_long}
 use Rattle.churn.proofs.OneAfterAnother.{run_given, runs_are_in_turn, one_in_turn}
 
 -- the replies of the three threads are those of the run thread by thread
-replies_in_turn : (es : List Entry) (work : List (Option Progress)) (rows : List Row) → TellsRun es work rows → all_replies work ≡ history.replies_of (in_turn es)
-replies_in_turn es work rows tells =
+replies_in_turn : (entries : List Entry) (work : List (Option Progress)) (rows : List Row) → TellsRun entries work rows → all_replies work ≡ history.replies_of (in_turn entries)
+replies_in_turn entries work rows tells =
     let reply : Entry → Reply = λ e. e.reply in
     let one = tells.replies 0 (omega arith) in
     let two = tells.replies 1 (omega arith) in
     let three = tells.replies 2 (omega arith) in
-    rw (one, two, three) (sym (map-append reply (of_thread es 1) (of_thread es 2 ++ of_thread es 3) ∙ ap (λ l. map reply (of_thread es 1) ++ l) (map-append reply (of_thread es 2) (of_thread es 3))))
+    rw (one, two, three) (sym (map-append reply (of_thread entries 1) (of_thread entries 2 ++ of_thread entries 3) ∙ ap (λ l. map reply (of_thread entries 1) ++ l) (map-append reply (of_thread entries 2) (of_thread entries 3))))
 
 pub sums_up : (seed count : ℕ) (work : List (Option Progress)) (rows : List Row) → SumsUpRuns seed count work rows (summary_of seed count (all_replies work) rows)
 sums_up seed count work rows es run tells =
@@ -48,8 +48,8 @@ sums_up seed count work rows es run tells =
 
 words_of_rows : (graph : Graph) (names : List Name) → sum_by row_words (map (row_in graph) names) ≡ sum_by (λ n. size (named graph (Some n))) names
 words_of_rows graph [] = refl
-words_of_rows graph (n ∷ names) =
-    sum_by-cons row_words (row_in graph n) (map (row_in graph) names) ∙ ap (λ k. row_words (row_in graph n) + k) (words_of_rows graph names) ∙ sym (sum_by-cons (λ (name : Name). size (named graph (Some name))) n names)
+words_of_rows graph (other_name ∷ names) =
+    sum_by-cons row_words (row_in graph other_name) (map (row_in graph) names) ∙ ap (λ k. row_words (row_in graph other_name) + k) (words_of_rows graph names) ∙ sym (sum_by-cons (λ (name : Name). size (named graph (Some name))) other_name names)
 
 pub runs_can_be_summed_up : RunsCanBeSummedUp
 runs_can_be_summed_up seed count es work rows run tells =
@@ -71,7 +71,7 @@ runs_can_be_summed_up seed count es work rows run tells =
 pub one_summary : OneSummary
 one_summary seed count a b first second =
     let entries = one_in_turn seed count first.entries second.entries first.run second.run in
-    let s : IsSummary seed count second.entries a = subst (λ (es : List Entry). IsSummary seed count es a) entries first.summary in
+    let summary : IsSummary seed count second.entries a = subst (λ (es : List Entry). IsSummary seed count es a) entries first.summary in
     let g = after (opening 3) second.entries in
-    let names = one_reach g s.names second.summary.names s.reach second.summary.reach in
-    s.is ∙ ap (λ ns. summary_of seed count (history.replies_of second.entries) (map (row_in g) ns)) names ∙ sym second.summary.is
+    let names = one_reach g summary.names second.summary.names summary.reach second.summary.reach in
+    summary.is ∙ ap (λ ns. summary_of seed count (history.replies_of second.entries) (map (row_in g) ns)) names ∙ sym second.summary.is

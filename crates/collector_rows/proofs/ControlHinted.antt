@@ -10,12 +10,12 @@ use Rattle.collector_rows.specs.ControlReady.{is_ready}
 module _ (config : Config) where
   -- by where it stands: what holds of each spot but one in a unit, and of those behind a hint
   pub by_unit : (P : ControlSpot → ControlSpot → Type 0) (hint : Option ℕ) → ((spot : ControlSpot) → P spot spot) → ((at : _) → P (Working at) (hinted_by config hint (Working at))) → (spot : ControlSpot) → P spot (hinted_by config hint spot)
-  by_unit P hint same unit_case (Working at) = unit_case at
+  by_unit P hint same unit_case (Working spot) = unit_case spot
   by_unit P hint same unit_case LookLeft = same LookLeft
   by_unit P hint same unit_case StoreEnd = same StoreEnd
   by_unit P hint same unit_case LookAsked = same LookAsked
   by_unit P hint same unit_case LookFree = same LookFree
-  by_unit P hint same unit_case (Stopping at) = same (Stopping at)
+  by_unit P hint same unit_case (Stopping spot) = same (Stopping spot)
   by_unit P hint same unit_case (LoadWord index extent) = same (LoadWord index extent)
   by_unit P hint same unit_case (StoreWord index extent) = same (StoreWord index extent)
   by_unit P hint same unit_case Go = same Go

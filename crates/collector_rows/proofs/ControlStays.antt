@@ -43,12 +43,12 @@ loads_ready config extent index =
     of_two config (nat_lt (next_loaded config extent index) (image_words config)) (LoadWord (next_loaded config extent index) extent) (StoreWord 0 extent) (λ more. more) (λ all. lt-ltb _ _ (some_words config))
 
 -- where the seats are checked one after the other
-checks_on : (config : Config) (phase : ℕ) (holds : Bool) (x y : StopSpot) → (holds ≡ true → is_ready config (stopping config phase x) ≡ true) → (holds ≡ false → is_ready config (stopping config phase y) ≡ true) → is_ready config (stopping config phase (if holds then x else y)) ≡ true
-checks_on config phase true x y one other = one refl
-checks_on config phase false x y one other = other refl
+checks_on : (config : Config) (phase : ℕ) (holds : Bool) (spot other_spot : StopSpot) → (holds ≡ true → is_ready config (stopping config phase spot) ≡ true) → (holds ≡ false → is_ready config (stopping config phase other_spot) ≡ true) → is_ready config (stopping config phase (if holds then spot else other_spot)) ≡ true
+checks_on config phase true spot other_spot one other = one refl
+checks_on config phase false spot other_spot one other = other refl
 
 -- where it goes on with its unit
-works_on : (config : Config) (at : UnitSpot) → unit.is_ready config (control_seat config) at ≡ true → is_ready config (after_unit at) ≡ true
+works_on : (config : Config) (spot : UnitSpot) → unit.is_ready config (control_seat config) spot ≡ true → is_ready config (after_unit spot) ≡ true
 works_on config (Ended Worked) ready = refl
 works_on config (Ended NoneLeft) ready = refl
 works_on config _ ready = and_from _ _ ready refl
@@ -58,11 +58,11 @@ begins_ready : (config : Config) (phase cset : ℕ) → is_ready config (Working
 begins_ready config phase cset = by_phase (λ at. is_ready config (Working at) ≡ true) phase cset (λ one. refl) (λ no two. refl) (λ no other. refl)
 
 -- what is known of a spot is known of it under its own name
-pub ready_at : (config : Config) (spot at : ControlSpot) → spot ≡ at → is_ready config spot ≡ true → is_ready config at ≡ true
-ready_at config spot at is ready = subst (λ s. is_ready config s ≡ true) is ready
+pub ready_at : (config : Config) (spot other_spot : ControlSpot) → spot ≡ other_spot → is_ready config spot ≡ true → is_ready config other_spot ≡ true
+ready_at config spot other_spot is ready = subst (λ s. is_ready config s ≡ true) is ready
 
-pub goes_at : (config : Config) (spot at : ControlSpot) (got : ℕ) → spot ≡ at → UnitGoesOn config spot got → UnitGoesOn config at got
-goes_at config spot at got is goes = subst (λ s. UnitGoesOn config s got) is goes
+pub goes_at : (config : Config) (spot other_spot : ControlSpot) (got : ℕ) → spot ≡ other_spot → UnitGoesOn config spot got → UnitGoesOn config other_spot got
+goes_at config spot other_spot got is goes = subst (λ s. UnitGoesOn config s got) is goes
 
 pub stays_ready : StaysReady
 stays_ready c phase cset seen next LookLeft got ready goes = of_two c (got == 0) StoreEnd LookAsked (λ e. refl) (λ e. refl)
@@ -70,7 +70,7 @@ stays_ready c phase cset seen next StoreEnd got ready goes = refl
 stays_ready c phase cset seen next LookAsked got ready goes = of_two c (begins_pause phase got) (Stopping stop.Raise) (unasked phase cset) (λ e. refl)
     (λ e. of_two c (phase == 0) LookFree (Working (units.begins phase cset)) (λ e. refl) (λ e. begins_ready c phase cset))
 stays_ready c phase cset seen next LookFree got ready goes = of_two c (wants_pause c seen got) (Stopping stop.Raise) LookLeft (λ e. refl) (λ e. refl)
-stays_ready c phase cset seen next (Working at) got ready goes = works_on c (units.next_at c at got) (inside.stays_ready c (control_seat c) at got (and_parts _ _ ready).0 goes)
+stays_ready c phase cset seen next (Working spot) got ready goes = works_on c (units.next_at c spot got) (inside.stays_ready c (control_seat c) spot got (and_parts _ _ ready).0 goes)
 stays_ready c phase cset seen next (Stopping stop.Raise) got ready goes = (let some = c.in_range.least_mutators in grind (arith, nat_tests))
 stays_ready c phase cset seen next (Stopping (stop.Check seat)) got ready goes =
     checks_on c phase (got == 0) (after_seat c seat) (stop.Check seat)
@@ -92,8 +92,8 @@ accesses_inside c LookLeft value ready = placed_inside c (control_touch c LookLe
 accesses_inside c StoreEnd value ready = placed_inside c (control_touch c StoreEnd) tt
 accesses_inside c LookAsked value ready = placed_inside c (control_touch c LookAsked) tt
 accesses_inside c LookFree value ready = placed_inside c (control_touch c LookFree) tt
-accesses_inside c (Working at) value ready = inside.accesses_inside c (control_seat c) at (omega arith) (and_parts _ _ ready).0
-accesses_inside c (Stopping at) value ready = placed_inside c (stop_touch at) (is_word_true c (stop_touch at).word (and_parts _ _ (and_parts _ _ ready).0).0)
+accesses_inside c (Working spot) value ready = inside.accesses_inside c (control_seat c) spot (omega arith) (and_parts _ _ ready).0
+accesses_inside c (Stopping spot) value ready = placed_inside c (stop_touch spot) (is_word_true c (stop_touch spot).word (and_parts _ _ (and_parts _ _ ready).0).0)
 accesses_inside c (LoadWord index extent) value ready = (let below = ltb-true _ _ ready in omega (arith, below))
 accesses_inside c (StoreWord index extent) value ready = (let below = ltb-true _ _ ready in omega (arith, below))
 accesses_inside c Go value ready = placed_inside c (control_touch c Go) tt

@@ -19,9 +19,9 @@ by_test false P to back = ((λ e. to refl), (λ p. refl))
 pub never : (More ≡ Again) ↔ ⊥
 never = ((λ e. cc), (λ no. absurd no))
 
-pub stopping_waits : (config : Config) (seen : ℕ) (at : StopSpot) (got : ℕ) → (stopping_says at got ≡ Again) ↔ waits_at config seen (Stopping at) got
+pub stopping_waits : (config : Config) (seen : ℕ) (spot : StopSpot) (got : ℕ) → (stopping_says spot got ≡ Again) ↔ waits_at config seen (Stopping spot) got
 stopping_waits config seen (stop.Check seat) got = by_test (got == 0) _ (eqb-false got 0) (ne_eqb _ _)
-stopping_waits config seen at got = never
+stopping_waits config seen spot got = never
 
 -- a step of a unit says so where the work on the unit does
 pub working_waits : (said : Took) → (working_says said ≡ Again) ↔ (said ≡ Again)

@@ -36,7 +36,7 @@ padded_long n xs most =
 
 -- a list with one more at its end: what it reads there, before that, and behind it
 snoc_here : (xs : List ℕ) (x index : ℕ) → length xs ≡ index → slice_index (xs ++ x ∷ []) index ≡ x
-snoc_here xs x index long = ap (λ k. slice_index (xs ++ x ∷ []) k) (sym long) ∙ get_or-append_seam xs x [] 0
+snoc_here xs x index long = ap (λ index. slice_index (xs ++ x ∷ []) index) (sym long) ∙ get_or-append_seam xs x [] 0
 
 snoc_else : (xs : List ℕ) (x index : ℕ) → (index ≡ length xs → ⊥) → slice_index (xs ++ x ∷ []) index ≡ slice_index xs index
 snoc_else xs x index differs = ⊎_elim
@@ -55,10 +55,10 @@ module _ (h s : ℕ) where
   off_before i less = grind (arith, nat_tests, less)
 
   pub off_behind : (i : ℕ) → h + s ≤ i → off i ≡ true
-  off_behind i more = grind (arith, nat_tests, more)
+  off_behind i at_most = grind (arith, nat_tests, at_most)
 
   pub off_within : (i : ℕ) → h ≤ i → i < h + s → off i ≡ false
-  off_within i from to = grind (arith, nat_tests, from, to)
+  off_within i at_most below = grind (arith, nat_tests, at_most, below)
 
   off_beside : (i : ℕ) → (nat_le h i && nat_lt i (h + s)) ≡ false → off i ≡ true
   off_beside i none = ⊎_elim
@@ -71,9 +71,9 @@ module _ (h s : ℕ) where
 
 -- The first words of an image are of each extent: those that stand for a cycle.
 pub early : (config : Config) (extent : Extent) (k : ℕ) → k < 7 → is_of_extent config extent k ≡ true
-early config Whole k few = refl
-early config OffHeap k few = off_before (heap_index config) (heap_size config) k (omega (arith, few))
-early config Ahead k few = lt-ltb k (roots_index config) (omega (arith, few))
+early config Whole k below = refl
+early config OffHeap k below = off_before (heap_index config) (heap_size config) k (omega (arith, below))
+early config Ahead k below = lt-ltb k (roots_index config) (omega (arith, below))
 
 -- one index is the next of the extent behind another: none between is
 pub record IsNext (config : Config) (extent : Extent) (k next : ℕ) : Type 0 where
@@ -166,10 +166,10 @@ module _ (config : Config) (extent : Extent) (image : List ℕ) where
 
   -- and no other is
   pub stored_next_one : (k m n : ℕ) → IsStoredNext k m → IsStoredNext k n → m ≡ n
-  stored_next_one k m n one other = ⊎_elim
-      (λ (less : m < n). absurd (false≢true (sym (other.between m one.above less) ∙ one.here (let most = other.most in omega (arith, most, less)))))
+  stored_next_one k m n stored_next other = ⊎_elim
+      (λ (less : m < n). absurd (false≢true (sym (other.between m stored_next.above less) ∙ stored_next.here (let most = other.most in omega (arith, most, less)))))
       (λ (from : n ≤ m). ⊎_elim
-      (λ (more : n < m). absurd (false≢true (sym (one.between n other.above more) ∙ other.here (let most = one.most in omega (arith, most, more)))))
+      (λ (more : n < m). absurd (false≢true (sym (stored_next.between n other.above more) ∙ other.here (let most = stored_next.most in omega (arith, most, more)))))
       (λ (to : m ≤ n). omega (arith, from, to))
       (cases_lt n m))
       (cases_lt m n)
@@ -181,14 +181,14 @@ module _ (config : Config) (phase : ℕ) where
 
   -- two lists that read the same at the two words have one extent
   pub same_extent : (xs ys : List ℕ) → slice_index xs 3 ≡ slice_index ys 3 → slice_index xs 5 ≡ slice_index ys 5 → extent_by config phase xs ≡ extent_by config phase ys
-  same_extent xs ys evac ask = ap (λ k. extent_of_two k (slice_index xs 5)) evac ∙ ap (extent_of_two (slice_index ys 3)) ask
+  same_extent xs ys evac ask = ap (λ evac. extent_of_two evac (slice_index xs 5)) evac ∙ ap (extent_of_two (slice_index ys 3)) ask
 
   -- no room is needed by a word that reads 0, or that is another
   silent : (index got : ℕ) → (index ≡ 3 → got ≡ 0) → (index ≡ 5 → got ≡ 0) → says_room phase index got ≡ false
   silent index got evac ask = ⊎_elim
-      (λ (three : index ≡ 3). subst (λ k. says_room phase k got ≡ false) (sym three) (subst (λ k. says_room phase 3 k ≡ false) (sym (evac three)) (neither (phase == 2))))
+      (λ (three : index ≡ 3). subst (λ index. says_room phase index got ≡ false) (sym three) (subst (λ k. says_room phase 3 k ≡ false) (sym (evac three)) (neither (phase == 2))))
       (λ (not_3 : index ≢ 3). ⊎_elim
-      (λ (five : index ≡ 5). subst (λ k. says_room phase k got ≡ false) (sym five) (subst (λ k. says_room phase 5 k ≡ false) (sym (ask five)) refl))
+      (λ (five : index ≡ 5). subst (λ index. says_room phase index got ≡ false) (sym five) (subst (λ k. says_room phase 5 k ≡ false) (sym (ask five)) refl))
       (λ (not_5 : index ≢ 5).
       ap (λ holds. (holds && ((phase == 2) && is_out_of_room got)) || ((index == 5) && (bit_at got 1 == 1))) (ne_eqb index 3 not_3)
       ∙ ap (λ holds. holds && (bit_at got 1 == 1)) (ne_eqb index 5 not_5))
@@ -208,19 +208,19 @@ module _ (config : Config) (phase : ℕ) where
       (λ (three : index ≡ 3).
       let none : slice_index xs 5 ≡ 0 = get_or_past xs 5 0 (omega (arith, long, three)) in
       let before : slice_index xs 3 ≡ 0 = get_or_past xs 3 0 (omega (arith, long, three)) in
-      ap (λ k. extent_of_two k (slice_index (xs ++ got ∷ []) 5)) (snoc_here xs got 3 (long ∙ three))
+      ap (λ evac. extent_of_two evac (slice_index (xs ++ got ∷ []) 5)) (snoc_here xs got 3 (long ∙ three))
       ∙ ap (extent_of_two got) (snoc_else xs got 5 (λ e. omega (arith, e, long, three)) ∙ none)
       ∙ same_after 5 0 (extent_after phase 3 (first_extent config phase) got) (λ e. refl) (λ e. refl)
-      ∙ ap (λ e. extent_after phase 3 e got) (sym (ap (λ k. extent_of_two k (slice_index xs 5)) before ∙ ap (extent_of_two 0) none
+      ∙ ap (λ e. extent_after phase 3 e got) (sym (ap (λ evac. extent_of_two evac (slice_index xs 5)) before ∙ ap (extent_of_two 0) none
       ∙ same_after 5 0 (extent_after phase 3 (first_extent config phase) 0) (λ e. refl) (λ e. refl) ∙ same_after 3 0 (first_extent config phase) (λ e. refl) (λ e. refl)))
-      ∙ ap (λ k. extent_after phase k (extent_by config phase xs) got) (sym three))
+      ∙ ap (λ index. extent_after phase index (extent_by config phase xs) got) (sym three))
       (λ (not_3 : index ≢ 3). ⊎_elim
       (λ (five : index ≡ 5).
       let none : slice_index xs 5 ≡ 0 = get_or_past xs 5 0 (omega (arith, long, five)) in
-      ap (λ k. extent_of_two k (slice_index (xs ++ got ∷ []) 5)) (snoc_else xs got 3 (λ e. omega (arith, e, long, five)))
+      ap (λ evac. extent_of_two evac (slice_index (xs ++ got ∷ []) 5)) (snoc_else xs got 3 (λ e. omega (arith, e, long, five)))
       ∙ ap (extent_of_two (slice_index xs 3)) (snoc_here xs got 5 (long ∙ five))
       ∙ ap (λ e. extent_after phase 5 e got) (sym (ap (extent_of_two (slice_index xs 3)) none ∙ same_after 5 0 (extent_after phase 3 (first_extent config phase) (slice_index xs 3)) (λ e. refl) (λ e. refl)))
-      ∙ ap (λ k. extent_after phase k (extent_by config phase xs) got) (sym five))
+      ∙ ap (λ index. extent_after phase index (extent_by config phase xs) got) (sym five))
       (λ (not_5 : index ≢ 5).
       same_extent (xs ++ got ∷ []) xs (snoc_else xs got 3 (λ e. not_3 (sym long ∙ sym e))) (snoc_else xs got 5 (λ e. not_5 (sym long ∙ sym e)))
       ∙ sym (same_after index got (extent_by config phase xs) (λ e. absurd (not_3 e)) (λ e. absurd (not_5 e))))

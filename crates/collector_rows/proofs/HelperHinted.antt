@@ -10,27 +10,27 @@ use Rattle.collector_rows.specs.HelperReady.{spot_fits, help_ready}
 
 module _ (config : Config) where
   pub hinted_fits : (hint : Option ℕ) (seat : ℕ) (spot : HelpSpot) → spot_fits config seat spot ≡ true → spot_fits config seat (hinted_by config hint spot) ≡ true
-  hinted_fits hint seat (Working at) fits = unit.working config hint seat at fits
+  hinted_fits hint seat (Working spot) fits = unit.working config hint seat spot fits
   hinted_fits hint seat LoadEnd fits = fits
-  hinted_fits hint seat (Entering at) fits = fits
+  hinted_fits hint seat (Entering spot) fits = fits
   hinted_fits hint seat LoadPhase fits = fits
   hinted_fits hint seat (LoadSet phase) fits = fits
   hinted_fits hint seat Leave fits = fits
   hinted_fits hint seat Gone fits = fits
 
   pub hinted_gone : (hint : Option ℕ) (spot : HelpSpot) → is_gone (hinted_by config hint spot) ≡ is_gone spot
-  hinted_gone hint (Working at) = refl
+  hinted_gone hint (Working spot) = refl
   hinted_gone hint LoadEnd = refl
-  hinted_gone hint (Entering at) = refl
+  hinted_gone hint (Entering spot) = refl
   hinted_gone hint LoadPhase = refl
   hinted_gone hint (LoadSet phase) = refl
   hinted_gone hint Leave = refl
   hinted_gone hint Gone = refl
 
   pub hinted_not : (hint : Option ℕ) (spot : HelpSpot) → takes_hint spot ≡ false → hinted_by config hint spot ≡ spot
-  hinted_not hint (Working at) none = ap Working (unit.hinted_not config hint at none)
+  hinted_not hint (Working spot) none = ap Working (unit.hinted_not config hint spot none)
   hinted_not hint LoadEnd none = refl
-  hinted_not hint (Entering at) none = refl
+  hinted_not hint (Entering spot) none = refl
   hinted_not hint LoadPhase none = refl
   hinted_not hint (LoadSet phase) none = refl
   hinted_not hint Leave none = refl

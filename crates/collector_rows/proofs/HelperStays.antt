@@ -22,17 +22,17 @@ use Rattle.collector_rows.specs.HelperRows.{touch_at, next_spot, after_enter, af
 use Rattle.collector_rows.specs.HelperReady.{spot_fits, UnitGoesOn, AccessesAreInside, StaysReady}
 
 -- of two spots
-of_two : (config : Config) (seat : ℕ) (holds : Bool) (x y : HelpSpot) → spot_fits config seat x ≡ true → spot_fits config seat y ≡ true → spot_fits config seat (if holds then x else y) ≡ true
-of_two config seat true x y one other = one
-of_two config seat false x y one other = other
+of_two : (config : Config) (seat : ℕ) (holds : Bool) (spot other_spot : HelpSpot) → spot_fits config seat spot ≡ true → spot_fits config seat other_spot ≡ true → spot_fits config seat (if holds then spot else other_spot) ≡ true
+of_two config seat true spot other_spot one other = one
+of_two config seat false spot other_spot one other = other
 
 -- where it goes on entering
-enters_on : (config : Config) (seat : ℕ) (holds : Bool) (x y : EnterSpot) → spot_fits config seat (after_enter x) ≡ true → spot_fits config seat (after_enter y) ≡ true → spot_fits config seat (after_enter (if holds then x else y)) ≡ true
-enters_on config seat true x y one other = one
-enters_on config seat false x y one other = other
+enters_on : (config : Config) (seat : ℕ) (holds : Bool) (spot other_spot : EnterSpot) → spot_fits config seat (after_enter spot) ≡ true → spot_fits config seat (after_enter other_spot) ≡ true → spot_fits config seat (after_enter (if holds then spot else other_spot)) ≡ true
+enters_on config seat true spot other_spot one other = one
+enters_on config seat false spot other_spot one other = other
 
 -- where it goes on with its unit
-works_on : (config : Config) (seat : ℕ) (at : UnitSpot) → unit.is_ready config seat at ≡ true → spot_fits config seat (after_unit at) ≡ true
+works_on : (config : Config) (seat : ℕ) (spot : UnitSpot) → unit.is_ready config seat spot ≡ true → spot_fits config seat (after_unit spot) ≡ true
 works_on config seat (Ended unit) ready = refl
 works_on config seat _ ready = and_from _ _ ready refl
 
@@ -49,16 +49,16 @@ spot_stays config seat (Entering enter.Await) got fits goes = enters_on config s
 spot_stays config seat (Entering enter.Inside) got fits goes = refl
 spot_stays config seat LoadPhase got fits goes = of_two config seat (got == 0) Leave (LoadSet got) refl refl
 spot_stays config seat (LoadSet phase) got fits goes = begins_fit config seat phase got
-spot_stays config seat (Working at) got fits goes = works_on config seat (units.next_at config at got) (inside.stays_ready config seat at got (and_parts _ _ fits).0 goes)
+spot_stays config seat (Working spot) got fits goes = works_on config seat (units.next_at config spot got) (inside.stays_ready config seat spot got (and_parts _ _ fits).0 goes)
 spot_stays config seat Leave got fits goes = refl
 spot_stays config seat Gone got fits goes = refl
 
 -- what is known of a spot is known of it under its own name
-pub fits_at : (config : Config) (seat : ℕ) (spot at : HelpSpot) → spot ≡ at → spot_fits config seat spot ≡ true → spot_fits config seat at ≡ true
-fits_at config seat spot at is fits = subst (λ s. spot_fits config seat s ≡ true) is fits
+pub fits_at : (config : Config) (seat : ℕ) (spot other_spot : HelpSpot) → spot ≡ other_spot → spot_fits config seat spot ≡ true → spot_fits config seat other_spot ≡ true
+fits_at config seat spot other_spot is fits = subst (λ s. spot_fits config seat s ≡ true) is fits
 
-pub goes_at : (config : Config) (seat : ℕ) (spot at : HelpSpot) (got : ℕ) → spot ≡ at → UnitGoesOn config seat spot got → UnitGoesOn config seat at got
-goes_at config seat spot at got is goes = subst (λ s. UnitGoesOn config seat s got) is goes
+pub goes_at : (config : Config) (seat : ℕ) (spot other_spot : HelpSpot) (got : ℕ) → spot ≡ other_spot → UnitGoesOn config seat spot got → UnitGoesOn config seat other_spot got
+goes_at config seat spot other_spot got is goes = subst (λ s. UnitGoesOn config seat s got) is goes
 
 pub stays_ready : StaysReady
 stays_ready c h got ready goes = let parts = and_parts _ _ ready in and_from _ _ parts.0 (spot_stays c h.seat h.spot got parts.1 goes)
@@ -73,7 +73,7 @@ spot_inside config seat (Entering enter.Look) below fits = placed_inside config 
 spot_inside config seat (Entering enter.Lower) below fits = placed_inside config (touch_at config seat (Entering enter.Lower)) below
 spot_inside config seat (Entering enter.Await) below fits = placed_inside config (touch_at config seat (Entering enter.Await)) tt
 spot_inside config seat (Entering enter.Inside) below fits = placed_inside config (touch_at config seat (Entering enter.Inside)) tt
-spot_inside config seat (Working at) below fits = inside.accesses_inside config seat at (omega (arith, below)) (and_parts _ _ fits).0
+spot_inside config seat (Working spot) below fits = inside.accesses_inside config seat spot (omega (arith, below)) (and_parts _ _ fits).0
 spot_inside config seat Leave below fits = placed_inside config (touch_at config seat Leave) below
 spot_inside config seat spot below fits = placed_inside config (touch_at config seat spot) tt
 

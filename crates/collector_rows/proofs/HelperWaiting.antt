@@ -27,9 +27,9 @@ by_test false P to back = ((λ e. to refl), (λ p. refl))
 never : (More ≡ Again) ↔ ⊥
 never = ((λ e. cc), (λ no. absurd no))
 
-pub entering_waits : (config : Config) (at : EnterSpot) (got : ℕ) → (entering_says at got ≡ Again) ↔ waits_at config (Entering at) got
+pub entering_waits : (config : Config) (spot : EnterSpot) (got : ℕ) → (entering_says spot got ≡ Again) ↔ waits_at config (Entering spot) got
 entering_waits config enter.Await got = by_test (got == 0) _ (eqb-false got 0) (ne_eqb _ _)
-entering_waits config at got = never
+entering_waits config spot got = never
 
 -- in a unit it says so where no unit was left, or where the work on it does
 says_waits : (next : UnitSpot) (said : Took) → (working_says next said ≡ Again) ↔ ((next ≡ Ended NoneLeft) ⊎ (said ≡ Again))
@@ -41,10 +41,10 @@ says_waits _ Done = (λ e. absurd (cc (e)), λ one. absurd (⊎_elim (λ same. c
 says_waits _ More = (λ e. absurd (cc (e)), λ one. absurd (⊎_elim (λ same. cc (same)) (λ same. cc (same)) one))
 says_waits _ Again = (λ e. inr refl, λ one. refl)
 
-pub working_waits : (config : Config) (seat : ℕ) (at : UnitSpot) (got : ℕ) (said : Took) → spot_fits config seat (Working at) ≡ true → (said ≡ Again) ↔ ends.WaitsAt at got
-    → (working_says (units.next_at config at got) said ≡ Again) ↔ waits_at config (Working at) got
-working_waits config seat at got said fits waits =
-    let says = says_waits (units.next_at config at got) said in
-    let parts = and_parts (unit.is_ready config seat at) _ fits in
-    let left = none_left config seat at got parts.0 (λ same. cc (same, parts.1)) in
+pub working_waits : (config : Config) (seat : ℕ) (spot : UnitSpot) (got : ℕ) (said : Took) → spot_fits config seat (Working spot) ≡ true → (said ≡ Again) ↔ ends.WaitsAt spot got
+    → (working_says (units.next_at config spot got) said ≡ Again) ↔ waits_at config (Working spot) got
+working_waits config seat spot got said fits waits =
+    let says = says_waits (units.next_at config spot got) said in
+    let parts = and_parts (unit.is_ready config seat spot) _ fits in
+    let left = none_left config seat spot got parts.0 (λ same. cc (same, parts.1)) in
     (λ e. ⊎_elim (λ none. inl (left.0 none)) (λ again. inr (waits.0 again)) (says.0 e), λ one. says.1 (⊎_elim (λ none. inl (left.1 none)) (λ again. inr (waits.1 again)) one))

@@ -16,8 +16,8 @@ use Rattle.collector_rows.specs.ControlRows.{control_seat, access_with, next_spo
 -- whether the numbers of a spot are in range: the next access of a unit can be made, a seat is one of a mutator or a helper, an
 -- index one of a word of the image
 abbrev pub is_ready : Config → ControlSpot → Bool
-is_ready config (Working at) = unit.is_ready config (control_seat config) at && (if units.is_ended at then false else true)
-is_ready config (Stopping at) = touch_fits config (stop_touch at) && (if is_stopped at then false else true)
+is_ready config (Working spot) = unit.is_ready config (control_seat config) spot && (if units.is_ended spot then false else true)
+is_ready config (Stopping spot) = touch_fits config (stop_touch spot) && (if is_stopped spot then false else true)
 is_ready config (LoadWord index extent) = nat_lt index (image_words config)
 is_ready config (StoreWord index extent) = nat_lt index (image_words config)
 is_ready config _ = true
@@ -32,7 +32,7 @@ AccessesAreInside = (config : Config) (spot : ControlSpot) (value : ℕ) → is_
 
 -- a unit can go on from a word
 abbrev pub UnitGoesOn : Config → ControlSpot → ℕ → Type 0
-UnitGoesOn config (Working at) got = unit.IsFit config (control_seat config) at got
+UnitGoesOn config (Working spot) got = unit.IsFit config (control_seat config) spot got
 UnitGoesOn config _ got = Unit {0}
 
 -- and they are in range at the next spot, whatever word is found; in a unit, where the unit can go on from it

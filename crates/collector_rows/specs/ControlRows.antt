@@ -53,12 +53,12 @@ is_gone _ = false
 
 -- whether it takes hints: it is about to claim a unit of marking
 abbrev pub takes_hint : ControlSpot → Bool
-takes_hint (Working at) = units.takes_hint at
+takes_hint (Working spot) = units.takes_hint spot
 takes_hint _ = false
 
 -- from where it goes on with a hint, if it has one
 abbrev pub hinted_by : Config → Option ℕ → ControlSpot → ControlSpot
-hinted_by config hint (Working at) = Working (units.hinted_by config hint at)
+hinted_by config hint (Working spot) = Working (units.hinted_by config hint spot)
 hinted_by config hint spot = spot
 
 -- the control as it goes on with a hint, if it has one: the hint is one more that it has taken
@@ -69,7 +69,7 @@ control_hinted config (Some address) control =
 
 -- the address that the next access makes grey, if it does so
 abbrev pub greys_at : ControlSpot → Option ℕ
-greys_at (Working at) = units.greys_at at
+greys_at (Working spot) = units.greys_at spot
 greys_at _ = None
 
 -- the place of the next access. There is none at the end, where it is named as that of the last access
@@ -78,8 +78,8 @@ control_place LookLeft = place.I0
 control_place StoreEnd = place.IE
 control_place LookAsked = place.I1
 control_place LookFree = place.I2
-control_place (Working at) = units.place_at at
-control_place (Stopping at) = stop_place at
+control_place (Working spot) = units.place_at spot
+control_place (Stopping spot) = stop_place spot
 control_place (LoadWord index extent) = place.PL
 control_place (StoreWord index extent) = place.PS
 control_place Go = place.P3
@@ -91,8 +91,8 @@ control_touch config LookLeft = touch Left loads
 control_touch config StoreEnd = touch End (stores 1)
 control_touch config LookAsked = touch Ask loads
 control_touch config LookFree = touch Free loads
-control_touch config (Working at) = units.touch_at config (control_seat config) at
-control_touch config (Stopping at) = stop_touch at
+control_touch config (Working spot) = units.touch_at config (control_seat config) spot
+control_touch config (Stopping spot) = stop_touch spot
 control_touch config Go = go_touch
 control_touch config _ = touch Left loads
 
@@ -114,13 +114,13 @@ control_access config control = access_with config control.spot (word_stored con
 -- where it stands that stops the other machines: once they are stopped it loads the image
 abbrev pub stopping : Config → ℕ → StopSpot → ControlSpot
 stopping config phase stop.Stopped = LoadWord 0 (first_extent config phase)
-stopping config phase at = Stopping at
+stopping config phase spot = Stopping spot
 
 -- where it stands that works on a unit: once that is done it looks again what is to do, and once none was left it makes a pause
 abbrev pub after_unit : UnitSpot → ControlSpot
 after_unit (Ended Worked) = LookLeft
 after_unit (Ended NoneLeft) = Stopping stop.Raise
-after_unit at = Working at
+after_unit spot = Working spot
 
 -- whether a pause is asked for: by bit 1 because a mutator waits for room, and in phase 0 by bit 0 for a cycle
 abbrev pub begins_pause : ℕ → ℕ → Bool
@@ -148,8 +148,8 @@ next_spot config phase cset seen next LookLeft got = if got == 0 then StoreEnd e
 next_spot config phase cset seen next StoreEnd got = Gone
 next_spot config phase cset seen next LookAsked got = if begins_pause phase got then Stopping stop.Raise else unasked phase cset
 next_spot config phase cset seen next LookFree got = if wants_pause config seen got then Stopping stop.Raise else LookLeft
-next_spot config phase cset seen next (Working at) got = after_unit (units.next_at config at got)
-next_spot config phase cset seen next (Stopping at) got = stopping config phase (stop_next config at got)
+next_spot config phase cset seen next (Working spot) got = after_unit (units.next_at config spot got)
+next_spot config phase cset seen next (Stopping spot) got = stopping config phase (stop_next config spot got)
 next_spot config phase cset seen next (LoadWord index extent) got = after_load config (extent_after phase index extent got) index
 next_spot config phase cset seen next (StoreWord index extent) got = after_store config extent next
 next_spot config phase cset seen next Go got = LookLeft
@@ -212,7 +212,7 @@ control_next change config control got = record {
 -- what a step of stopping says: again while the seat is not out
 abbrev pub stopping_says : StopSpot → ℕ → Took
 stopping_says (stop.Check seat) got = if got == 0 then More else Again
-stopping_says at got = More
+stopping_says spot got = More
 
 -- what a step of a unit says that says this by itself: once the unit is done, or none was left, there is more to do
 abbrev pub working_says : Took → Took
@@ -222,8 +222,8 @@ working_says said = said
 -- what a step says that finds this word: that it waits, that another machine was faster, or that there is more to do
 abbrev pub says_at : Config → ℕ → ControlSpot → ℕ → Took
 says_at config seen LookFree got = if wants_pause config seen got then More else Again
-says_at config seen (Working at) got = working_says (units.says_at config at got)
-says_at config seen (Stopping at) got = stopping_says at got
+says_at config seen (Working spot) got = working_says (units.says_at config spot got)
+says_at config seen (Stopping spot) got = stopping_says spot got
 says_at config seen _ got = More
 
 abbrev pub control_says : Config → Controlling → ℕ → Took

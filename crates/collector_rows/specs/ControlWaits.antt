@@ -12,7 +12,7 @@ use Rattle.collector_rows.specs.ControlRows.{Controlling}
 -- the seat is not out. At each other place it never waits.
 abbrev pub waits_at : Config → ℕ → ControlSpot → ℕ → Type 0
 waits_at config seen LookFree got = (config.regions ≤ 2 * members_below got 64) ⊎ (got ≡ seen)
-waits_at config seen (Working at) got = units.WaitsAt at got
+waits_at config seen (Working spot) got = units.WaitsAt spot got
 waits_at config seen (Stopping (Check seat)) got = got ≢ 0
 waits_at config seen _ got = ⊥
 

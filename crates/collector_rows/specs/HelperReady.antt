@@ -15,8 +15,8 @@ use Rattle.collector_rows.specs.HelperRows.{Helping, help_touch, help_next, take
 -- whether the numbers of a spot are in range, for the helper of a seat: an entering or a unit has not ended, and its next access can
 -- be made
 abbrev pub spot_fits : Config → ℕ → HelpSpot → Bool
-spot_fits config seat (Entering at) = if is_entered at then false else true
-spot_fits config seat (Working at) = unit.is_ready config seat at && (if units.is_ended at then false else true)
+spot_fits config seat (Entering spot) = if is_entered spot then false else true
+spot_fits config seat (Working spot) = unit.is_ready config seat spot && (if units.is_ended spot then false else true)
 spot_fits config seat _ = true
 
 -- whether a helper's next access can be made: its seat is that of a mutator or a helper, and the numbers of its spot are in range
@@ -29,7 +29,7 @@ IsHintFor config spot hint = ForSome hint (λ address. IsWord config (Heap addre
 
 -- a unit can go on from a word
 abbrev pub UnitGoesOn : Config → ℕ → HelpSpot → ℕ → Type 0
-UnitGoesOn config seat (Working at) got = unit.IsFit config seat at got
+UnitGoesOn config seat (Working spot) got = unit.IsFit config seat spot got
 UnitGoesOn config seat _ got = Unit {0}
 
 -- the word is fit: in a unit it is one from which the unit can go on, and anywhere else each word is

@@ -39,12 +39,12 @@ is_gone _ = false
 
 -- whether it takes hints: it is about to claim a unit of marking
 abbrev pub takes_hint : HelpSpot → Bool
-takes_hint (Working at) = units.takes_hint at
+takes_hint (Working spot) = units.takes_hint spot
 takes_hint _ = false
 
 -- from where it goes on with a hint, if it has one
 abbrev pub hinted_by : Config → Option ℕ → HelpSpot → HelpSpot
-hinted_by config hint (Working at) = Working (units.hinted_by config hint at)
+hinted_by config hint (Working spot) = Working (units.hinted_by config hint spot)
 hinted_by config hint spot = spot
 
 -- the helper as it goes on with a hint, if it has one: the hint is one more that it has taken
@@ -54,16 +54,16 @@ help_hinted config (Some address) helper = record { seat = helper.seat; spot = h
 
 -- the address that the next access makes grey, if it does so
 abbrev pub greys_at : HelpSpot → Option ℕ
-greys_at (Working at) = units.greys_at at
+greys_at (Working spot) = units.greys_at spot
 greys_at _ = None
 
 -- the place of the next access. There is none at the end, where it is named as that of the last access
 abbrev pub place_at : HelpSpot → Place
 place_at LoadEnd = place.H0
-place_at (Entering at) = enter_place at
+place_at (Entering spot) = enter_place spot
 place_at LoadPhase = place.PH
 place_at (LoadSet phase) = place.CS
-place_at (Working at) = units.place_at at
+place_at (Working spot) = units.place_at spot
 place_at Leave = place.LV
 place_at Gone = place.H0
 
@@ -73,10 +73,10 @@ help_place helper = place_at helper.spot
 -- the next access, of the helper of a seat
 abbrev pub touch_at : Config → ℕ → HelpSpot → Touch
 touch_at config seat LoadEnd = touch End loads
-touch_at config seat (Entering at) = enter_touch seat at
+touch_at config seat (Entering spot) = enter_touch seat spot
 touch_at config seat LoadPhase = touch Phase loads
 touch_at config seat (LoadSet phase) = touch Cset loads
-touch_at config seat (Working at) = units.touch_at config seat at
+touch_at config seat (Working spot) = units.touch_at config seat spot
 touch_at config seat Leave = leave_touch seat
 touch_at config seat Gone = touch End loads
 
@@ -86,20 +86,20 @@ help_touch config helper = touch_at config helper.seat helper.spot
 -- where it stands that enters: once it is inside it loads the phase
 abbrev pub after_enter : EnterSpot → HelpSpot
 after_enter enter.Inside = LoadPhase
-after_enter at = Entering at
+after_enter spot = Entering spot
 
 -- where it stands that works on a unit: once that is done, or none was left, it leaves
 abbrev pub after_unit : UnitSpot → HelpSpot
 after_unit (Ended unit) = Leave
-after_unit at = Working at
+after_unit spot = Working spot
 
 -- where it stands next, by the word that was found
 abbrev pub next_spot : Config → HelpSpot → ℕ → HelpSpot
 next_spot config LoadEnd got = if got == 1 then Gone else Entering enter.Raise
-next_spot config (Entering at) got = after_enter (enter_next at got)
+next_spot config (Entering spot) got = after_enter (enter_next spot got)
 next_spot config LoadPhase got = if got == idle_phase then Leave else LoadSet got
 next_spot config (LoadSet phase) got = Working (units.begins phase got)
-next_spot config (Working at) got = after_unit (units.next_at config at got)
+next_spot config (Working spot) got = after_unit (units.next_at config spot got)
 next_spot config Leave got = LoadEnd
 next_spot config Gone got = Gone
 
@@ -110,7 +110,7 @@ help_next config helper got = record { seat = helper.seat; spot = next_spot conf
 -- what a step of entering says: it waits while a pause is wanted
 abbrev pub entering_says : EnterSpot → ℕ → Took
 entering_says enter.Await got = if got == 0 then More else Again
-entering_says at got = More
+entering_says spot got = More
 
 -- what a step of a unit says that leads there and says this by itself: where no unit was left the helper waits, and once a unit is done
 -- there is more to do
@@ -121,9 +121,9 @@ working_says next said = said
 
 -- what a step says that finds this word: that it waits, that another was faster, or that there is more to do
 abbrev pub says_at : Config → HelpSpot → ℕ → Took
-says_at config (Entering at) got = entering_says at got
+says_at config (Entering spot) got = entering_says spot got
 says_at config LoadPhase got = if got == idle_phase then Again else More
-says_at config (Working at) got = working_says (units.next_at config at got) (units.says_at config at got)
+says_at config (Working spot) got = working_says (units.next_at config spot got) (units.says_at config spot got)
 says_at config _ got = More
 
 abbrev pub help_says : Config → Helping → ℕ → Took

@@ -13,7 +13,7 @@ use Rattle.collector_rows.specs.HelperRows.{Helping}
 abbrev pub waits_at : Config → HelpSpot → ℕ → Type 0
 waits_at config (Entering Await) got = got ≢ 0
 waits_at config LoadPhase got = got ≡ idle_phase
-waits_at config (Working at) got = units.HasNoneLeft config at got ⊎ units.WaitsAt at got
+waits_at config (Working spot) got = units.HasNoneLeft config spot got ⊎ units.WaitsAt spot got
 waits_at config _ got = ⊥
 
 abbrev pub WaitsAt : Config → Helping → ℕ → Type 0

@@ -141,30 +141,19 @@ impl ControlSpot {
         ensures inside { table_index result < table_words config }
     {
         match self {
-            ControlSpot::LookLeft => Access::Load {
-                at: config.left_at(),
-            },
+            ControlSpot::LookLeft => Access::load(config.left_at()),
             // keeps IsEndWord
-            ControlSpot::StoreEnd => Access::Store {
-                at: config.end_at(),
-                value: 1,
-            },
-            ControlSpot::LookAsked => Access::Load {
-                at: config.ask_at(),
-            },
-            ControlSpot::LookFree => Access::Load {
-                at: config.free_at(),
-            },
+            ControlSpot::StoreEnd => Access::store(config.end_at(), 1),
+            ControlSpot::LookAsked => Access::load(config.ask_at()),
+            ControlSpot::LookFree => Access::load(config.free_at()),
             ControlSpot::Working { at } => at.access(config, seat_of(config)),
             ControlSpot::Stopping { at } => at.access(config),
-            ControlSpot::LoadWord { index, .. } => Access::Load {
-                at: config.image_start() + index,
-            },
+            ControlSpot::LoadWord { index, .. } => Access::load(config.image_start() + index),
             // keeps settled, IsAim, IsSeen and IsThread.short
-            ControlSpot::StoreWord { index, .. } => Access::Store {
-                at: config.image_start() + index,
-                value: word,
-            },
+            ControlSpot::StoreWord { index, .. } => Access::store(
+                config.image_start() + index,
+                word,
+            ),
             ControlSpot::Go => go_access(config),
             ControlSpot::Gone => unreachable!(),
         }

@@ -107,16 +107,10 @@ impl HelpSpot {
         ensures inside { table_index result < table_words config }
     {
         match self {
-            HelpSpot::LoadEnd => Access::Load {
-                at: config.end_at(),
-            },
+            HelpSpot::LoadEnd => Access::load(config.end_at()),
             HelpSpot::Entering { at } => at.access(config, seat),
-            HelpSpot::LoadPhase => Access::Load {
-                at: config.phase_at(),
-            },
-            HelpSpot::LoadSet { .. } => Access::Load {
-                at: config.cset_at(),
-            },
+            HelpSpot::LoadPhase => Access::load(config.phase_at()),
+            HelpSpot::LoadSet { .. } => Access::load(config.cset_at()),
             HelpSpot::Working { at } => at.access(config, seat),
             HelpSpot::Leave => leave_access(config, seat),
             HelpSpot::Gone => unreachable!(),

@@ -44,9 +44,9 @@ off_heap_goes config memory part of can = record {
   calm = need_same memory part (of.same Ask refl) (of.same Phase refl) (of.same Evac refl) ∙ can.calm;
   unmarked = (let idle : memory Phase ≡ 0 = of.same Phase refl ∙ can.idle in λ is. omega (arith, idle, is));
   roots = λ idle. record {
-    roots = λ t i below few. subst (IsNullOrInside config) (sym (of.same (Root t i) refl)) (can.roots.roots t i below few);
-    pins = λ t i below few. subst (IsNullOrInside config) (sym (of.same (Pin t i) refl)) (can.roots.pins t i below few);
-    answers = λ t below some. subst (IsNullOrInside config) (sym (of.same (Answer t) refl)) (can.roots.answers t below (subst (λ n. 1 < n) (of.same (Answer t) refl) some));
+    roots = λ mutator index below few. subst (IsNullOrInside config) (sym (of.same (Root mutator index) refl)) (can.roots.roots mutator index below few);
+    pins = λ mutator slot below few. subst (IsNullOrInside config) (sym (of.same (Pin mutator slot) refl)) (can.roots.pins mutator slot below few);
+    answers = λ mutator below some. subst (IsNullOrInside config) (sym (of.same (Answer mutator) refl)) (can.roots.answers mutator below (subst (λ n. 1 < n) (of.same (Answer mutator) refl) some));
   };
   buffers = buffers_of config memory part (λ seat. of.same (Current seat) refl) can.buffers;
   same_buffers = λ seat. of.same (Current seat) refl;
@@ -101,21 +101,21 @@ shown_at false true p y m made cleared left = made ∙ by_test (p == 0) refl
     by_test false is = refl
 
 -- what was loaded is a part of the image, ..
-pub part_of_all : (config : Config) (extent : Extent) (xs : List ℕ) → IsImagePart config extent xs (part_in config extent xs)
-part_of_all config extent xs k less = part_reads config extent xs k
+pub part_of_all : (config : Config) (extent : Extent) (whole : List ℕ) → IsImagePart config extent whole (part_in config extent whole)
+part_of_all config extent whole k less = part_reads config extent whole k
 
 -- .. and of what is left where those words were made 0 at which free words begin
-module _ (config : Config) (extent : Extent) (other : extent ≢ Whole) (xs ys starts : List ℕ) (long : length xs ≡ image_words config)
-    (cleared : (k : ℕ) → slice_index ys k ≡ (if has starts k then 0 else slice_index xs k)) (of_heap : AreHeapIndices config starts) where
+module _ (config : Config) (extent : Extent) (other : extent ≢ Whole) (image ys starts : List ℕ) (long : length image ≡ image_words config)
+    (cleared : (k : ℕ) → slice_index ys k ≡ (if has starts k then 0 else slice_index image k)) (of_heap : AreHeapIndices config starts) where
   abbrev part : List ℕ
-  part = part_in config extent xs
+  part = part_in config extent image
 
   -- the part is one of these too
   pub part_of_cleared : IsImagePart config extent ys part
-  part_of_cleared k less = part_reads config extent xs k ∙ by_test (is_of_extent config extent k) refl
+  part_of_cleared k less = part_reads config extent image k ∙ by_test (is_of_extent config extent k) refl
     where
-      by_test : (holds : Bool) → is_of_extent config extent k ≡ holds → (if holds then slice_index xs k else 0) ≡ (if holds then slice_index ys k else 0)
-      by_test true is = sym (cleared k ∙ cond-false (has starts k) 0 (slice_index xs k) (none_is_of config extent other starts of_heap k is))
+      by_test : (holds : Bool) → is_of_extent config extent k ≡ holds → (if holds then slice_index image k else 0) ≡ (if holds then slice_index ys k else 0)
+      by_test true is = sym (cleared k ∙ cond-false (has starts k) 0 (slice_index image k) (none_is_of config extent other starts of_heap k is))
       by_test false is = refl
 
   module _ (can : CanCollectPart config extent (image_view config part)) (are : AreStarts config (image_view config part) starts) where
@@ -127,7 +127,7 @@ module _ (config : Config) (extent : Extent) (other : extent ≢ Whole) (xs ys s
         made_reads config extent starts (collect_image config ys) k
         ∙ shown_at (is_of_extent config extent k) (has starts k) (slice_index (collect_image config part) k) (slice_index ys k) (slice_index (collect_image config ys) k)
         (made_by config extent other ys part part_of_cleared can k less)
-        (λ out among. cleared k ∙ cond-true (has starts k) 0 (slice_index xs k) among)
+        (λ out among. cleared k ∙ cond-true (has starts k) 0 (slice_index image k) among)
         (λ out none.
         left_by config part k less extent other can out (none_begins config (image_view config part) starts are k none (word_here config k less) (here_at config k less))
-        ∙ part_reads config extent xs k ∙ cond-false (is_of_extent config extent k) (slice_index xs k) 0 out))
+        ∙ part_reads config extent image k ∙ cond-false (is_of_extent config extent k) (slice_index image k) 0 out))

@@ -44,7 +44,7 @@ pub can_end : (config : Config) (memory : Word → ℕ) → CanPauseSome config 
 can_end config memory can on = ∥∥₁_map can (λ some. (some.0, some.1, some.2, some.3, some.4.holds, some.4.marking on))
 
 -- what holds of words holds of the same ones
-pub of-same : (P : Config → (Word → ℕ) → Type 0) (c d : Config) (memory other_memory : Word → ℕ) → d ≡ c → other_memory ≡ memory → P c memory → P d other_memory
+pub of-same : (P : Config → (Word → ℕ) → Type 0) (config other_config : Config) (memory other_memory : Word → ℕ) → other_config ≡ config → other_memory ≡ memory → P config memory → P other_config other_memory
 of-same P c d memory other_memory config words is = subst (λ e. P e other_memory) (sym config) (subst (P c) (sym words) is)
 
 -- What ends a cycle is finishing it, with a full collection where that falls short.
@@ -86,18 +86,18 @@ module _ (config : Config) (memory : Word → ℕ) where
   init_mark-next phase = fun_ext (λ word. sym (cond-true (memory Phase == 0) (init_marked config memory word) (busy word) (eq-eqb _ _ phase)))
 
   runs : memory Phase ≢ 0 → busy ≡ next_in_cycle config memory
-  runs some = fun_ext (λ word. sym (cond-false (memory Phase == 0) (init_marked config memory word) (busy word) (ne_eqb _ _ some)))
+  runs positive = fun_ext (λ word. sym (cond-false (memory Phase == 0) (init_marked config memory word) (busy word) (ne_eqb _ _ positive)))
 
   pub end_mark-next : memory Phase ≡ 1 → evac_next config memory ≡ next_in_cycle config memory
   end_mark-next phase = fun_ext (λ word. sym (cond-true (memory Phase == 1) (evac_next config memory word) (late word) (eq-eqb _ _ phase))) ∙ runs (omega (arith, phase))
 
   goes_on : memory Phase ≢ 0 → memory Phase ≢ 1 → late ≡ next_in_cycle config memory
-  goes_on some other = fun_ext (λ word. sym (cond-false (memory Phase == 1) (evac_next config memory word) (late word) (ne_eqb _ _ other))) ∙ runs some
+  goes_on positive other = fun_ext (λ word. sym (cond-false (memory Phase == 1) (evac_next config memory word) (late word) (ne_eqb _ _ other))) ∙ runs positive
 
   pub init_update-next : memory Phase ≡ 2 → init_updated config memory ≡ next_in_cycle config memory
   init_update-next phase =
       fun_ext (λ word. sym (cond-true (memory Phase == 2) (init_updated config memory word) (final_updated config memory word) (eq-eqb _ _ phase))) ∙ goes_on (omega (arith, phase)) (omega (arith, phase))
 
   pub final_update-next : memory Phase ≢ 0 → memory Phase ≢ 1 → memory Phase ≢ 2 → final_updated config memory ≡ next_in_cycle config memory
-  final_update-next some other last =
-      fun_ext (λ word. sym (cond-false (memory Phase == 2) (init_updated config memory word) (final_updated config memory word) (ne_eqb _ _ last))) ∙ goes_on some other
+  final_update-next positive other last =
+      fun_ext (λ word. sym (cond-false (memory Phase == 2) (init_updated config memory word) (final_updated config memory word) (ne_eqb _ _ last))) ∙ goes_on positive other

@@ -29,9 +29,9 @@ use Rattle.control.proofs.Collecting.{can_hold, can_inside}
 
 roots_in_part : (config : Config) (memory part : Word → ℕ) → IsPartOf is_off_heap memory part → HasRootsInside config memory → HasRootsInside config part
 roots_in_part config memory part of inside = record {
-  roots = λ t i below few. subst (IsNullOrInside config) (of.same (Root t i) refl) (inside.roots t i below few);
-  pins = λ t i below few. subst (IsNullOrInside config) (of.same (Pin t i) refl) (inside.pins t i below few);
-  answers = λ t below some. subst (IsNullOrInside config) (of.same (Answer t) refl) (inside.answers t below (subst (λ n. 1 < n) (sym (of.same (Answer t) refl)) some));
+  roots = λ mutator index below few. subst (IsNullOrInside config) (of.same (Root mutator index) refl) (inside.roots mutator index below few);
+  pins = λ mutator slot below few. subst (IsNullOrInside config) (of.same (Pin mutator slot) refl) (inside.pins mutator slot below few);
+  answers = λ mutator below some. subst (IsNullOrInside config) (of.same (Answer mutator) refl) (inside.answers mutator below (subst (λ n. 1 < n) (sym (of.same (Answer mutator) refl)) some));
 }
 
 buffers_in_part : (config : Config) (memory part : Word → ℕ) → ((seat : ℕ) → memory (Current seat) ≡ part (Current seat)) → AreInside config memory → AreInside config part

@@ -30,14 +30,14 @@ use Rattle.control.proofs.PartShown.{made_reads}
 use Rattle.control.proofs.Loaded.{goes_on, stays}
 
 -- a word of the new image that counts is seen
-counted_is_seen : (config : Config) (extent : Extent) (starts xs : List ℕ) (index : ℕ) → counts config extent (image_shown config extent starts xs) index ≡ true → is_seen config extent starts index ≡ true
-counted_is_seen config extent starts xs index counted = ⊎_elim
+counted_is_seen : (config : Config) (extent : Extent) (starts image : List ℕ) (index : ℕ) → counts config extent (image_shown config extent starts image) index ≡ true → is_seen config extent starts index ≡ true
+counted_is_seen config extent starts image index counted = ⊎_elim
     (λ (is : is_seen config extent starts index ≡ true). is)
     (λ (none : is_seen config extent starts index ≡ false). ⊎_elim
     (λ (of : is_of_extent config extent index ≡ true). or_left (is_of_extent config extent index) (has starts index) of)
-    (λ (some : not (slice_index (image_shown config extent starts xs) index == 0) ≡ true).
-    absurd (false≢true (sym (ap not (eq-eqb (slice_index (image_shown config extent starts xs) index) 0 (made_reads config extent starts xs index ∙ cond-false (is_seen config extent starts index) (slice_index xs index) 0 none))) ∙ some)))
-    (or_cases (is_of_extent config extent index) (not (slice_index (image_shown config extent starts xs) index == 0)) counted))
+    (λ (some : not (slice_index (image_shown config extent starts image) index == 0) ≡ true).
+    absurd (false≢true (sym (ap not (eq-eqb (slice_index (image_shown config extent starts image) index) 0 (made_reads config extent starts image index ∙ cond-false (is_seen config extent starts index) (slice_index image index) 0 none))) ∙ some)))
+    (or_cases (is_of_extent config extent index) (not (slice_index (image_shown config extent starts image) index == 0)) counted))
     (cases_Bool (is_seen config extent starts index))
 
 module _ (config : Config) (starts : List ℕ) where
@@ -46,12 +46,12 @@ module _ (config : Config) (starts : List ℕ) where
   either_own true spot other_spot one other = one refl
   either_own false spot other_spot one other = other refl
 
-  unit_own : (at : UnitSpot) → SeesOwn config (after_unit at) starts
+  unit_own : (spot : UnitSpot) → SeesOwn config (after_unit spot) starts
   unit_own (Ended Worked) = refl
   unit_own (Ended NoneLeft) = refl
   unit_own _ = refl
 
-  stopping_own : (phase : ℕ) (at : StopSpot) → SeesOwn config (stopping config phase at) starts
+  stopping_own : (phase : ℕ) (spot : StopSpot) → SeesOwn config (stopping config phase spot) starts
   stopping_own phase stop.Stopped = early config (first_extent config phase) 0 (omega arith)
   stopping_own phase _ = refl
 
@@ -61,86 +61,86 @@ module _ (config : Config) (starts : List ℕ) where
       (λ there. (next_is config extent index less).here (ltb-true (next_loaded config extent index) (image_words config) there))
       (λ last. or_left (is_of_extent config extent 0) (has starts 0) (early config extent 0 (omega arith)))
 
-  store_own : (extent : Extent) (xs : List ℕ) (index next : ℕ) → index < image_words config → next ≡ next_stored config extent (image_shown config extent starts xs) index → SeesOwn config (after_store config extent next) starts
-  store_own extent xs index next less is =
+  store_own : (extent : Extent) (image : List ℕ) (index next : ℕ) → index < image_words config → next ≡ next_stored config extent (image_shown config extent starts image) index → SeesOwn config (after_store config extent next) starts
+  store_own extent image index next less is =
       either_own (nat_lt next (image_words config)) (StoreWord next extent) Go
-      (λ there. counted_is_seen config extent starts xs next
-      (subst (λ n. counts config extent (image_shown config extent starts xs) n ≡ true) (sym is)
-      ((stored_next_is config extent (image_shown config extent starts xs) index less).here (subst (λ n. n < image_words config) is (ltb-true next (image_words config) there)))))
+      (λ there. counted_is_seen config extent starts image next
+      (subst (λ n. counts config extent (image_shown config extent starts image) n ≡ true) (sym is)
+      ((stored_next_is config extent (image_shown config extent starts image) index less).here (subst (λ n. n < image_words config) is (ltb-true next (image_words config) there)))))
       (λ last. refl)
 
   -- at its next spot a control sees the word that it loads or stores: but for a word that it loads, with what it saw before
-  pub next_own : (phase cset seen next : ℕ) (spot : ControlSpot) (got : ℕ) (xs : List ℕ) → is_ready config spot ≡ true → next ≡ stored_next config spot (words_seen config spot starts xs)
+  pub next_own : (phase cset seen next : ℕ) (spot : ControlSpot) (got : ℕ) (image : List ℕ) → is_ready config spot ≡ true → next ≡ stored_next config spot (words_seen config spot starts image)
       → SeesOwn config (next_spot config phase cset seen next spot got) starts
-  next_own phase cset seen next LookLeft got xs ready is = either_own (got == 0) StoreEnd LookAsked (λ h. refl) (λ h. refl)
-  next_own phase cset seen next StoreEnd got xs ready is = refl
-  next_own phase cset seen next LookAsked got xs ready is =
+  next_own phase cset seen next LookLeft got image ready is = either_own (got == 0) StoreEnd LookAsked (λ h. refl) (λ h. refl)
+  next_own phase cset seen next StoreEnd got image ready is = refl
+  next_own phase cset seen next LookAsked got image ready is =
       either_own (begins_pause phase got) (Stopping stop.Raise) (unasked phase cset) (λ h. refl) (λ h. either_own (phase == 0) LookFree (Working (units.begins phase cset)) (λ z. refl) (λ z. refl))
-  next_own phase cset seen next LookFree got xs ready is = either_own (wants_pause config seen got) (Stopping stop.Raise) LookLeft (λ h. refl) (λ h. refl)
-  next_own phase cset seen next (Working at) got xs ready is = unit_own (units.next_at config at got)
-  next_own phase cset seen next (Stopping at) got xs ready is = stopping_own phase (stop_next config at got)
-  next_own phase cset seen next (LoadWord index extent) got xs ready is = load_own (extent_after phase index extent got) index (ltb-true index (image_words config) ready)
-  next_own phase cset seen next (StoreWord index extent) got xs ready is = store_own extent xs index next (ltb-true index (image_words config) ready) is
-  next_own phase cset seen next Go got xs ready is = refl
-  next_own phase cset seen next Gone got xs ready is = refl
+  next_own phase cset seen next LookFree got image ready is = either_own (wants_pause config seen got) (Stopping stop.Raise) LookLeft (λ h. refl) (λ h. refl)
+  next_own phase cset seen next (Working spot) got image ready is = unit_own (units.next_at config spot got)
+  next_own phase cset seen next (Stopping spot) got image ready is = stopping_own phase (stop_next config spot got)
+  next_own phase cset seen next (LoadWord index extent) got image ready is = load_own (extent_after phase index extent got) index (ltb-true index (image_words config) ready)
+  next_own phase cset seen next (StoreWord index extent) got image ready is = store_own extent image index next (ltb-true index (image_words config) ready) is
+  next_own phase cset seen next Go got image ready is = refl
+  next_own phase cset seen next Gone got image ready is = refl
 
   -- what it sees there: but for a word that it loads, what the row says
-  either_seen : (holds : Bool) (spot other_spot : ControlSpot) (xs ys : List ℕ) → (holds ≡ true → words_seen config spot starts xs ≡ ys) → (holds ≡ false → words_seen config other_spot starts xs ≡ ys)
-      → words_seen config (if holds then spot else other_spot) starts xs ≡ ys
-  either_seen true spot other_spot xs ys one other = one refl
-  either_seen false spot other_spot xs ys one other = other refl
+  either_seen : (holds : Bool) (spot other_spot : ControlSpot) (image ys : List ℕ) → (holds ≡ true → words_seen config spot starts image ≡ ys) → (holds ≡ false → words_seen config other_spot starts image ≡ ys)
+      → words_seen config (if holds then spot else other_spot) starts image ≡ ys
+  either_seen true spot other_spot image ys one other = one refl
+  either_seen false spot other_spot image ys one other = other refl
 
-  unit_seen : (at : UnitSpot) (xs : List ℕ) → words_seen config (after_unit at) starts xs ≡ []
-  unit_seen (Ended Worked) xs = refl
-  unit_seen (Ended NoneLeft) xs = refl
-  unit_seen _ xs = refl
+  unit_seen : (spot : UnitSpot) (image : List ℕ) → words_seen config (after_unit spot) starts image ≡ []
+  unit_seen (Ended Worked) image = refl
+  unit_seen (Ended NoneLeft) image = refl
+  unit_seen _ image = refl
 
-  stopping_seen : (phase : ℕ) (at : StopSpot) (xs : List ℕ) → words_seen config (stopping config phase at) starts xs ≡ []
-  stopping_seen phase stop.Stopped xs = refl
-  stopping_seen phase _ xs = refl
+  stopping_seen : (phase : ℕ) (spot : StopSpot) (image : List ℕ) → words_seen config (stopping config phase spot) starts image ≡ []
+  stopping_seen phase stop.Stopped image = refl
+  stopping_seen phase _ image = refl
 
-  store_seen : (holds : Bool) (extent : Extent) (next : ℕ) (xs : List ℕ) → words_seen config (if holds then StoreWord next extent else Go) starts xs ≡ (if holds then image_shown config extent starts xs else [])
-  store_seen true extent next xs = refl
-  store_seen false extent next xs = refl
+  store_seen : (holds : Bool) (extent : Extent) (next : ℕ) (image : List ℕ) → words_seen config (if holds then StoreWord next extent else Go) starts image ≡ (if holds then image_shown config extent starts image else [])
+  store_seen true extent next image = refl
+  store_seen false extent next image = refl
 
-  pub others_seen : (change : Change) (phase cset seen next : ℕ) (spot : ControlSpot) (got : ℕ) (xs : List ℕ) → ((index : ℕ) (extent : Extent) → spot ≡ LoadWord index extent → ⊥)
-      → next ≡ stored_next config spot (words_seen config spot starts xs) → words_seen config (next_spot config phase cset seen next spot got) starts xs ≡ next_image change config spot (words_seen config spot starts xs) phase got
-  others_seen change phase cset seen next LookLeft got xs other is = either_seen (got == 0) StoreEnd LookAsked xs [] (λ h. refl) (λ h. refl)
-  others_seen change phase cset seen next StoreEnd got xs other is = refl
-  others_seen change phase cset seen next LookAsked got xs other is =
-      either_seen (begins_pause phase got) (Stopping stop.Raise) (unasked phase cset) xs [] (λ h. refl)
-      (λ h. either_seen (phase == 0) LookFree (Working (units.begins phase cset)) xs [] (λ z. refl) (λ z. refl))
-  others_seen change phase cset seen next LookFree got xs other is = either_seen (wants_pause config seen got) (Stopping stop.Raise) LookLeft xs [] (λ h. refl) (λ h. refl)
-  others_seen change phase cset seen next (Working at) got xs other is = unit_seen (units.next_at config at got) xs
-  others_seen change phase cset seen next (Stopping at) got xs other is = stopping_seen phase (stop_next config at got) xs
-  others_seen change phase cset seen next (LoadWord index extent) got xs other is = absurd (other index extent refl)
-  others_seen change phase cset seen next (StoreWord index extent) got xs other is =
-      store_seen (nat_lt next (image_words config)) extent next xs ∙ ap (λ n. if nat_lt n (image_words config) then image_shown config extent starts xs else []) is
-  others_seen change phase cset seen next Go got xs other is = refl
-  others_seen change phase cset seen next Gone got xs other is = refl
+  pub others_seen : (change : Change) (phase cset seen next : ℕ) (spot : ControlSpot) (got : ℕ) (image : List ℕ) → ((index : ℕ) (extent : Extent) → spot ≡ LoadWord index extent → ⊥)
+      → next ≡ stored_next config spot (words_seen config spot starts image) → words_seen config (next_spot config phase cset seen next spot got) starts image ≡ next_image change config spot (words_seen config spot starts image) phase got
+  others_seen change phase cset seen next LookLeft got image other is = either_seen (got == 0) StoreEnd LookAsked image [] (λ h. refl) (λ h. refl)
+  others_seen change phase cset seen next StoreEnd got image other is = refl
+  others_seen change phase cset seen next LookAsked got image other is =
+      either_seen (begins_pause phase got) (Stopping stop.Raise) (unasked phase cset) image [] (λ h. refl)
+      (λ h. either_seen (phase == 0) LookFree (Working (units.begins phase cset)) image [] (λ z. refl) (λ z. refl))
+  others_seen change phase cset seen next LookFree got image other is = either_seen (wants_pause config seen got) (Stopping stop.Raise) LookLeft image [] (λ h. refl) (λ h. refl)
+  others_seen change phase cset seen next (Working spot) got image other is = unit_seen (units.next_at config spot got) image
+  others_seen change phase cset seen next (Stopping spot) got image other is = stopping_seen phase (stop_next config spot got) image
+  others_seen change phase cset seen next (LoadWord index extent) got image other is = absurd (other index extent refl)
+  others_seen change phase cset seen next (StoreWord index extent) got image other is =
+      store_seen (nat_lt next (image_words config)) extent next image ∙ ap (λ n. if nat_lt n (image_words config) then image_shown config extent starts image else []) is
+  others_seen change phase cset seen next Go got image other is = refl
+  others_seen change phase cset seen next Gone got image other is = refl
 
   -- with a hint it works on a unit
   pub hinted_own : (address : ℕ) (spot : ControlSpot) → takes_hint spot ≡ true → SeesOwn config (hinted_by config (Some address) spot) starts
-  hinted_own address (Working at) takes = refl
+  hinted_own address (Working spot) takes = refl
   hinted_own address _ takes = absurd (false≢true takes)
 
   -- what was loaded of a table is what all of the table shows of that
-  pub loaded_same : (table xs : List ℕ) (spot : ControlSpot) → IsLoadedFrom config table spot (words_seen config spot starts xs) → words_seen config spot starts table ≡ words_seen config spot starts xs
-  loaded_same table xs (LoadWord index extent) is = sym is
-  loaded_same table xs (StoreWord index extent) is = absurd is
-  loaded_same table xs _ is = refl
+  pub loaded_same : (table image : List ℕ) (spot : ControlSpot) → IsLoadedFrom config table spot (words_seen config spot starts image) → words_seen config spot starts table ≡ words_seen config spot starts image
+  loaded_same table image (LoadWord index extent) is = sym is
+  loaded_same table image (StoreWord index extent) is = absurd is
+  loaded_same table image _ is = refl
 
 -- two controls of which all is the same are one
 abbrev one_of : ControlSpot → (seen phase cset : ℕ) → List ℕ → (hints : ℕ) → Controlling
 one_of spot seen phase cset image hints = record { spot = spot; seen = seen; phase = phase; cset = cset; image = image; hints = hints }
 
-same_control : (spot other_spot : ControlSpot) (a b d e f g hints : ℕ) (xs ys : List ℕ) → spot ≡ other_spot → a ≡ b → d ≡ e → f ≡ g → xs ≡ ys → one_of spot a d f xs hints ≡ one_of other_spot b e g ys hints
-same_control spot other_spot a b d e f g hints xs ys spots seens phases csets images =
-    ap (λ k. one_of k a d f xs hints) spots ∙ ap (λ k. one_of other_spot k d f xs hints) seens ∙ ap (λ k. one_of other_spot b k f xs hints) phases
-    ∙ ap (λ k. one_of other_spot b e k xs hints) csets ∙ ap (λ k. one_of other_spot b e g k hints) images
+same_control : (spot other_spot : ControlSpot) (seen other_seen phase other_phase cset other_cset hints : ℕ) (xs ys : List ℕ) → spot ≡ other_spot → seen ≡ other_seen → phase ≡ other_phase → cset ≡ other_cset → xs ≡ ys → one_of spot seen phase cset xs hints ≡ one_of other_spot other_seen other_phase other_cset ys hints
+same_control spot other_spot seen other_seen phase other_phase cset other_cset hints xs ys spots seens phases csets images =
+    ap (λ k. one_of k seen phase cset xs hints) spots ∙ ap (λ seen. one_of other_spot seen phase cset xs hints) seens ∙ ap (λ phase. one_of other_spot other_seen phase cset xs hints) phases
+    ∙ ap (λ cset. one_of other_spot other_seen other_phase cset xs hints) csets ∙ ap (λ k. one_of other_spot other_seen other_phase other_cset k hints) images
 
 -- In a pause of all of the image it goes from a word to the next one.
-module _ (change : Change) (config : Config) (seen phase cset hints : ℕ) (xs : List ℕ) (long : length xs ≡ image_words config) (index got : ℕ) (more : index + 1 < image_words config) where
+module _ (change : Change) (config : Config) (seen phase cset hints : ℕ) (other_image : List ℕ) (long : length other_image ≡ image_words config) (index got : ℕ) (more : index + 1 < image_words config) where
   -- whatever was found
   whole_after : extent_after phase index Whole got ≡ Whole
   whole_after = by_test (says_room phase index got)
@@ -161,54 +161,54 @@ module _ (change : Change) (config : Config) (seen phase cset hints : ℕ) (xs :
   abbrev loading : (at : ℕ) (image : List ℕ) → Controlling
   loading at image = record { spot = LoadWord at Whole; seen = seen; phase = phase; cset = cset; image = image; hints = hints }
 
-  pub load_goes : loading (index + 1) (take (index + 1) (set xs index got)) ≡ control_next change config (loading index (take index xs)) got
+  pub load_goes : loading (index + 1) (take (index + 1) (set other_image index got)) ≡ control_next change config (loading index (take index other_image)) got
   load_goes =
       same_control (LoadWord (index + 1) Whole) (after_load config (extent_after phase index Whole got) index)
-      seen (next_seen change config (LoadWord index Whole) (take index xs) seen phase got) phase (next_phase change config (LoadWord index Whole) (take index xs) phase got)
-      cset (next_set change config (LoadWord index Whole) (take index xs) cset phase got) hints
-      (take (index + 1) (set xs index got)) (next_image change config (LoadWord index Whole) (take index xs) phase got)
+      seen (next_seen change config (LoadWord index Whole) (take index other_image) seen phase got) phase (next_phase change config (LoadWord index Whole) (take index other_image) phase got)
+      cset (next_set change config (LoadWord index Whole) (take index other_image) cset phase got) hints
+      (take (index + 1) (set other_image index got)) (next_image change config (LoadWord index Whole) (take index other_image) phase got)
       (sym loads)
-      (sym (stays change config Whole phase index got xs long less refl seen _ there))
-      (sym (stays change config Whole phase index got xs long less refl phase _ there))
-      (sym (stays change config Whole phase index got xs long less refl cset _ there))
-      (ap (λ spot. words_seen config spot [] (set xs index got)) (sym loads) ∙ goes_on change config Whole phase index got xs long less refl [] there)
+      (sym (stays change config Whole phase index got other_image long less refl seen _ there))
+      (sym (stays change config Whole phase index got other_image long less refl phase _ there))
+      (sym (stays change config Whole phase index got other_image long less refl cset _ there))
+      (ap (λ spot. words_seen config spot [] (set other_image index got)) (sym loads) ∙ goes_on change config Whole phase index got other_image long less refl [] there)
 
   -- the word that is stored next is the next one
-  next_is_next : next_stored config Whole xs index ≡ index + 1
-  next_is_next = stored_next_one config Whole xs index (next_stored config Whole xs index) (index + 1) (stored_next_is config Whole xs index less)
+  next_is_next : next_stored config Whole other_image index ≡ index + 1
+  next_is_next = stored_next_one config Whole other_image index (next_stored config Whole other_image index) (index + 1) (stored_next_is config Whole other_image index less)
       (record { above = omega arith; most = omega (arith, more); between = λ i above below. absurd (omega (arith, above, below)); here = λ below. refl })
 
   abbrev storing : (at : ℕ) → Controlling
-  storing at = record { spot = StoreWord at Whole; seen = seen; phase = phase; cset = cset; image = xs; hints = hints }
+  storing at = record { spot = StoreWord at Whole; seen = seen; phase = phase; cset = cset; image = other_image; hints = hints }
 
   pub store_goes : storing (index + 1) ≡ control_next change config (storing index) got
   store_goes =
-      same_control (StoreWord (index + 1) Whole) (after_store config Whole (next_stored config Whole xs index)) seen seen phase phase cset cset hints xs
-      (if nat_lt (next_stored config Whole xs index) (image_words config) then xs else [])
+      same_control (StoreWord (index + 1) Whole) (after_store config Whole (next_stored config Whole other_image index)) seen seen phase phase cset cset hints other_image
+      (if nat_lt (next_stored config Whole other_image index) (image_words config) then other_image else [])
       (sym (ap (after_store config Whole) next_is_next ∙ cond-true (nat_lt (index + 1) (image_words config)) (StoreWord (index + 1) Whole) Go (lt-ltb _ _ more))) refl refl refl
-      (sym (ap (λ n. if nat_lt n (image_words config) then xs else []) next_is_next ∙ cond-true (nat_lt (index + 1) (image_words config)) xs [] (lt-ltb _ _ more)))
+      (sym (ap (λ n. if nat_lt n (image_words config) then other_image else []) next_is_next ∙ cond-true (nat_lt (index + 1) (image_words config)) other_image [] (lt-ltb _ _ more)))
 
   -- the same of a spot that stands so
   module _ (starts : List ℕ) (spot : ControlSpot) where
-    pub loads_on : (ys : List ℕ) → spot ≡ LoadWord index Whole → ys ≡ set xs index got
-        → one_of (LoadWord (index + 1) Whole) seen phase cset (take (index + 1) ys) hints ≡ control_next change config (one_of spot seen phase cset (words_seen config spot starts xs) hints) got
+    pub loads_on : (ys : List ℕ) → spot ≡ LoadWord index Whole → ys ≡ set other_image index got
+        → one_of (LoadWord (index + 1) Whole) seen phase cset (take (index + 1) ys) hints ≡ control_next change config (one_of spot seen phase cset (words_seen config spot starts other_image) hints) got
     loads_on ys is put =
         ap (λ zs. one_of (LoadWord (index + 1) Whole) seen phase cset (take (index + 1) zs) hints) put ∙ load_goes
-        ∙ ap (λ s. control_next change config (one_of s seen phase cset (words_seen config s starts xs) hints) got) (sym is)
+        ∙ ap (λ s. control_next change config (one_of s seen phase cset (words_seen config s starts other_image) hints) got) (sym is)
 
-    pub stores_on : spot ≡ StoreWord index Whole → one_of (StoreWord (index + 1) Whole) seen phase cset xs hints ≡ control_next change config (one_of spot seen phase cset (words_seen config spot starts xs) hints) got
-    stores_on is = store_goes ∙ ap (λ s. control_next change config (one_of s seen phase cset (words_seen config s starts xs) hints) got) (sym is)
+    pub stores_on : spot ≡ StoreWord index Whole → one_of (StoreWord (index + 1) Whole) seen phase cset other_image hints ≡ control_next change config (one_of spot seen phase cset (words_seen config spot starts other_image) hints) got
+    stores_on is = store_goes ∙ ap (λ s. control_next change config (one_of s seen phase cset (words_seen config s starts other_image) hints) got) (sym is)
 
 -- The access of a spot that stores a word of the new image, with a hint or without one.
 module _ (config : Config) (index : ℕ) (extent : Extent) where
   -- who takes a hint stores none
   pub unhinted : (hint : Option ℕ) (spot : ControlSpot) → hinted_by config hint spot ≡ StoreWord index extent → spot ≡ StoreWord index extent
-  unhinted hint (Working at) is = absurd cc
+  unhinted hint (Working spot) is = absurd cc
   unhinted hint LookLeft is = is
   unhinted hint StoreEnd is = is
   unhinted hint LookAsked is = is
   unhinted hint LookFree is = is
-  unhinted hint (Stopping at) is = is
+  unhinted hint (Stopping spot) is = is
   unhinted hint (LoadWord i e) is = is
   unhinted hint (StoreWord i e) is = is
   unhinted hint Go is = is
@@ -216,7 +216,7 @@ module _ (config : Config) (index : ℕ) (extent : Extent) where
 
   access_is : (spot : ControlSpot) (image : List ℕ) (value : ℕ) → spot ≡ StoreWord index extent → value ≡ slice_index image index → Store (image_start config + index) value ≡ access_with config spot (word_stored spot image)
   access_is spot image value is read =
-      subst (λ s. Store (image_start config + index) value ≡ access_with config s (word_stored s image)) (sym is) (ap (λ v. Store (image_start config + index) v) read)
+      subst (λ s. Store (image_start config + index) value ≡ access_with config s (word_stored s image)) (sym is) (ap (λ value. Store (image_start config + index) value) read)
 
   pub stored_row : (hint : Option ℕ) (control : Controlling) (value : ℕ) → hinted_by config hint control.spot ≡ StoreWord index extent → value ≡ slice_index control.image index
       → Store (image_start config + index) value ≡ control_access config (control_hinted config hint control)

@@ -13,7 +13,7 @@ use Rattle.cycle_pauses.specs.Collect.{collected, collect_image}
 use Rattle.cycle_pauses.proofs.Images.{collected_table}
 use Rattle.control.specs.Clear.{IsClear}
 use Rattle.control.specs.Image.{image_in, image_from}
-use Rattle.control.proofs.Clearing.{view-clear}
+use Rattle.control.proofs.ToldByImage.{view-clear}
 
 -- all its words are those of the image, and 0 before them
 pub memory-image_in : (image : Image) → IsClear image → memory_of image ≡ image_view (config_of image) (image_in image)
@@ -27,9 +27,9 @@ length-image_in image = omega (arith, length-drop (image_start (config_of image)
 pub drop-zeros : (n : ℕ) (xs : List ℕ) → drop n (replicate n 0 ++ xs) ≡ xs
 drop-zeros n xs = ap (λ k. drop k (replicate n 0 ++ xs)) (sym (length-replicate n 0)) ∙ drop-append_seam (replicate n 0) xs
 
-pub get_or-zeros : (n : ℕ) (xs : List ℕ) (at : ℕ) → at < n → get_or (replicate n 0 ++ xs) at 0 ≡ 0
-get_or-zeros n xs at below =
-    get_or-append (replicate n 0) xs 0 at (omega (arith, below, length-replicate {A = ℕ} n 0)) ∙ get_or-replicate n at 0 0 below
+pub get_or-zeros : (n : ℕ) (xs : List ℕ) (index : ℕ) → index < n → get_or (replicate n 0 ++ xs) index 0 ≡ 0
+get_or-zeros n xs index below =
+    get_or-append (replicate n 0) xs 0 index (omega (arith, below, length-replicate {A = ℕ} n 0)) ∙ get_or-replicate n index 0 0 below
 
 -- What a pause makes of the words it makes of the image, and the words before that stay 0.
 module _ (old new : Image) (clear : IsClear old) (config : config_of new ≡ config_of old) (words : memory_of new ≡ collected (config_of old) (memory_of old)) where
@@ -52,8 +52,8 @@ module _ (old new : Image) (clear : IsClear old) (config : config_of new ≡ con
       ap (λ some. get_or some at 0) words-collected ∙ get_or-zeros (image_start c) (collect_image c (image_in old)) at (subst (λ d. at < image_start d) config below)
 
 -- an image into which all words of a table were put
-pub image-loaded : (c : Config) (image : Image) (table : List ℕ) → config_of image ≡ c → length table ≡ table_words c
-    → ((index : ℕ) → index < image_words c → get_or (image_in image) index 0 ≡ get_or table (image_start c + index) 0) → image_in image ≡ image_from c table
+pub image-loaded : (config : Config) (image : Image) (table : List ℕ) → config_of image ≡ config → length table ≡ table_words config
+    → ((index : ℕ) → index < image_words config → get_or (image_in image) index 0 ≡ get_or table (image_start config + index) 0) → image_in image ≡ image_from config table
 image-loaded c image table config long same =
     let all : length (image_in image) ≡ image_words c = length-image_in image ∙ ap image_words config in
     let rest : length (image_from c table) ≡ image_words c = omega (arith, length-drop (image_start c) table, long) in

@@ -1,5 +1,5 @@
-pub mod Clearing
-pub mod Cleared
+pub mod ToldByImage
+pub mod ZeroedWords
 pub mod Images
 pub mod Collecting
 pub mod PartShown

@@ -23,11 +23,11 @@ either_zero false n none = refl
 
 module _ (test : ℕ → Bool) (image : List ℕ) where
   shown_long : length (shown_by test image) ≡ length image
-  shown_long = length-map-range_with_len (λ k. if test k then slice_index image k else 0) 0 (length image)
+  shown_long = length-map-range_with_len (λ index. if test index then slice_index image index else 0) 0 (length image)
 
   shown_reads : (index : ℕ) → slice_index (shown_by test image) index ≡ (if test index then slice_index image index else 0)
   shown_reads index = ⊎_elim
-      (λ (less : index < length image). get_or-map-range_with_len (λ i. if test i then slice_index image i else 0) 0 (length image) index index 0 less (omega arith))
+      (λ (less : index < length image). get_or-map-range_with_len (λ index. if test index then slice_index image index else 0) 0 (length image) index index 0 less (omega arith))
       (λ (past : length image ≤ index).
       get_or_past (shown_by test image) index 0 (let long = shown_long in omega (arith, long, past)) ∙ sym (either_zero (test index) (slice_index image index) (get_or_past image index 0 past)))
       (cases_lt index (length image))
@@ -59,14 +59,14 @@ seen_reads config extent starts image index seen = made_reads config extent star
 -- so do the first words, which stand for a cycle
 pub first_reads : (config : Config) (extent : Extent) (starts image : List ℕ) (word : Word) → IsWord config word → is_image word ≡ true → word_at config word < image_start config + 7
     → image_view config (image_shown config extent starts image) word ≡ image_view config image word
-first_reads config extent starts image word is in_image few =
-    let k : ℕ = word_at config word - image_start config in
+first_reads config extent starts image word is in_image below =
+    let index : ℕ = word_at config word - image_start config in
     image_reads config (image_shown config extent starts image) word is in_image
-    ∙ seen_reads config extent starts image k (or_left (is_of_extent config extent k) (has starts k) (early config extent k (omega (arith, few))))
+    ∙ seen_reads config extent starts image index (or_left (is_of_extent config extent index) (has starts index) (early config extent index (omega (arith, below))))
     ∙ sym (image_reads config image word is in_image)
 
 -- What has been loaded up to a word, with one more word, is what has been loaded up to the next one: all between are left out.
-module _ (config : Config) (extent : Extent) (phase index got : ℕ) (xs : List ℕ) (below : index < length xs) (own : is_of_extent config extent index ≡ true) where
+module _ (config : Config) (extent : Extent) (phase index got : ℕ) (image : List ℕ) (below : index < length image) (own : is_of_extent config extent index ≡ true) where
   abbrev then_of : Extent
   then_of = extent_after phase index extent got
 
@@ -84,17 +84,17 @@ module _ (config : Config) (extent : Extent) (phase index got : ℕ) (xs : List 
       (cases_lt index 6)
 
   abbrev before : List ℕ
-  before = take index (part_in config extent xs)
+  before = take index (part_in config extent image)
 
   before_long : length before ≡ index
-  before_long = (let taken = length-take index (part_in config extent xs) in let all = part_long config extent xs in omega (arith, taken, all, below))
+  before_long = (let taken = length-take index (part_in config extent image) in let all = part_long config extent image in omega (arith, taken, all, below))
 
-  module _ (upto : ℕ) (more : index < upto) (within : upto ≤ length xs) (between : (k : ℕ) → index < k → k < upto → is_of_extent config then_of k ≡ false) where
+  module _ (upto : ℕ) (more : index < upto) (within : upto ≤ length image) (between : (k : ℕ) → index < k → k < upto → is_of_extent config then_of k ≡ false) where
     abbrev after : List ℕ
-    after = part_in config then_of (set xs index got)
+    after = part_in config then_of (set image index got)
 
-    after_long : length after ≡ length xs
-    after_long = part_long config then_of (set xs index got) ∙ length-set xs index got
+    after_long : length after ≡ length image
+    after_long = part_long config then_of (set image index got) ∙ length-set image index got
 
     pushed_long : length (before ++ got ∷ []) ≡ index + 1
     pushed_long = length_push before got ∙ ap (λ n. n + 1) before_long
@@ -102,18 +102,18 @@ module _ (config : Config) (extent : Extent) (phase index got : ℕ) (xs : List 
     reads : (k : ℕ) → k < upto → slice_index after k ≡ slice_index (before ++ got ∷ []) k
     reads k less = ⊎_elim
         (λ (lower : k < index).
-        part_reads config then_of (set xs index got) k
-        ∙ ap (λ b. if b then slice_index (set xs index got) k else 0) (same_before k lower)
-        ∙ ap (λ n. if is_of_extent config extent k then n else 0) (get_or-set_other xs index k got 0 (omega (arith, lower)))
-        ∙ sym (get_or_append_left before (got ∷ []) 0 k (let long = before_long in omega (arith, long, lower)) ∙ get_or-take index (part_in config extent xs) k 0 lower ∙ part_reads config extent xs k))
+        part_reads config then_of (set image index got) k
+        ∙ ap (λ b. if b then slice_index (set image index got) k else 0) (same_before k lower)
+        ∙ ap (λ n. if is_of_extent config extent k then n else 0) (get_or-set_other image index k got 0 (omega (arith, lower)))
+        ∙ sym (get_or_append_left before (got ∷ []) 0 k (let long = before_long in omega (arith, long, lower)) ∙ get_or-take index (part_in config extent image) k 0 lower ∙ part_reads config extent image k))
         (λ (from : index ≤ k). ⊎_elim
         (λ (same : k ≡ index).
-        subst (λ i. slice_index after i ≡ slice_index (before ++ got ∷ []) i) (sym same)
-        (part_reads config then_of (set xs index got) index ∙ cond-true (is_of_extent config then_of index) (slice_index (set xs index got) index) 0 own_then
-        ∙ get_or-set_same xs index got 0 below ∙ sym (get_or_push before got 0 index before_long)))
+        subst (λ index. slice_index after index ≡ slice_index (before ++ got ∷ []) index) (sym same)
+        (part_reads config then_of (set image index got) index ∙ cond-true (is_of_extent config then_of index) (slice_index (set image index got) index) 0 own_then
+        ∙ get_or-set_same image index got 0 below ∙ sym (get_or_push before got 0 index before_long)))
         (λ (other : k ≢ index).
-        part_reads config then_of (set xs index got) k
-        ∙ cond-false (is_of_extent config then_of k) (slice_index (set xs index got) k) 0 (between k (omega (arith, from, other)) less)
+        part_reads config then_of (set image index got) k
+        ∙ cond-false (is_of_extent config then_of k) (slice_index (set image index got) k) 0 (between k (omega (arith, from, other)) less)
         ∙ sym (get_or_past (before ++ got ∷ []) k 0 (let long = pushed_long in omega (arith, long, from, other))))
         (cases_eq k index))
         (cases_lt k index)
@@ -131,5 +131,5 @@ module _ (config : Config) (extent : Extent) (phase index got : ℕ) (xs : List 
         get_or-take upto after k 0 here ∙ reads k here ∙ sym (padded_reads upto (before ++ got ∷ []) k))
 
     -- all that was loaded, where no word is left
-    pub loaded_whole : upto ≡ length xs → after ≡ padded upto (before ++ got ∷ [])
+    pub loaded_whole : upto ≡ length image → after ≡ padded upto (before ++ got ∷ [])
     loaded_whole end = sym (take_all upto after (let all = after_long in omega (arith, all, end))) ∙ loaded_upto

@@ -42,12 +42,12 @@ none_is_of config extent part starts are k of =
 -- Where an index is not among them, no buffer's free words begin at its word.
 pub none_begins : (config : Config) (memory : Word → ℕ) (starts : List ℕ) → AreStarts config memory starts → (k : ℕ) → has starts k ≡ false
     → (word : Word) → word_at config word - image_start config ≡ k → IsNoFirst config memory word
-none_begins config memory starts are k none (Heap a) at = λ seat below begins.
+none_begins config memory starts are k none (Heap address) at = λ seat below begins.
     let mutators = config.in_range.most_mutators in
     let helpers = config.in_range.most_helpers in
     let here : slice_index starts seat ≡ k =
     are.of_seat seat below ∙ cond-true (nat_lt (next_in (memory (Current seat))) (end_in (memory (Current seat)))) (word_at config (Heap (next_in (memory (Current seat)))) - image_start config) (heap_index config) (lt-ltb _ _ begins.0)
-    ∙ ap (λ b. word_at config (Heap b) - image_start config) begins.1 ∙ at in
+    ∙ ap (λ address. word_at config (Heap address) - image_start config) begins.1 ∙ at in
     false≢true (sym none ∙ list_any_at (nat_eq k) starts seat 0 (let long = are.long in omega (arith, long, mutators, helpers, below)) (eq-eqb k (slice_index starts seat) (sym here)))
 none_begins config memory starts are k none _ at = tt
 
@@ -65,7 +65,7 @@ module _ (config : Config) (starts : List ℕ) (seat start : ℕ) (of : IsHeapIn
   one_more_of_heap i less =
       let below : i < length starts = (let long = length-set starts seat start in omega (arith, long, less)) in
       ⊎_elim
-      (λ (same : i ≡ seat). subst (λ j. IsHeapIndex config (slice_index (set starts seat start) j)) (sym same)
+      (λ (same : i ≡ seat). subst (λ index. IsHeapIndex config (slice_index (set starts seat start) index)) (sym same)
       (subst (IsHeapIndex config) (sym (get_or-set_same starts seat start 0 (omega (arith, below, same)))) of))
       (λ (other : i ≢ seat). subst (IsHeapIndex config) (sym (get_or-set_other starts seat i start 0 other)) (are i below))
       (cases_eq i seat)

@@ -19,7 +19,7 @@ image_in image = drop (image_start (config_of image)) (words_of image)
 
 -- the words of a list whose indices pass a test, and 0 for each other one
 abbrev pub shown_by : (ℕ → Bool) → List ℕ → List ℕ
-shown_by test image = map (λ k. if test k then slice_index image k else 0) (range_with_len 0 (length image))
+shown_by test image = map (λ index. if test index then slice_index image index else 0) (range_with_len 0 (length image))
 
 -- of an image the words of an extent. What it has at other indices does not matter
 abbrev pub part_in : Config → Extent → List ℕ → List ℕ

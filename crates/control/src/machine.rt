@@ -192,7 +192,7 @@ impl Control {
         ensures inside { table_index result < table_words (config_in self.now) }
     {
         match self.looks_at() {
-            Some(at) => Access::Load { at },
+            Some(at) => Access::load(at),
             None => self.plan_apart(),
         }
     }
@@ -219,15 +219,10 @@ impl Control {
     {
         let config = self.image.config();
         match self.goes_on_at() {
-            ControlSpot::LoadWord { index, .. } => Access::Load {
-                at: config.image_start() + index,
-            },
+            ControlSpot::LoadWord { index, .. } => Access::load(config.image_start() + index),
             ControlSpot::StoreWord { index, .. } => {
                 let at = config.image_start() + index;
-                Access::Store {
-                    at,
-                    value: self.image.word(at),
-                }
+                Access::store(at, self.image.word(at))
             }
             spot => spot.access(config, 0),
         }

@@ -4,6 +4,9 @@ use Rattle.std.specs.Prelude.{slice_get, slice_set, nat_lt, ◌==◌, if◌then�
 use Rattle.std.specs.Global.{Box}
 use Rattle.std.specs.Option.{option_map, is_some}
 use Rattle.std.proofs.lemmas.Bool.Decides.{nat_tests}
+use Rattle.shen_graph.proofs.Options.{same_some}
+use Rattle.shen_graph.proofs.Bools.{true_parts}
+use Rattle.heap_words.proofs.Lists.{element_at}
 use Rattle.heap_words.specs.Ranges.{seat_count}
 use Rattle.step_core.specs.Settled.{control_number}
 use Rattle.heap_seats.specs.declared.progress.State.{State}
@@ -19,26 +22,24 @@ use Rattle.covremuj.specs.declared.handle.Handle.{Handle}
 use Rattle.covremuj.specs.Answers.{kind_of, state_number}
 use Rattle.covremuj.specs.OpenedHandles.{seats_held, any_held}
 use Rattle.covremuj.specs.ClosedHandles.{seat_in, seats_in, seat_shows, all_show, each_shows, AnswersBy, AnswersAsked, AnswersClosing}
-use Rattle.heap_seats.proofs.Joined.{some_at}
-use Rattle.covremuj.proofs.HandlesAsked.{parts}
 use Rattle.covremuj.proofs.HeldLists.{none_held}
 
 -- ---- taken out
 
 hollow_has : (found : Option Seat) → is_some found ≡ false → seat_in found ≡ []
 hollow_has None is = refl
-hollow_has (Some s) is = absurd cc
+hollow_has (Some seat) is = absurd cc
 
 -- where those before it are empty, the first seat is that of this handle
-pub taken_next : (hs : List Handle) (at : ℕ) (d new : Handle) → at < length hs → new.held ≡ None → any_held (take at (seats_held hs)) ≡ false
-    → seats_in (seats_held hs) ≡ seat_in (get_or hs at d).held ++ seats_in (seats_held (slice_set hs at new))
-taken_next [] at d new below empty none = absurd (omega (arith, below))
-taken_next (x ∷ xs) zero d new below empty none = ap (λ (found : Option Seat). seat_in x.held ++ (seat_in found ++ seats_in (seats_held xs))) (sym empty)
-taken_next (x ∷ xs) (suc at) d new below empty none =
-    let two = none_held x.held (take at (seats_held xs)) none in
-    let hollow : seat_in x.held ≡ [] = hollow_has x.held two.0 in
-    ap (λ (ys : List Seat). ys ++ seats_in (seats_held xs)) hollow ∙ taken_next xs at d new (omega (arith, below)) empty two.1
-    ∙ ap (λ (ys : List Seat). seat_in (get_or xs at d).held ++ (ys ++ seats_in (seats_held (slice_set xs at new)))) (sym hollow)
+pub taken_next : (hs : List Handle) (index : ℕ) (handle new : Handle) → index < length hs → new.held ≡ None → any_held (take index (seats_held hs)) ≡ false
+    → seats_in (seats_held hs) ≡ seat_in (get_or hs index handle).held ++ seats_in (seats_held (slice_set hs index new))
+taken_next [] index handle new below empty none = absurd (omega (arith, below))
+taken_next (other_handle ∷ rest) zero handle new below empty none = ap (λ (found : Option Seat). seat_in other_handle.held ++ (seat_in found ++ seats_in (seats_held rest))) (sym empty)
+taken_next (other_handle ∷ rest) (suc at) handle new below empty none =
+    let two = none_held other_handle.held (take at (seats_held rest)) none in
+    let hollow : seat_in other_handle.held ≡ [] = hollow_has other_handle.held two.0 in
+    ap (λ (ys : List Seat). ys ++ seats_in (seats_held rest)) hollow ∙ taken_next rest at handle new (omega (arith, below)) empty two.1
+    ∙ ap (λ (ys : List Seat). seat_in (get_or rest at handle).held ++ (ys ++ seats_in (seats_held (slice_set rest at new)))) (sym hollow)
 
 pub none_left : (os : List (Option Seat)) → any_held os ≡ false → seats_in os ≡ []
 none_left [] none = refl
@@ -46,14 +47,11 @@ none_left (None ∷ os) none = none_left os none
 none_left (Some s ∷ os) none = absurd cc
 
 -- what a handle gave is what it held
-pub given_is_held : (found : Option (Box Seat)) (held : Option Seat) → MatchOption found (held ≡ None) (λ (b : Box Seat). held ≡ Some b.value) → option_map (λ (b : Box Seat). b.value) found ≡ held
+pub given_is_held : (found : Option (Box Seat)) (held : Option Seat) → MatchOption found (held ≡ None) (λ (box : Box Seat). held ≡ Some box.value) → option_map (λ (box : Box Seat). box.value) found ≡ held
 given_is_held None held is = sym is
 given_is_held (Some b) held is = sym is
 
 -- ---- asked
-
-same_some : {A : Type 0} (x y : A) → Some x ≡ Some y → x ≡ y
-same_some x y is = cc
 
 -- each seat shows it, at its place
 pub shown_each : (asked : Asked) (count place : ℕ) (os : List (Option Seat)) → all_show asked count place os ≡ true → (index : ℕ) (seat : Seat) → slice_get (seats_in os) index ≡ Some seat → seat_shows asked count (place + index) seat ≡ true
@@ -61,17 +59,17 @@ shown_each asked count place [] all index seat there = absurd cc
 shown_each asked count place (None ∷ os) all index seat there = absurd cc
 shown_each asked count place (Some t ∷ os) all zero seat there =
     let first : place ≡ place + 0 = omega arith in
-    subst (λ n. seat_shows asked count n seat ≡ true) first
-    (subst (λ x. seat_shows asked count place x ≡ true) (same_some t seat there) (parts (seat_shows asked count place t) (all_show asked count (suc place) os) all).0)
+    subst (λ place. seat_shows asked count place seat ≡ true) first
+    (subst (λ x. seat_shows asked count place x ≡ true) (same_some t seat there) (true_parts (seat_shows asked count place t) (all_show asked count (suc place) os) all).0)
 shown_each asked count place (Some t ∷ os) all (suc index) seat there =
     let next : suc place + index ≡ place + suc index = omega arith in
-    subst (λ n. seat_shows asked count n seat ≡ true) next (shown_each asked count (suc place) os (parts (seat_shows asked count place t) (all_show asked count (suc place) os) all).1 index seat there)
+    subst (λ place. seat_shows asked count place seat ≡ true) next (shown_each asked count (suc place) os (true_parts (seat_shows asked count place t) (all_show asked count (suc place) os) all).1 index seat there)
 
 -- and there are as many as handles
 pub shown_count : (asked : Asked) (count place : ℕ) (os : List (Option Seat)) → all_show asked count place os ≡ true → length (seats_in os) ≡ length os
 shown_count asked count place [] all = refl
 shown_count asked count place (None ∷ os) all = absurd cc
-shown_count asked count place (Some t ∷ os) all = ap suc (shown_count asked count (suc place) os (parts (seat_shows asked count place t) (all_show asked count (suc place) os) all).1)
+shown_count asked count place (Some t ∷ os) all = ap suc (shown_count asked count (suc place) os (true_parts (seat_shows asked count place t) (all_show asked count (suc place) os) all).1)
 
 -- 0 answers that all was shown
 done_by : (filled numbered over : Bool) → AnswersBy filled numbered over 0 → (numbered ≡ true) × (over ≡ true)
@@ -83,7 +81,7 @@ done_by false numbered over by = absurd cc
 
 done_shows : (asked : Asked) (os : List (Option Seat)) → AnswersAsked asked os 0 → (0 < length os) × (each_shows Numbered os ≡ true) × (each_shows asked os ≡ true)
 done_shows asked [] answer = absurd cc
-done_shows asked (o ∷ os) answer = let two = done_by (each_shows Open (o ∷ os)) (each_shows Numbered (o ∷ os)) (each_shows asked (o ∷ os)) answer in (omega arith, two.0, two.1)
+done_shows asked (found ∷ rest) answer = let two = done_by (each_shows Open (found ∷ rest)) (each_shows Numbered (found ∷ rest)) (each_shows asked (found ∷ rest)) answer in (omega arith, two.0, two.1)
 
 ended_is : (state : State) → (state_number state == 2) ≡ true → state ≡ Ended
 ended_is Free is = absurd cc
@@ -113,33 +111,33 @@ from_first : (k : ℕ) → 0 + k ≡ k
 from_first k = omega arith
 
 -- seats that are there, each at the place of its number
-module _ (os : List (Option Seat)) (numbered_all : each_shows Numbered os ≡ true) where
-  pub many : length (seats_in os) ≡ length os
-  many = shown_count Numbered (length os) 0 os numbered_all
+module _ (other_os : List (Option Seat)) (numbered_all : each_shows Numbered other_os ≡ true) where
+  pub many : length (seats_in other_os) ≡ length other_os
+  many = shown_count Numbered (length other_os) 0 other_os numbered_all
 
-  numbered : (index : ℕ) (seat : Seat) → slice_get (seats_in os) index ≡ Some seat → ((number_of seat == index) ≡ true) × ((seat_count (config_of seat).mutators (config_of seat).helpers == length os) ≡ true)
+  numbered : (index : ℕ) (seat : Seat) → slice_get (seats_in other_os) index ≡ Some seat → ((number_of seat == index) ≡ true) × ((seat_count (config_of seat).mutators (config_of seat).helpers == length other_os) ≡ true)
   numbered index seat there =
-      parts (number_of seat == index) (seat_count (config_of seat).mutators (config_of seat).helpers == length os)
-      (subst (λ n. seat_shows Numbered (length os) n seat ≡ true) (from_first index) (shown_each Numbered (length os) 0 os numbered_all index seat there))
+      true_parts (number_of seat == index) (seat_count (config_of seat).mutators (config_of seat).helpers == length other_os)
+      (subst (λ place. seat_shows Numbered (length other_os) place seat ≡ true) (from_first index) (shown_each Numbered (length other_os) 0 other_os numbered_all index seat there))
 
-  number : (index : ℕ) (seat : Seat) → slice_get (seats_in os) index ≡ Some seat → number_of seat ≡ index
+  number : (index : ℕ) (seat : Seat) → slice_get (seats_in other_os) index ≡ Some seat → number_of seat ≡ index
   number index seat there = let is = (numbered index seat there).0 in grind (arith, nat_tests, is)
 
-  counted : (index : ℕ) (seat : Seat) → slice_get (seats_in os) index ≡ Some seat → seat_count (config_of seat).mutators (config_of seat).helpers ≡ length (seats_in os)
-  counted index seat there = let is = (numbered index seat there).1 in let whole : seat_count (config_of seat).mutators (config_of seat).helpers ≡ length os = grind (arith, nat_tests, is) in whole ∙ sym many
+  counted : (index : ℕ) (seat : Seat) → slice_get (seats_in other_os) index ≡ Some seat → seat_count (config_of seat).mutators (config_of seat).helpers ≡ length (seats_in other_os)
+  counted index seat there = let is = (numbered index seat there).1 in let whole : seat_count (config_of seat).mutators (config_of seat).helpers ≡ length other_os = grind (arith, nat_tests, is) in whole ∙ sym many
 
 -- where 0 is answered, seats of one heap make it up
 pub make_up : (os : List (Option Seat)) → AnswersClosing os 0 → AreOfOneHeap (seats_in os) → MakeUpHeap (seats_in os)
-make_up os answer one =
+make_up os answer of_one_heap =
     let shown = done_shows Over os answer in
     let some = shown.0 in
     let long = many os shown.1 in
     record {
       some = omega (arith, some, long);
-      heap = one;
+      heap = of_one_heap;
       number = number os shown.1;
       count = counted os shown.1;
-      over = λ k s there role. over_ended k s (number os shown.1 k s there) role (shown_each Over (length os) 0 os shown.2 k s there);
+      over = λ index seat there role. over_ended index seat (number os shown.1 index seat there) role (shown_each Over (length os) 0 os shown.2 index seat there);
     }
 
 -- and where each was asked whether it has ended, each has
@@ -147,23 +145,23 @@ pub all_ended : (os : List (Option Seat)) → AnswersAsked asks.Ended os 0 → A
 all_ended os answer k s there = ended_is (state_in s) (shown_each asks.Ended (length os) 0 os (done_shows asks.Ended os answer).2 k s there)
 
 pub make_up_ended : (os : List (Option Seat)) → AnswersAsked asks.Ended os 0 → AreOfOneHeap (seats_in os) → MakeUpHeap (seats_in os)
-make_up_ended os answer one =
+make_up_ended os answer of_one_heap =
     let shown = done_shows asks.Ended os answer in
     let some = shown.0 in
     let long = many os shown.1 in
     record {
       some = omega (arith, some, long);
-      heap = one;
+      heap = of_one_heap;
       number = number os shown.1;
       count = counted os shown.1;
       over = λ k s there role. all_ended os answer k s there;
     }
 
 -- the first of them says how many there are
-pub first_counts : (os : List (Option Seat)) → AnswersAsked asks.Ended os 0 → (s : Seat) × (slice_get (seats_in os) 0 ≡ Some s) × (seat_count (config_of s).mutators (config_of s).helpers ≡ length os)
+pub first_counts : (os : List (Option Seat)) → AnswersAsked asks.Ended os 0 → (seat : Seat) × (slice_get (seats_in os) 0 ≡ Some seat) × (seat_count (config_of seat).mutators (config_of seat).helpers ≡ length os)
 first_counts os answer =
     let shown = done_shows asks.Ended os answer in
     let some = shown.0 in
     let long = many os shown.1 in
-    let s = some_at (seats_in os) 0 (omega (arith, some, long)) in
+    let s = element_at (seats_in os) 0 (omega (arith, some, long)) in
     (s.0, s.1, counted os shown.1 0 s.0 s.1 ∙ long)

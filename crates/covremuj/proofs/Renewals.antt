@@ -3,6 +3,7 @@ use Rattle.std.proofs.Common.{◌≡◌, ◌≢◌, inl, inr, ℕ, Bool, true, f
 use Rattle.std.specs.Prelude.{slice_get, IfSome, ◌==◌}
 use Rattle.std.proofs.lemmas.Bool.Decides.{nat_tests}
 use Rattle.std.proofs.lemmas.Option.{slice_get_within}
+use Rattle.shen_graph.proofs.Lists.{element_before}
 use Rattle.heap_seats.specs.declared.closing.Closing.{Closing}
 use Rattle.heap_seats.specs.declared.renewing.Renewal.{Renewal}
 use Rattle.heap_seats.specs.declared.seat.Seat.{Seat}
@@ -10,7 +11,6 @@ use Rattle.heap_seats.specs.Gathered.{AreOfOneHeap, AreNumbered, MakeUpHeap}
 use Rattle.heap_seats.specs.GivenUp.{heap_closing, AreGivenUp, HaveNot}
 use Rattle.heap_seats.specs.Renewed.{AllEnded, AreToBeRenewed}
 use Rattle.heap_seats.specs.Seats.{number_of, heap_shared}
-use Rattle.heap_seats.proofs.Opened.{get_init}
 use Rattle.heap_seats.proofs.Together.{all_seats}
 use Rattle.covremuj.specs.declared.asked.Asked.TheVariants.{Open, Numbered, Ended}
 use Rattle.covremuj.specs.ClosedHandles.{seat_in, each_shows, AnswersBy, AnswersAsked}
@@ -23,11 +23,11 @@ pub given_first : (seat : Seat) (closing : Closing) → AreGivenUp (seat ∷ [])
 given_first seat closing given heap = record { given = given; first = seat; there = refl; heap = sym heap }
 
 pub given_more : (before : List Seat) (seat : Seat) (old new : Closing) → AreGivenAs before old → AreGivenUp (before ++ seat ∷ []) new → heap_closing new ≡ heap_closing old → AreGivenAs (before ++ seat ∷ []) new
-given_more before seat old new was given heap = record { given = given; first = was.first; there = get_init before (seat ∷ []) 0 was.first was.there; heap = was.heap ∙ sym heap }
+given_more before seat old new was given heap = record { given = given; first = was.first; there = element_before before (seat ∷ []) 0 was.first was.there; heap = was.heap ∙ sym heap }
 
 next_there : (before rest : List Seat) (seat : Seat) → slice_get (before ++ seat ∷ rest) (length before) ≡ Some seat
 next_there [] rest seat = refl
-next_there (x ∷ xs) rest seat = next_there xs rest seat
+next_there (other_seat ∷ xs) rest seat = next_there xs rest seat
 
 -- a seat behind others, in a list of all
 module _ (before rest all : List Seat) (seat : Seat) (is : before ++ seat ∷ rest ≡ all) where
@@ -35,7 +35,7 @@ module _ (before rest all : List Seat) (seat : Seat) (is : before ++ seat ∷ re
   it_there = ap (λ (xs : List Seat). slice_get xs (length before)) (sym is) ∙ next_there before rest seat
 
   others_there : (index : ℕ) (t : Seat) → slice_get before index ≡ Some t → slice_get all index ≡ Some t
-  others_there index t there = ap (λ (xs : List Seat). slice_get xs index) (sym is) ∙ get_init before (seat ∷ rest) index t there
+  others_there index t there = ap (λ (xs : List Seat). slice_get xs index) (sym is) ∙ element_before before (seat ∷ rest) index t there
 
   it_is_absent : AreNumbered all → HaveNot before (number_of seat)
   it_is_absent numbered k t there same =
@@ -45,16 +45,16 @@ module _ (before rest all : List Seat) (seat : Seat) (is : before ++ seat ∷ re
       absurd (omega (arith, own, other, below, same))
 
   it_is_of : AreOfOneHeap all → (closing : Closing) → AreGivenAs before closing → heap_shared seat ≡ heap_closing closing
-  it_is_of one closing was = one (length before) 0 seat was.first it_there (others_there 0 was.first was.there) ∙ was.heap
+  it_is_of of_one_heap closing was = of_one_heap (length before) 0 seat was.first it_there (others_there 0 was.first was.there) ∙ was.heap
 
 pub fits_next : (closing : Option Closing) (before rest all : List Seat) (found : Option Seat) → before ++ (seat_in found ++ rest) ≡ all → AreOfOneHeap all → AreGivenIn before closing → IsOfThatHeap closing found
-fits_next None before rest all found is one given = tt
-fits_next (Some closing) before rest all None is one given = tt
-fits_next (Some closing) before rest all (Some s) is one given = it_is_of before rest all s is one closing given
+fits_next None before rest all found is of_one_heap given = tt
+fits_next (Some closing) before rest all None is of_one_heap given = tt
+fits_next (Some closing) before rest all (Some seat) is of_one_heap given = it_is_of before rest all seat is of_one_heap closing given
 
 pub absent_next : (before rest all : List Seat) (found : Option Seat) → before ++ (seat_in found ++ rest) ≡ all → AreNumbered all → AreAbsent before found
 absent_next before rest all None is numbered = tt
-absent_next before rest all (Some s) is numbered = it_is_absent before rest all s is numbered
+absent_next before rest all (Some seat) is numbered = it_is_absent before rest all seat is numbered
 
 -- ---- all of them
 
@@ -73,7 +73,7 @@ going_by false numbered ended answer is going = absurd cc
 
 pub going_answer : (held : List (Option Seat)) (answer : ℕ) → AnswersAsked Ended held 0 → AnswersGoing answer → AnswersRenewing held answer
 going_answer [] answer is going = absurd cc
-going_answer (o ∷ others) answer is going = going_by (each_shows Open (o ∷ others)) (each_shows Numbered (o ∷ others)) (each_shows Ended (o ∷ others)) answer is going
+going_answer (found ∷ others) answer is going = going_by (each_shows Open (found ∷ others)) (each_shows Numbered (found ∷ others)) (each_shows Ended (found ∷ others)) answer is going
 
 pub going_of : (answer : ℕ) (said : Renewal) → (answer ≢ 27 → answer ≡ number_of_renewal said) → AnswersGoing answer
 going_of answer said is = by_test (answer == 27) refl

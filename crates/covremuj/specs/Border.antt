@@ -38,7 +38,7 @@ BeginsBy true seat held (Some command) answer = TakesOrder seat held (Begin comm
 -- a command is ordered of a mutator
 abbrev pub HandleBegins : Option Seat → Option Seat → Option Command → ℕ → Type 0
 HandleBegins None held command answer = (held ≡ None) × (answer ≡ 32)
-HandleBegins (Some s) held command answer = BeginsBy (is_mutator s) s held command answer
+HandleBegins (Some seat) held command answer = BeginsBy (is_mutator seat) seat held command answer
 
 abbrev pub EndsBy : Bool → Seat → Option Seat → ℕ → Type 0
 EndsBy false seat held answer = IsRefusedCall seat held 33 answer
@@ -47,7 +47,7 @@ EndsBy true seat held answer = TakesOrder seat held End (refused_in (state_in se
 -- its end is ordered
 abbrev pub HandleEnds : Option Seat → Option Seat → ℕ → Type 0
 HandleEnds None held answer = (held ≡ None) × (answer ≡ 32)
-HandleEnds (Some s) held answer = EndsBy (is_mutator s) s held answer
+HandleEnds (Some seat) held answer = EndsBy (is_mutator seat) seat held answer
 
 -- ---- steps
 
@@ -67,7 +67,7 @@ GoesBy true seat held steps answer before after = SeatGoes seat held steps answe
 -- a mutator makes so many steps at most
 abbrev pub HandleGoesOn : Option Seat → Option Seat → (steps answer : ℕ) → (before after : Value) → Type 0
 HandleGoesOn None held steps answer before after = (held ≡ None) × (answer ≡ 32) × (after ≡ before)
-HandleGoesOn (Some s) held steps answer before after = GoesBy (is_mutator s) s held steps answer before after
+HandleGoesOn (Some seat) held steps answer before after = GoesBy (is_mutator seat) seat held steps answer before after
 
 -- a helper or the control has worked, and this was answered
 pub record Works (seat : Seat) (held : Option Seat) (steps answer : ℕ) : Type 0 where
@@ -84,4 +84,4 @@ WorksBy false seat held steps answer = Works seat held steps answer
 -- a helper or the control makes so many steps at most
 abbrev pub WorksOn : Option Seat → Option Seat → (steps answer : ℕ) → Type 0
 WorksOn None held steps answer = (held ≡ None) × (answer ≡ 32)
-WorksOn (Some s) held steps answer = WorksBy (is_mutator s) s held steps answer
+WorksOn (Some seat) held steps answer = WorksBy (is_mutator seat) seat held steps answer

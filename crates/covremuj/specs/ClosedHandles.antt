@@ -10,12 +10,12 @@ use Rattle.covremuj.specs.Answers.{kind_of, state_number}
 -- the seat that a handle holds, if it is open
 abbrev pub seat_in : Option Seat → List Seat
 seat_in None = []
-seat_in (Some s) = s ∷ []
+seat_in (Some seat) = seat ∷ []
 
 -- the seats that handles hold, in their order
 abbrev pub seats_in : List (Option Seat) → List Seat
 seats_in [] = []
-seats_in (o ∷ others) = seat_in o ++ seats_in others
+seats_in (handle ∷ others) = seat_in handle ++ seats_in others
 
 -- Whether a seat is one of a heap of so many whose number is its place; whether it has ended, or is a helper's; whether it has ended.
 abbrev pub seat_shows : Asked → (count place : ℕ) → Seat → Bool
@@ -26,12 +26,12 @@ seat_shows Ended count place seat = state_number (state_in seat) == 2
 
 abbrev pub shows : Asked → (count place : ℕ) → Option Seat → Bool
 shows asked count place None = false
-shows asked count place (Some s) = seat_shows asked count place s
+shows asked count place (Some seat) = seat_shows asked count place seat
 
 -- so does each, from this place on
 abbrev pub all_show : Asked → (count place : ℕ) → List (Option Seat) → Bool
 all_show asked count place [] = true
-all_show asked count place (o ∷ others) = shows asked count place o && all_show asked count (suc place) others
+all_show asked count place (handle ∷ others) = shows asked count place handle && all_show asked count (suc place) others
 
 abbrev pub each_shows : Asked → List (Option Seat) → Bool
 each_shows asked held = all_show asked (length held) 0 held
@@ -47,7 +47,7 @@ AnswersBy filled numbered over answer = MatchOption (cause_by filled numbered) (
 -- so it is where this is asked last
 abbrev pub AnswersAsked : Asked → List (Option Seat) → ℕ → Type 0
 AnswersAsked asked [] answer = answer ≡ 56
-AnswersAsked asked (o ∷ others) answer = AnswersBy (each_shows Open (o ∷ others)) (each_shows Numbered (o ∷ others)) (each_shows asked (o ∷ others)) answer
+AnswersAsked asked (handle ∷ others) answer = AnswersBy (each_shows Open (handle ∷ others)) (each_shows Numbered (handle ∷ others)) (each_shows asked (handle ∷ others)) answer
 
 abbrev pub AnswersClosing : List (Option Seat) → ℕ → Type 0
 AnswersClosing held answer = AnswersAsked Over held answer

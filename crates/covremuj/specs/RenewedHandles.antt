@@ -29,7 +29,7 @@ AnswersBySeats filled numbered ended answer = MatchOption (cause_by filled numbe
 
 abbrev pub AnswersRenewing : List (Option Seat) → ℕ → Type 0
 AnswersRenewing [] answer = answer ≡ 56
-AnswersRenewing (o ∷ others) answer = AnswersBySeats (each_shows Open (o ∷ others)) (each_shows Numbered (o ∷ others)) (each_shows Ended (o ∷ others)) answer
+AnswersRenewing (handle ∷ others) answer = AnswersBySeats (each_shows Open (handle ∷ others)) (each_shows Numbered (handle ∷ others)) (each_shows Ended (handle ∷ others)) answer
 
 -- A heap goes on in place of that of these seats, whose history is one.
 pub record AreFollowedHere (olds : List Seat) (following : Following) : Type 0 where

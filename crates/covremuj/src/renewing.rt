@@ -3,7 +3,7 @@ ghost use Rattle.std.specs.Option.{option_map};
 ghost use Rattle.heap_seats.specs.declared.seat.Seat.{Seat as Seats};
 ghost use Rattle.heap_seats.specs.Gathered.{AreOfOneHeap};
 ghost use Rattle.heap_seats.specs.Renewed.{AreToBeRenewed};
-ghost use Rattle.heap_seats.specs.Renewing.{sizes_for};
+ghost use Rattle.heap_seats.specs.RenewalStage.{sizes_for};
 ghost use Rattle.heap_seats.specs.Seats.{config_of};
 ghost use Rattle.covremuj.specs.declared.asked.Asked.{Asked as Askeds};
 ghost use Rattle.covremuj.specs.ClosedHandles.{seat_in, seats_in, AnswersAsked};

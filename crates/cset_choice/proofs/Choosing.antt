@@ -29,9 +29,9 @@ members_past set n (suc k) small =
     omega (arith, none, before, step)
 
 pub members_all : (set n : ℕ) → n ≤ 64 → set < 2 ^ n → members_below set 64 ≡ members_below set n
-members_all set n few small =
+members_all set n at_most small =
     let rest = 64 - n in
-    let all : n + rest ≡ 64 = omega (arith, few) in
+    let all : n + rest ≡ 64 = omega (arith, at_most) in
     sym (ap (members_below set) all) ∙ members_past set n rest small
 
 pub members_few : (set n : ℕ) → members_below set n ≤ n
@@ -64,8 +64,8 @@ garbage_decides config memory region free pin seat top =
 
 -- what a region adds is at most what lives in it
 pub adds_few : (live : List ℕ) (set r index bound : ℕ) → slice_index live index ≤ bound → adds live set r index ≤ bound
-adds_few live set r index bound few =
-    cond_both ((bit_at set index == 1) && not (comes_before (slice_index live) r index)) (slice_index live index) 0 (λ x. x ≤ bound) (λ _. few) (λ _. omega arith)
+adds_few live set r index bound at_most =
+    cond_both ((bit_at set index == 1) && not (comes_before (slice_index live) r index)) (slice_index live index) 0 (λ x. x ≤ bound) (λ _. at_most) (λ _. omega arith)
 
 -- a table of the first so many regions
 pub record AreLiveBelow (config : Config) (memory : Word → ℕ) (live : List ℕ) (n : ℕ) : Type 0 where
@@ -86,10 +86,10 @@ live_more config memory live n words few is bound before =
     let inside : n < length live = omega (arith, few, before.long) in
     record {
       long = length-set live n words ∙ before.long;
-      small = λ r below. ⊎_elim
-          (λ (here : r ≡ n). (let there : slice_index (slice_set live n words) r ≡ words = ap (slice_index (slice_set live n words)) here ∙ get_or-set_same live n words 0 inside in omega (arith, there, bound)))
-          (λ (other : r ≢ n). (let there : slice_index (slice_set live n words) r ≡ slice_index live r = get_or-set_other live n r words 0 other in omega (arith, there, before.small r below)))
-          (cases_eq r n);
+      small = λ index below. ⊎_elim
+          (λ (here : index ≡ n). (let there : slice_index (slice_set live n words) index ≡ words = ap (slice_index (slice_set live n words)) here ∙ get_or-set_same live n words 0 inside in omega (arith, there, bound)))
+          (λ (other : index ≢ n). (let there : slice_index (slice_set live n words) index ≡ slice_index live index = get_or-set_other live n index words 0 other in omega (arith, there, before.small index below)))
+          (cases_eq index n);
       is = λ r below told. ⊎_elim
           (λ (here : r ≡ n). ap (slice_index (slice_set live n words)) here ∙ get_or-set_same live n words 0 inside ∙ is (ap (is_candidate config memory) (sym here) ∙ told) ∙ ap (live_words config memory) (sym here))
           (λ (other : r ≢ n). get_or-set_other live n r words 0 other ∙ before.is r (omega (arith, below, other)) told)
@@ -116,9 +116,9 @@ member_tells test n r below =
     ap (λ d. d == 1) (bits_at test 0 n r below) ∙ digit_tells (test (0 + r)) ∙ ap test here
 
 -- the order by the table is that by the words
-before_same : (f g : ℕ → ℕ) (q r : ℕ) → f q ≡ g q → f r ≡ g r → comes_before f q r ≡ comes_before g q r
-before_same f g q r first second =
-    ap (λ x. nat_lt x (f r) || ((x == f r) && nat_lt q r)) first ∙ ap (λ y. nat_lt (g q) y || ((g q == y) && nat_lt q r)) second
+before_same : (live other_live : ℕ → ℕ) (q r : ℕ) → live q ≡ other_live q → live r ≡ other_live r → comes_before live q r ≡ comes_before other_live q r
+before_same live g q r first second =
+    ap (λ x. nat_lt x (live r) || ((x == live r) && nat_lt q r)) first ∙ ap (λ y. nat_lt (g q) y || ((g q == y) && nat_lt q r)) second
 
 module _ (config : Config) (memory : Word → ℕ) (live : List ℕ) (are : AreLive config memory live) where
   abbrev candidate : ℕ → Bool

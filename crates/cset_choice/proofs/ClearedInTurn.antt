@@ -19,18 +19,18 @@ module _ (config : Config) where
   pub turn_both : (xs ys : List Word) (memory : Word → ℕ) → cleared_in_turn config memory (xs ++ ys) ≡ cleared_in_turn config (cleared_in_turn config memory xs) ys
   unfolding cleared_in_turn
   turn_both [] ys memory = refl
-  turn_both (x ∷ xs) ys memory = turn_both xs ys (cleared_at config memory x)
+  turn_both (word ∷ rest) ys memory = turn_both rest ys (cleared_at config memory word)
 
   -- the first of some places can be cleared, and so can the others once these are
   pub can_front : (xs ys : List Word) (memory : Word → ℕ) → CanClearInTurn config memory (xs ++ ys) → CanClearInTurn config memory xs
   unfolding CanClearInTurn
   can_front [] ys memory can = tt
-  can_front (x ∷ xs) ys memory can = (can.0, can_front xs ys (cleared_at config memory x) can.1)
+  can_front (word ∷ rest) ys memory can = (can.0, can_front rest ys (cleared_at config memory word) can.1)
 
   pub can_back : (xs ys : List Word) (memory : Word → ℕ) → CanClearInTurn config memory (xs ++ ys) → CanClearInTurn config (cleared_in_turn config memory xs) ys
   unfolding CanClearInTurn cleared_in_turn
   can_back [] ys memory can = can
-  can_back (x ∷ xs) ys memory can = can_back xs ys (cleared_at config memory x) can.1
+  can_back (word ∷ rest) ys memory can = can_back rest ys (cleared_at config memory word) can.1
 
   can_one : (memory : Word → ℕ) (place : Word) → CanClearInTurn config memory (place ∷ []) → CanClear config memory (memory place)
   unfolding CanClearInTurn
@@ -70,9 +70,9 @@ module _ (config : Config) where
     pub rows_next : (mutator : ℕ) → cleared_in_turn config (cleared_in_turn config memory (root_places mutator)) (map (Root mutator) (range_with_len 0 16)) ≡ cleared_in_turn config memory (root_places (mutator + 1))
     rows_next mutator =
         let next : suc mutator ≡ mutator + 1 = omega arith in
-        sym (turn_both (root_places mutator) (map (Root mutator) (range_with_len 0 16)) memory) ∙ ap (λ k. cleared_in_turn config memory (root_places k)) next
+        sym (turn_both (root_places mutator) (map (Root mutator) (range_with_len 0 16)) memory) ∙ ap (λ mutators. cleared_in_turn config memory (root_places mutators)) next
 
-    pub rows_can : (n mutator : ℕ) → mutator < n → CanClearInTurn config memory (root_places n) → CanClearInTurn config (cleared_in_turn config memory (root_places mutator)) (map (Root mutator) (range_with_len 0 16))
+    pub rows_can : (mutators mutator : ℕ) → mutator < mutators → CanClearInTurn config memory (root_places mutators) → CanClearInTurn config (cleared_in_turn config memory (root_places mutator)) (map (Root mutator) (range_with_len 0 16))
     rows_can zero mutator below can = absurd (omega (arith, below))
     rows_can (suc k) mutator below can = ⊎_elim
         (λ (last : k ≡ mutator).

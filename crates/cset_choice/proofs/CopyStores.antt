@@ -23,14 +23,14 @@ use Rattle.cset_choice.specs.Steps.{words_copied}
 -- nothing is copied yet
 
 none_copied_at : (from to : ℕ) (memory : Word → ℕ) (word : Word) → memory word ≡ words_copied from to 0 memory word
-none_copied_at from to memory (Heap x) = none_yet (memory (Heap (from + (x - to)))) (memory (Heap x))
+none_copied_at from to memory (Heap address) = none_yet (memory (Heap (from + (address - to)))) (memory (Heap address))
   where
-    none_yet : (y z : ℕ) → z ≡ cond (nat_le to x && nat_lt x (to + 0)) y z
+    none_yet : (y z : ℕ) → z ≡ cond (nat_le to address && nat_lt address (to + 0)) y z
     none_yet y z = grind (arith, nat_tests)
 none_copied_at from to memory _ = refl
 
 pub none_copied : (from to : ℕ) (memory : Word → ℕ) → memory ≡ words_copied from to 0 memory
-none_copied from to memory = fun_ext (λ w. none_copied_at from to memory w)
+none_copied from to memory = fun_ext (λ word. none_copied_at from to memory word)
 
 -- one word more
 
@@ -48,26 +48,26 @@ unread from to n y z apart = ⊎_elim
     (λ (behind : to + n ≤ from + n). grind (arith, nat_tests))
     apart
 
-module _ (from to n all : ℕ) (memory : Word → ℕ) (below : n < all) (apart : (from + all ≤ to) ⊎ (to + all ≤ from)) where
-  not_written : (from + n < to) ⊎ (to + n ≤ from + n)
+module _ (from to words all : ℕ) (memory : Word → ℕ) (below : words < all) (apart : (from + all ≤ to) ⊎ (to + all ≤ from)) where
+  not_written : (from + words < to) ⊎ (to + words ≤ from + words)
   not_written = ⊎_elim
       (λ (before : from + all ≤ to). inl (omega (arith, before, below)))
       (λ (behind : to + all ≤ from). inr (omega (arith, behind, below)))
       apart
 
-  pub still_there : words_copied from to n memory (Heap (from + n)) ≡ memory (Heap (from + n))
-  still_there = unread from to n (memory (Heap (from + (from + n - to)))) (memory (Heap (from + n))) not_written
+  pub still_there : words_copied from to words memory (Heap (from + words)) ≡ memory (Heap (from + words))
+  still_there = unread from to words (memory (Heap (from + (from + words - to)))) (memory (Heap (from + words))) not_written
 
-  copied_next_at : (word : Word) → write (words_copied from to n memory) (Heap (to + n)) (memory (Heap (from + n))) word ≡ words_copied from to (n + 1) memory word
-  copied_next_at (Heap x) = ⊎_elim
-      (λ (here : x ≡ to + n).
-      let back : n ≡ x - to = omega (arith, here) in
-      copy_here to n x (memory (Heap (from + n))) (memory (Heap (from + (x - to)))) (memory (Heap x)) here (ap (λ k. memory (Heap (from + k))) back))
-      (λ (other : x ≢ to + n). copy_elsewhere to n x (memory (Heap (from + n))) (memory (Heap (from + (x - to)))) (memory (Heap x)) other)
-      (cases_eq x (to + n))
+  copied_next_at : (word : Word) → write (words_copied from to words memory) (Heap (to + words)) (memory (Heap (from + words))) word ≡ words_copied from to (words + 1) memory word
+  copied_next_at (Heap address) = ⊎_elim
+      (λ (here : address ≡ to + words).
+      let back : words ≡ address - to = omega (arith, here) in
+      copy_here to words address (memory (Heap (from + words))) (memory (Heap (from + (address - to)))) (memory (Heap address)) here (ap (λ k. memory (Heap (from + k))) back))
+      (λ (other : address ≢ to + words). copy_elsewhere to words address (memory (Heap (from + words))) (memory (Heap (from + (address - to)))) (memory (Heap address)) other)
+      (cases_eq address (to + words))
   copied_next_at _ = refl
 
-  pub copied_next : write (words_copied from to n memory) (Heap (to + n)) (memory (Heap (from + n))) ≡ words_copied from to (n + 1) memory
+  pub copied_next : write (words_copied from to words memory) (Heap (to + words)) (memory (Heap (from + words))) ≡ words_copied from to (words + 1) memory
   copied_next = fun_ext copied_next_at
 
 -- the whole copy
@@ -91,16 +91,16 @@ module _ (config : Config) (memory : Word → ℕ) (other_address region : ℕ) 
 
   copied_stores_at : (word : Word) → copied_by_stores to n (memory (Top region) + n) (bit_and (memory Free) (all_but region)) (header_word to) word ≡ copied_to config memory other_address region word
   unfolding copied_to
-  copied_stores_at (Heap x) = heap_copied other_address to n x (header_word to) (memory (Heap (other_address + (x - to)))) (memory (Heap x))
+  copied_stores_at (Heap address) = heap_copied other_address to n address (header_word to) (memory (Heap (other_address + (address - to)))) (memory (Heap address))
   copied_stores_at _ = refl
 
   pub copied_stores : (address words top free header : ℕ) → address ≡ to → words ≡ n → top ≡ memory (Top region) + n → free ≡ bit_and (memory Free) (all_but region) → header ≡ header_word to
       → copied_by_stores address words top free header ≡ copied_to config memory other_address region
   copied_stores address words top free header at long grown taken names =
-      ap (λ k. copied_by_stores k words top free header) at
-      ∙ ap (λ k. copied_by_stores to k top free header) long
-      ∙ ap (λ k. copied_by_stores to n k free header) grown
-      ∙ ap (λ k. copied_by_stores to n (memory (Top region) + n) k header) taken
+      ap (λ address. copied_by_stores address words top free header) at
+      ∙ ap (λ words. copied_by_stores to words top free header) long
+      ∙ ap (λ top. copied_by_stores to n top free header) grown
+      ∙ ap (λ free. copied_by_stores to n (memory (Top region) + n) free header) taken
       ∙ ap (copied_by_stores to n (memory (Top region) + n) (bit_and (memory Free) (all_but region))) names
       ∙ fun_ext copied_stores_at
 
@@ -113,9 +113,9 @@ module _ (config : Config) (memory : Word → ℕ) (other_address region : ℕ) 
 pub found_room : (config : Config) (memory : Word → ℕ) (a region : ℕ) → copy_room config memory a ≡ Some region
     → (region < config.regions) × IsOutside (memory Cset) region × (memory (Top region) + words_at memory a ≤ config.region_words)
 found_room config memory a region found =
-    let lowest = has_room config.region_words (tops_outside config.region_words (memory Cset) (λ q. memory (Top q))) (words_at memory a) config.regions region found in
-    let outside = outside_with_room config.region_words (memory Cset) (λ q. memory (Top q)) region (words_at memory a) (omega arith) lowest.room in
-    let own = own_top config.region_words (memory Cset) (λ q. memory (Top q)) region outside in
+    let lowest = has_room config.region_words (tops_outside config.region_words (memory Cset) (λ region. memory (Top region))) (words_at memory a) config.regions region found in
+    let outside = outside_with_room config.region_words (memory Cset) (λ region. memory (Top region)) region (words_at memory a) (omega arith) lowest.room in
+    let own = own_top config.region_words (memory Cset) (λ region. memory (Top region)) region outside in
     (lowest.below, outside, omega (arith, lowest.room, own))
 
 -- the copy lies apart from the old one
@@ -138,14 +138,14 @@ copies_apart config memory address region can outside room =
     first
 
 -- the address of the copy is that of the current copy then
-pub copy_is_now : (config : Config) (memory : Word → ℕ) (a copy : ℕ) → copy_address config memory a ≡ Some copy → copy ≡ now_in (copied_out config memory a) a
-copy_is_now config memory a copy found = by_room (copy_room config memory a) found
+pub copy_is_now : (config : Config) (memory : Word → ℕ) (address copy : ℕ) → copy_address config memory address ≡ Some copy → copy ≡ now_in (copied_out config memory address) address
+copy_is_now config memory address copy found = by_room (copy_room config memory address) found
   where
-    by_room : (o : Option ℕ) → copy_in config memory o ≡ Some copy → copy ≡ now_in (copied_in config memory a o) a
+    by_room : (o : Option ℕ) → copy_in config memory o ≡ Some copy → copy ≡ now_in (copied_in config memory address o) address
     by_room None is = absurd (none-some copy is)
     by_room (Some r) is =
         let at : top_address config memory r ≡ copy = same_Some (top_address config memory r) copy is in
-        sym at ∙ sym (now_is (copied_to config memory a r) a (top_address config memory r) (header_names_copy config memory a r))
+        sym at ∙ sym (now_is (copied_to config memory address r) address (top_address config memory r) (header_names_copy config memory address r))
 
 -- and there is one where some region has room
 pub some_copy : (config : Config) (memory : Word → ℕ) (a : ℕ) → copy_room config memory a ≢ None → copy_address config memory a ≡ None → ⊥

@@ -28,7 +28,7 @@ pub started : (memory : Word → ℕ) → write (write (write memory Evac 0) Cla
 started memory = fun_ext (started_at memory)
 
 pub begun : (config : Config) (memory : Word → ℕ) (set : ℕ) → set ≢ 0 → evac_started (roots_cleared config memory set) ≡ evac_begun config memory set
-begun config memory set some = fun_ext (λ w. sym (cond-false (set == 0) (evac_spared memory w) (evac_started (roots_cleared config memory set) w) (ne_eqb set 0 some)))
+begun config memory set positive = fun_ext (λ w. sym (cond-false (set == 0) (evac_spared memory w) (evac_started (roots_cleared config memory set) w) (ne_eqb set 0 positive)))
 
 -- or is spared
 spared_at : (memory : Word → ℕ) (word : Word) → write (write (write memory Cset 0) Claim 0) Phase 0 word ≡ evac_spared memory word
@@ -62,5 +62,5 @@ moved_now config memory address plain = fun_ext (λ w. sym (cond-false (is_forwa
 
 -- where some region has room there is a copy
 pub some_copy : (config : Config) (memory : Word → ℕ) (room : Option ℕ) → room ≢ None → IsSome (copy_in config memory room)
-some_copy config memory None some = absurd (some refl)
-some_copy config memory (Some r) some = refl
+some_copy config memory None differs = absurd (differs refl)
+some_copy config memory (Some r) differs = refl

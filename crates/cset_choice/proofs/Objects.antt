@@ -36,13 +36,13 @@ sum_pass f i (suc n) none =
 
 module _ (config : Config) where
   -- so many words from an address on that end within its region are of the heap
-  pub object_in_heap : (address n : ℕ) → config.region_words ≤ address → region_with config address < config.regions → address % config.region_words + n ≤ config.region_words → AreInHeap config address n
-  object_in_heap address n above below fits =
-      subst (λ x. AreInHeap config x n) (from_base config.region_words address (some_words config) above) (room_in_heap config (region_with config address) (address % config.region_words) n below fits)
+  pub object_in_heap : (address words : ℕ) → config.region_words ≤ address → region_with config address < config.regions → address % config.region_words + words ≤ config.region_words → AreInHeap config address words
+  object_in_heap address words above below fits =
+      subst (λ address. AreInHeap config address words) (from_base config.region_words address (some_words config) above) (room_in_heap config (region_with config address) (address % config.region_words) words below fits)
 
   -- each of them is a word
-  pub word_of_heap : (address n k : ℕ) → AreInHeap config address n → k < n → IsWord config (Heap (address + k))
-  word_of_heap address n k are below = (omega (arith, are.from), omega (arith, are.to, below))
+  pub word_of_heap : (address words k : ℕ) → AreInHeap config address words → k < words → IsWord config (Heap (address + k))
+  word_of_heap address words k are below = (omega (arith, are.from), omega (arith, are.to, below))
 
   -- the shape of a marked object is one
   pub shape_in_heap : (memory : Word → ℕ) (address : ℕ) → LieApart config.region_words (marked_words config memory) → IsWord config (Heap address) → is_black config memory address ≡ true → IsWord config (Heap (address + 1))

@@ -10,8 +10,8 @@ pub read : (config other_config : Config) (memory : Word → ℕ) (word : Word) 
 read config other_config memory word at value same is place named = named word is (ap (λ (config : Config). word_at config word) (sym same) ∙ sym place)
 
 -- a word of a part of the heap
-pub word_in : (config other_config : Config) (address n i : ℕ) → other_config ≡ config → AreInHeap config address n → i < n → IsWord other_config (Heap (address + i))
-word_in config other_config address n i same inside below = subst (λ (config : Config). IsWord config (Heap (address + i))) (sym same) (omega (arith, inside.from), omega (arith, inside.to, below))
+pub word_in : (config other_config : Config) (address words i : ℕ) → other_config ≡ config → AreInHeap config address words → i < words → IsWord other_config (Heap (address + i))
+word_in config other_config address words i same inside below = subst (λ (config : Config). IsWord config (Heap (address + i))) (sym same) (omega (arith, inside.from), omega (arith, inside.to, below))
 
-pub first_in : (config other_config : Config) (address n : ℕ) → other_config ≡ config → AreInHeap config address n → 0 < n → IsWord other_config (Heap address)
-first_in config other_config address n same inside some = subst (λ (config : Config). IsWord config (Heap address)) (sym same) (inside.from, omega (arith, inside.to, some))
+pub first_in : (config other_config : Config) (address words : ℕ) → other_config ≡ config → AreInHeap config address words → 0 < words → IsWord other_config (Heap address)
+first_in config other_config address words same inside positive = subst (λ (config : Config). IsWord config (Heap address)) (sym same) (inside.from, omega (arith, inside.to, positive))

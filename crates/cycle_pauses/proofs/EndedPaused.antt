@@ -47,19 +47,19 @@ set_is_freed_first c m g asking r whole =
 
 -- words that represent a graph are such that a cycle can be ended
 pub can_end : (config : Config) (memory : Word → ℕ) (graph : Graph) (asking : ℕ → Asking) → Represents config memory graph asking → HasNoMoreSeats config memory → CanEnd config memory
-can_end config memory graph asking r seats = record {
-  finishes = representing_can_finish config memory graph asking r seats;
-  holds = λ short. let h = (short_is_pause config memory graph asking r seats short).holds in ∣ (graph, h.0, h.1, h.2, h.3, h.4) ∣₁;
+can_end config memory graph asking represents seats = record {
+  finishes = representing_can_finish config memory graph asking represents seats;
+  holds = λ short. let h = (short_is_pause config memory graph asking represents seats short).holds in ∣ (graph, h.0, h.1, h.2, h.3, h.4) ∣₁;
 }
 
 -- That a cycle can be ended is one fact.
-can_copy_out_prop : (config : Config) (memory : Word → ℕ) (a : ℕ) → IsProp (CanCopyOut config memory a)
-can_copy_out_prop config memory a = hlevel (le_prop, ℕ_set)
+can_copy_out_prop : (config : Config) (memory : Word → ℕ) (address : ℕ) → IsProp (CanCopyOut config memory address)
+can_copy_out_prop config memory address = hlevel (le_prop, ℕ_set)
 
-can_copy_from_prop : (config : Config) (n : ℕ) (memory : Word → ℕ) (a : ℕ) → IsProp (CanCopyFrom config memory a n)
+can_copy_from_prop : (config : Config) (addresses : ℕ) (memory : Word → ℕ) (address : ℕ) → IsProp (CanCopyFrom config memory address addresses)
 unfolding CanCopyFrom
-can_copy_from_prop config zero memory a = hlevel
-can_copy_from_prop config (suc n) memory a = hlevel (can_copy_out_prop config memory a, can_copy_from_prop config n (copied_out config memory a) (a + 1), can_copy_from_prop config n memory (a + 1))
+can_copy_from_prop config zero memory address = hlevel
+can_copy_from_prop config (suc addresses) memory address = hlevel (can_copy_out_prop config memory address, can_copy_from_prop config addresses (copied_out config memory address) (address + 1), can_copy_from_prop config addresses memory (address + 1))
 
 inside_prop : (config : Config) (word : ℕ) → IsProp (IsInside config word)
 inside_prop config word = hlevel (le_prop, ℕ_set)
@@ -67,8 +67,8 @@ inside_prop config word = hlevel (le_prop, ℕ_set)
 can_update_prop : (config : Config) (memory : Word → ℕ) → IsProp (CanUpdateAll config memory)
 can_update_prop config memory = hlevel (le_prop, ℕ_set)
 
-can_fill_prop : (config : Config) (memory : Word → ℕ) (r : ℕ) → IsProp (CanFill config memory r)
-can_fill_prop config memory r = hlevel le_prop
+can_fill_prop : (config : Config) (memory : Word → ℕ) (region : ℕ) → IsProp (CanFill config memory region)
+can_fill_prop config memory region = hlevel le_prop
 
 can_free_prop : (config : Config) (memory : Word → ℕ) → IsProp (CanFree config memory)
 can_free_prop config memory = hlevel (le_prop, can_fill_prop config memory)

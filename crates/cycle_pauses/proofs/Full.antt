@@ -9,7 +9,7 @@ pub mod Holding
 pub mod After
 pub mod Made
 pub mod PinnedOnes
-pub mod Paused
+pub mod SameGraph
 pub mod Answered
 pub mod Reached
 pub mod Crowds

@@ -6,6 +6,7 @@ use Rattle.heap_words.specs.Ranges.{seat_count}
 use Rattle.heap_world.specs.Change.{image_words, image_view}
 use Rattle.std.specs.Prelude.{◌==◌, if◌then◌else◌}
 use Rattle.std.proofs.lemmas.Bool.{true≢false}
+use Rattle.shen_graph.proofs.Bools.{either_is}
 use Rattle.image_graph.specs.Settled.{buffers_settled}
 use Rattle.image_graph.proofs.Elsewhere.{settled_same}
 use Rattle.image_graph.specs.Full.{full}
@@ -16,8 +17,8 @@ use Rattle.cycle_words.specs.Updating.Changes.{updating_begun, init_updated, fin
 use Rattle.cycle_pauses.specs.Ended.{ended}
 use Rattle.cycle_pauses.specs.Collect.{is_room_needed, next_in_cycle, past_marking, room_made, collected, collect_image}
 use Rattle.cycle_pauses.specs.Laws.{TableIsCollected}
-use Rattle.cycle_pauses.proofs.Evacuation.Outside.{of_two, next_before}
-use Rattle.cycle_pauses.proofs.Finished.{ended_before}
+use Rattle.cycle_pauses.proofs.Evacuation.Outside.{next_before}
+use Rattle.cycle_pauses.proofs.LeftByFinishing.{ended_before}
 
 -- settling leaves the words before the image
 settled_before : (config : Config) (memory : Word → ℕ) (word : Word) → is_image word ≡ false → buffers_settled config memory word ≡ memory word
@@ -28,7 +29,7 @@ begun_before : (config : Config) (memory : Word → ℕ) (word : Word) → is_im
 begun_before config memory Pause other = refl
 begun_before config memory Left other = refl
 begun_before config memory End other = refl
-begun_before config memory (State s) other = refl
+begun_before config memory (State seat) other = refl
 begun_before config memory _ other = absurd (true≢false other)
 
 init_before : (config : Config) (memory : Word → ℕ) (word : Word) → is_image word ≡ false → init_marked config memory word ≡ memory word
@@ -39,7 +40,7 @@ updating_before : (config : Config) (memory : Word → ℕ) (word : Word) → is
 updating_before config memory Pause other = refl
 updating_before config memory Left other = refl
 updating_before config memory End other = refl
-updating_before config memory (State s) other = refl
+updating_before config memory (State seat) other = refl
 updating_before config memory _ other = absurd (true≢false other)
 
 init_updated_before : (config : Config) (memory : Word → ℕ) (word : Word) → is_image word ≡ false → init_updated config memory word ≡ memory word
@@ -49,26 +50,26 @@ final_updated_before : (config : Config) (memory : Word → ℕ) (word : Word) �
 final_updated_before config memory Pause other = refl
 final_updated_before config memory Left other = refl
 final_updated_before config memory End other = refl
-final_updated_before config memory (State s) other = refl
+final_updated_before config memory (State seat) other = refl
 final_updated_before config memory _ other = absurd (true≢false other)
 
 cycle_before : (config : Config) (memory : Word → ℕ) (word : Word) → is_image word ≡ false → next_in_cycle config memory word ≡ memory word
 cycle_before config memory word other =
-    of_two (memory Phase == 0) (init_marked config memory word) (if memory Phase == 1 then evac_next config memory word else (if memory Phase == 2 then init_updated config memory word else final_updated config memory word)) (memory word) (init_before config memory word other)
-    (of_two (memory Phase == 1) (evac_next config memory word) (if memory Phase == 2 then init_updated config memory word else final_updated config memory word) (memory word) (next_before config memory word other)
-    (of_two (memory Phase == 2) (init_updated config memory word) (final_updated config memory word) (memory word) (init_updated_before config memory word other) (final_updated_before config memory word other)))
+    either_is (memory Phase == 0) (init_marked config memory word) (if memory Phase == 1 then evac_next config memory word else (if memory Phase == 2 then init_updated config memory word else final_updated config memory word)) (memory word) (init_before config memory word other)
+    (either_is (memory Phase == 1) (evac_next config memory word) (if memory Phase == 2 then init_updated config memory word else final_updated config memory word) (memory word) (next_before config memory word other)
+    (either_is (memory Phase == 2) (init_updated config memory word) (final_updated config memory word) (memory word) (init_updated_before config memory word other) (final_updated_before config memory word other)))
 
 past_marking_before : (config : Config) (memory : Word → ℕ) (word : Word) → is_image word ≡ false → past_marking config memory word ≡ memory word
-past_marking_before config memory word other = of_two (memory Phase == 1) (evac_next config memory word) (memory word) (memory word) (next_before config memory word other) refl
+past_marking_before config memory word other = either_is (memory Phase == 1) (evac_next config memory word) (memory word) (memory word) (next_before config memory word other) refl
 
 room_before : (config : Config) (memory : Word → ℕ) (word : Word) → is_image word ≡ false → room_made config memory word ≡ memory word
 room_before config memory word other =
-    of_two (memory Phase == 0) (full config memory word) (ended config (past_marking config memory) word) (memory word) (full_before config memory word other)
+    either_is (memory Phase == 0) (full config memory word) (ended config (past_marking config memory) word) (memory word) (full_before config memory word other)
     (ended_before config (past_marking config memory) word other ∙ past_marking_before config memory word other)
 
 collected_before : (config : Config) (memory : Word → ℕ) (word : Word) → is_image word ≡ false → collected config memory word ≡ memory word
 collected_before config memory word other =
-    of_two (is_room_needed memory) (room_made config memory word) (next_in_cycle config memory word) (memory word) (room_before config memory word other) (cycle_before config memory word other)
+    either_is (is_room_needed memory) (room_made config memory word) (next_in_cycle config memory word) (memory word) (room_before config memory word other) (cycle_before config memory word other)
 
 -- a pause keeps the length of the image
 pub collected_length : (config : Config) (image : List ℕ) → length (collect_image config image) ≡ image_words config

@@ -1,4 +1,4 @@
-pub mod Finished
+pub mod LeftByFinishing
 pub mod EndedPaused
 pub mod Images
 pub mod Pauses

@@ -8,6 +8,7 @@ use Rattle.std.proofs.Math.Logic.{∥∥₁_elim}
 use Rattle.std.proofs.Math.Nat.{ℕ_set}
 use Rattle.std.proofs.Math.Path.{fun_ext}
 use Rattle.std.proofs.lemmas.Bool.{cond-true, cond-false, cases_Bool, cases_eq, eq-eqb, eqb-true, le-ltb, true≢false}
+use Rattle.shen_graph.proofs.Bools.{either_is}
 use Rattle.heap_words.specs.declared.config.Config.{Config}
 use Rattle.heap_words.specs.Ranges.{seat_count}
 use Rattle.heap_words.specs.Words.{Word, Phase, Cset, Evac, Ask, Current, is_word, image_start, view}
@@ -39,7 +40,7 @@ use Rattle.cycle_words.specs.Evacuation.Begun.{CanBegin}
 use Rattle.cycle_words.proofs.Evacuation.Clearing.{can_clear_in_turn}
 use Rattle.cycle_words.proofs.Evacuation.CanBegin.{evacuation_can_begin}
 use Rattle.cycle_pauses.specs.Evacuation.Collect.{evac_next}
-use Rattle.cycle_pauses.proofs.Evacuation.Outside.{of_two, next_current, begun_outside}
+use Rattle.cycle_pauses.proofs.Evacuation.Outside.{next_current, begun_outside}
 use Rattle.cycle_pauses.proofs.Evacuation.Begun.{idle_pause, evacuation_represents}
 use Rattle.cycle_words.specs.Updating.Changes.{init_updated, final_updated}
 use Rattle.cycle_pauses.proofs.Updating.Beginning.{updating_begins}
@@ -49,12 +50,12 @@ use Rattle.cycle_pauses.specs.Ended.{ended}
 use Rattle.cycle_pauses.specs.Collect.{is_room_needed, next_in_cycle, past_marking, room_made, collected, collect_image, CanPause}
 use Rattle.cycle_pauses.specs.Laws.{RepresentingCanCollect, EndedCanBegin, RunningCanEnd, ImageIsCollected, CollectIsPause}
 use Rattle.cycle_pauses.proofs.Images.{collected_by_name, collected_length}
-use Rattle.cycle_pauses.proofs.Finished.{ended_outside}
+use Rattle.cycle_pauses.proofs.LeftByFinishing.{ended_outside}
 use Rattle.cycle_pauses.proofs.EndedPaused.{ended_is_paused, can_end, can_end_prop}
 
 -- there is no collection set in phases 0 and 1
-calm_in : (config : Config) (memory : Word → ℕ) (graph : Graph) (asking : ℕ → Asking) (r : Represents config memory graph asking) → memory Phase < 2 → memory Cset ≡ 0
-calm_in config memory graph asking r low = r.shared.phased.cset_is low
+calm_in : (config : Config) (memory : Word → ℕ) (graph : Graph) (asking : ℕ → Asking) (represents : Represents config memory graph asking) → memory Phase < 2 → memory Cset ≡ 0
+calm_in config memory graph asking represents low = represents.shared.phased.cset_is low
 
 -- one of two
 pick : (holds : Bool) (memory other_memory : Word → ℕ) → holds ≡ true → (λ word. if holds then memory word else other_memory word) ≡ memory
@@ -69,31 +70,31 @@ no_more_seats config words seat past = view_none config words (Current seat) (le
 
 -- the words past marking represent the same graph
 past_marking_represents : (config : Config) (memory : Word → ℕ) (graph : Graph) (asking : ℕ → Asking) → Represents config memory graph asking → HasNoMoreSeats config memory → Represents config (past_marking config memory) graph asking
-past_marking_represents config memory graph asking r seats = ⊎_elim
+past_marking_represents config memory graph asking represents seats = ⊎_elim
     (λ (on : (memory Phase == 1) ≡ true).
-    subst (λ w. Represents config w graph asking) (sym (pick (memory Phase == 1) (evac_next config memory) memory on)) (evacuation_represents config memory graph asking r (eqb-true (memory Phase) 1 on) seats))
-    (λ (off : (memory Phase == 1) ≡ false). subst (λ w. Represents config w graph asking) (sym (skip (memory Phase == 1) (evac_next config memory) memory off)) r)
+    subst (λ w. Represents config w graph asking) (sym (pick (memory Phase == 1) (evac_next config memory) memory on)) (evacuation_represents config memory graph asking represents (eqb-true (memory Phase) 1 on) seats))
+    (λ (off : (memory Phase == 1) ≡ false). subst (λ w. Represents config w graph asking) (sym (skip (memory Phase == 1) (evac_next config memory) memory off)) represents)
     (cases_Bool (memory Phase == 1))
 
 -- and no other seats have buffers then
 past_marking_seats : (config : Config) (memory : Word → ℕ) → HasNoMoreSeats config memory → HasNoMoreSeats config (past_marking config memory)
-past_marking_seats config memory seats seat past = of_two (memory Phase == 1) (evac_next config memory (Current seat)) (memory (Current seat)) 0 (next_current config memory seat ∙ seats seat past) (seats seat past)
+past_marking_seats config memory seats seat past = either_is (memory Phase == 1) (evac_next config memory (Current seat)) (memory (Current seat)) 0 (next_current config memory seat ∙ seats seat past) (seats seat past)
 
-can_collect : (config : Config) (memory : Word → ℕ) (graph : Graph) (asking : ℕ → Asking) (r : Represents config memory graph asking) → HasNoMoreSeats config memory
-    → CanPause config memory (live config memory graph asking (by_copies config memory graph asking r)) r.ghost.owner (promises_of config graph asking) graph
-can_collect config memory graph asking r seats = record {
-  holds = holds_by config memory graph asking (by_copies config memory graph asking r);
-  sized = are_sized config memory graph asking (by_copies config memory graph asking r);
-  phase_is = r.shared.phased.phase_is;
-  uncollected = λ none. calm_in config memory graph asking r (omega (arith, none));
-  marking = λ on. is_marking config memory graph asking r (calm_in config memory graph asking r (omega (arith, on))) on;
-  ends = λ needed runs. can_end config (past_marking config memory) graph asking (past_marking_represents config memory graph asking r seats) (past_marking_seats config memory seats);
+can_collect : (config : Config) (memory : Word → ℕ) (graph : Graph) (asking : ℕ → Asking) (represents : Represents config memory graph asking) → HasNoMoreSeats config memory
+    → CanPause config memory (live config memory graph asking (by_copies config memory graph asking represents)) represents.ghost.owner (promises_of config graph asking) graph
+can_collect config memory graph asking represents seats = record {
+  holds = holds_by config memory graph asking (by_copies config memory graph asking represents);
+  sized = are_sized config memory graph asking (by_copies config memory graph asking represents);
+  phase_is = represents.shared.phased.phase_is;
+  uncollected = λ none. calm_in config memory graph asking represents (omega (arith, none));
+  marking = λ on. is_marking config memory graph asking represents (calm_in config memory graph asking represents (omega (arith, on))) on;
+  ends = λ needed runs. can_end config (past_marking config memory) graph asking (past_marking_represents config memory graph asking represents seats) (past_marking_seats config memory seats);
 }
 
 pub representing_can_collect : RepresentingCanCollect
 representing_can_collect c image g asking r =
-    let m : Word → ℕ = image_view c image in
-    ∣ (g, live c m g asking (by_copies c m g asking r), r.ghost.owner, promises_of c g asking, can_collect c (image_view c image) g asking r (no_more_seats c (replicate (image_start c) 0 ++ image))) ∣₁
+    let memory : Word → ℕ = image_view c image in
+    ∣ (g, live c memory g asking (by_copies c memory g asking r), r.ghost.owner, promises_of c g asking, can_collect c (image_view c image) g asking r (no_more_seats c (replicate (image_start c) 0 ++ image))) ∣₁
 
 can_begin_prop : (config : Config) (memory : Word → ℕ) → IsProp (CanBegin config memory)
 can_begin_prop config memory = hlevel (le_prop, ℕ_set, Bool-set)
@@ -186,10 +187,10 @@ collected_outside config image graph block owner promises can = by_which (which 
 
     evacuated : image_view config image Phase ≡ 1 → IsZeroOutside config (evac_next config (image_view config image))
     evacuated on =
-        let m : Word → ℕ = image_view config image in
+        let memory : Word → ℕ = image_view config image in
         let marking = can.marking on in
-        let begin = evacuation_can_begin config m block owner promises graph can.holds marking (no_more_seats config (replicate (image_start config) 0 ++ image)) in
-        begun_outside config (final_marked config m) (chosen config (final_marked config m)) (can_clear_in_turn config (final_marked config m) begin) (final_outside config m block owner promises graph can.holds none marking)
+        let begin = evacuation_can_begin config memory block owner promises graph can.holds marking (no_more_seats config (replicate (image_start config) 0 ++ image)) in
+        begun_outside config (final_marked config memory) (chosen config (final_marked config memory)) (can_clear_in_turn config (final_marked config memory) begin) (final_outside config memory block owner promises graph can.holds none marking)
 
     past_outside : IsZeroOutside config (past_marking config (image_view config image))
     past_outside = ⊎_elim
@@ -216,40 +217,40 @@ image_is_collected c image long can = fun_ext (λ word. ⊎_elim
     (cases_Bool (is_word c word)))
 
 -- What a pause owes that is due.
-module _ (config : Config) (image : List ℕ) (graph : Graph) (asking : ℕ → Asking) (r : Represents config (image_view config image) graph asking) (due : IsDue config (image_view config image)) where
-  abbrev m : Word → ℕ
-  m = image_view config image
+module _ (config : Config) (image : List ℕ) (graph : Graph) (asking : ℕ → Asking) (represents : Represents config (image_view config image) graph asking) (due : IsDue config (image_view config image)) where
+  abbrev now : Word → ℕ
+  now = image_view config image
 
   -- where nobody waits nobody asks
-  nobody : IsCalm m → (mutator refs nums : ℕ) → mutator < config.mutators → asking mutator ≡ asks refs nums → ⊥
-  nobody calm mutator refs nums inside is = let waits = r.heard mutator refs nums inside is in let none = calm.unasked in omega (arith, waits, none)
+  nobody : IsCalm now → (mutator refs nums : ℕ) → mutator < config.mutators → asking mutator ≡ asks refs nums → ⊥
+  nobody calm mutator refs nums inside is = let waits = represents.heard mutator refs nums inside is in let none = calm.unasked in omega (arith, waits, none)
 
   -- so a step of the cycle owes that the words represent the same graph
-  step_paused : IsCalm m → (after : Word → ℕ) → collected config m ≡ after → Represents config after graph asking → IsPaused config m (collected config m) graph asking
-  step_paused calm after is stands = subst (λ words. IsPaused config m words graph asking) (sym is) (idle_pause config m after graph asking (nobody calm) stands)
+  step_paused : IsCalm now → (after : Word → ℕ) → collected config now ≡ after → Represents config after graph asking → IsPaused config now (collected config now) graph asking
+  step_paused calm after is stands = subst (λ words. IsPaused config now words graph asking) (sym is) (idle_pause config now after graph asking (nobody calm) stands)
 
-  which_paused : Which config m → IsPaused config m (collected config m) graph asking
-  which_paused (Which.in_full idle is) = subst (λ words. IsPaused config m words graph asking) (sym is) (paused config m graph asking (by_copies config m graph asking r))
+  which_paused : Which config now → IsPaused config now (collected config now) graph asking
+  which_paused (Which.in_full idle is) = subst (λ words. IsPaused config now words graph asking) (sym is) (paused config now graph asking (by_copies config now graph asking represents))
   which_paused (Which.to_end needed runs is) =
-      let past = past_marking_represents config m graph asking r (no_more_seats config (replicate (image_start config) 0 ++ image)) in
-      subst (λ words. IsPaused config m words graph asking) (sym is) (paused_from config (past_marking config m) m (ended config (past_marking config m)) graph asking
-      (ended_is_paused config (past_marking config m) graph asking past (past_marking_seats config m (no_more_seats config (replicate (image_start config) 0 ++ image)))))
-  which_paused (Which.to_mark calm begins is) = step_paused calm (init_marked config m) is (beginning_represents config m graph asking r begins (nobody calm))
+      let past = past_marking_represents config now graph asking represents (no_more_seats config (replicate (image_start config) 0 ++ image)) in
+      subst (λ words. IsPaused config now words graph asking) (sym is) (paused_from config (past_marking config now) now (ended config (past_marking config now)) graph asking
+      (ended_is_paused config (past_marking config now) graph asking past (past_marking_seats config now (no_more_seats config (replicate (image_start config) 0 ++ image)))))
+  which_paused (Which.to_mark calm begins is) = step_paused calm (init_marked config now) is (beginning_represents config now graph asking represents begins (nobody calm))
   which_paused (Which.to_evacuate calm on is) =
-      step_paused calm (evac_next config m) is (evacuation_represents config m graph asking r on (no_more_seats config (replicate (image_start config) 0 ++ image)))
+      step_paused calm (evac_next config now) is (evacuation_represents config now graph asking represents on (no_more_seats config (replicate (image_start config) 0 ++ image)))
   which_paused (Which.to_update calm on is) =
-      step_paused calm (init_updated config m) is (updating_begins config m graph asking r on (calm.room on) (due (omega (arith, on)) calm.unasked))
+      step_paused calm (init_updated config now) is (updating_begins config now graph asking represents on (calm.room on) (due (omega (arith, on)) calm.unasked))
   which_paused (Which.to_free calm not_0 not_1 not_2 is) =
-      let few = r.shared.phased.phase_is in
-      let on : m Phase ≡ 3 = omega (arith, few, not_0, not_1, not_2) in
-      step_paused calm (final_updated config m) is (updating_ends config m graph asking r on (due (omega (arith, on)) calm.unasked))
+      let few = represents.shared.phased.phase_is in
+      let on : now Phase ≡ 3 = omega (arith, few, not_0, not_1, not_2) in
+      step_paused calm (final_updated config now) is (updating_ends config now graph asking represents on (due (omega (arith, on)) calm.unasked))
 
-  collected_paused : IsPaused config m (collected config m) graph asking
-  collected_paused = which_paused (which config m)
+  collected_paused : IsPaused config now (collected config now) graph asking
+  collected_paused = which_paused (which config now)
 
 pub collect_is_pause : CollectIsPause
 collect_is_pause = record {
-  long = λ c image long. collected_length c image;
+  long = λ config image long. collected_length config image;
   pauses = λ c image g asking long r due.
       subst (λ after. IsPaused c (image_view c image) after g asking) (sym (image_is_collected c image long (representing_can_collect c image g asking r)))
       (collected_paused c image g asking r due);

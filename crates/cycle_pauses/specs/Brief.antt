@@ -7,21 +7,21 @@ use Rattle.cycle_pauses.specs.Collect.{is_room_needed, collected}
 
 -- whether a word is none of the heap's
 abbrev pub is_off_heap : Word → Bool
-is_off_heap (Heap a) = false
+is_off_heap (Heap address) = false
 is_off_heap word = true
 
 -- whether a word stands before those of the mutators
 abbrev pub is_ahead : Word → Bool
-is_ahead (Root t i) = false
-is_ahead (Count t) = false
-is_ahead (Buffer t i) = false
-is_ahead (Wait t) = false
-is_ahead (Answer t) = false
-is_ahead (Grey n) = false
-is_ahead (Black n) = false
-is_ahead (Heap a) = false
+is_ahead (Root mutator index) = false
+is_ahead (Count mutator) = false
+is_ahead (Buffer mutator entry) = false
+is_ahead (Wait mutator) = false
+is_ahead (Answer mutator) = false
+is_ahead (Grey number) = false
+is_ahead (Black number) = false
+is_ahead (Heap address) = false
 is_ahead Share = false
-is_ahead (Pin t i) = false
+is_ahead (Pin mutator slot) = false
 is_ahead word = true
 
 -- one memory has of another the words that pass a test, and 0 at each other word

@@ -51,8 +51,8 @@ same_marking memory = fun_ext (λ word. ⊎_elim
     (cases_Bool (is_marking word)))
 
 -- and so a load changes none
-pub marking_loaded : (memory : Word → ℕ) (at : Word) → with_marking memory memory ≡ touched memory (touch at loads)
-marking_loaded memory at = same_marking memory ∙ load_keeps memory at
+pub marking_loaded : (memory : Word → ℕ) (word : Word) → with_marking memory memory ≡ touched memory (touch word loads)
+marking_loaded memory word = same_marking memory ∙ load_keeps memory word
 
 module _ (config : Config) (world : World) (seat : ℕ) (marking : Word → ℕ) (recording : ℕ → Option ℕ) (scanning : ℕ → Option Scan) where
   -- the world after such a step
@@ -64,29 +64,29 @@ module _ (config : Config) (world : World) (seat : ℕ) (marking : Word → ℕ)
   pub record IsMarkingStep : Type 0 where
     pub phase : world.memory Phase ≡ 1
     pub claims : world.memory Claim ≤ marking Claim
-    pub greys : (a : ℕ) → HasMark config (λ n. world.memory (Grey n)) a → HasMark config (λ n. marking (Grey n)) a
-    pub noted : (v : ℕ) → NotedIn config world v → IsNoted config (λ n. marking (Grey n)) (λ t. marking (Count t)) (λ t index. marking (Buffer t index)) recording v
-    pub scanned : (a refs nums index : ℕ) (name : Name) → world.ghost.snapshot.block a ≡ Some (thing name refs nums) → index < refs
-        → IsToScan config (λ n. world.memory (Black n)) world.ghost.scanning a index
-        → IsToScan config (λ n. marking (Black n)) scanning a index ⊎ NeedsNoMarking world.ghost.snapshot (IsNoted config (λ n. marking (Grey n)) (λ t. marking (Count t)) (λ t index. marking (Buffer t index)) recording) a index
-    pub grey_marks : AreMarks config (λ n. marking (Grey n)) world.block
-    pub black_marks : AreMarks config (λ n. marking (Black n)) world.block
-    pub entries : AreEntries config (λ t. marking (Count t)) (λ t index. marking (Buffer t index)) world.block
-    pub counts : (j : ℕ) → j ≢ seat → marking (Count j) ≡ world.memory (Count j)
-    pub buffers : (j index : ℕ) → j ≢ seat → marking (Buffer j index) ≡ world.memory (Buffer j index)
+    pub greys : (a : ℕ) → HasMark config (λ number. world.memory (Grey number)) a → HasMark config (λ number. marking (Grey number)) a
+    pub noted : (address : ℕ) → NotedIn config world address → IsNoted config (λ number. marking (Grey number)) (λ mutator. marking (Count mutator)) (λ mutator index. marking (Buffer mutator index)) recording address
+    pub scanned : (address refs nums index : ℕ) (name : Name) → world.ghost.snapshot.block address ≡ Some (thing name refs nums) → index < refs
+        → IsToScan config (λ number. world.memory (Black number)) world.ghost.scanning address index
+        → IsToScan config (λ number. marking (Black number)) scanning address index ⊎ NeedsNoMarking world.ghost.snapshot (IsNoted config (λ number. marking (Grey number)) (λ mutator. marking (Count mutator)) (λ mutator index. marking (Buffer mutator index)) recording) address index
+    pub grey_marks : AreMarks config (λ number. marking (Grey number)) world.block
+    pub black_marks : AreMarks config (λ number. marking (Black number)) world.block
+    pub entries : AreEntries config (λ mutator. marking (Count mutator)) (λ mutator index. marking (Buffer mutator index)) world.block
+    pub counts : (mutator : ℕ) → mutator ≢ seat → marking (Count mutator) ≡ world.memory (Count mutator)
+    pub buffers : (mutator index : ℕ) → mutator ≢ seat → marking (Buffer mutator index) ≡ world.memory (Buffer mutator index)
     pub recorded : (j : ℕ) → j ≢ seat → recording j ≡ world.ghost.recording j
     pub scans : (j : ℕ) → j ≢ seat → scanning j ≡ world.ghost.scanning j
 
   module _ (shared : Shared config world) (step : IsMarkingStep) where
     -- no reference of the snapshot is lost
-    snapshot_after : KeepsSnapshot config (world.memory Phase) (λ n. marking (Grey n)) (λ n. marking (Black n)) (λ t. marking (Count t)) (λ t k. marking (Buffer t k))
-        (λ r. world.memory (Top r)) (λ r. world.memory (Tams r)) (λ a. world.memory (Heap a)) world.block world.ghost.snapshot recording scanning
+    snapshot_after : KeepsSnapshot config (world.memory Phase) (λ number. marking (Grey number)) (λ number. marking (Black number)) (λ mutator. marking (Count mutator)) (λ mutator entry. marking (Buffer mutator entry))
+        (λ region. world.memory (Top region)) (λ region. world.memory (Tams region)) (λ address. world.memory (Heap address)) world.block world.ghost.snapshot recording scanning
     snapshot_after = record {
       empty = shared.marked.empty;
-      traced = traced_scanned config world.ghost.snapshot (λ a. world.memory (Heap a)) (λ n. world.memory (Black n)) world.ghost.scanning
-          (IsNoted config (λ n. marking (Grey n)) (λ t. marking (Count t)) (λ t k. marking (Buffer t k)) recording) (λ n. marking (Black n)) scanning step.scanned
-          (traced_noted config world.ghost.snapshot (λ a. world.memory (Heap a)) (λ n. world.memory (Black n)) world.ghost.scanning (NotedIn config world)
-          (IsNoted config (λ n. marking (Grey n)) (λ t. marking (Count t)) (λ t k. marking (Buffer t k)) recording) step.noted shared.marked.traced);
+      traced = traced_scanned config world.ghost.snapshot (λ address. world.memory (Heap address)) (λ number. world.memory (Black number)) world.ghost.scanning
+          (IsNoted config (λ number. marking (Grey number)) (λ mutator. marking (Count mutator)) (λ mutator entry. marking (Buffer mutator entry)) recording) (λ number. marking (Black number)) scanning step.scanned
+          (traced_noted config world.ghost.snapshot (λ address. world.memory (Heap address)) (λ number. world.memory (Black number)) world.ghost.scanning (NotedIn config world)
+          (IsNoted config (λ number. marking (Grey number)) (λ mutator. marking (Count mutator)) (λ mutator entry. marking (Buffer mutator entry)) recording) step.noted shared.marked.traced);
       led = shared.marked.led;
       old = shared.marked.old;
       kept = shared.marked.kept;
@@ -104,7 +104,7 @@ module _ (config : Config) (world : World) (seat : ℕ) (marking : Word → ℕ)
     }
 
     -- it is not so that objects are evacuated
-    evacuating_after : IsEvacuating config (world.memory Phase) (world.memory Cset) (world.memory Evac) (marking Claim) (world.memory Free) (λ r. world.memory (Top r)) (λ r. world.memory (Tams r)) (λ a. world.memory (Heap a)) (λ n. marking (Black n))
+    evacuating_after : IsEvacuating config (world.memory Phase) (world.memory Cset) (world.memory Evac) (marking Claim) (world.memory Free) (λ region. world.memory (Top region)) (λ region. world.memory (Tams region)) (λ address. world.memory (Heap address)) (λ number. marking (Black number))
         world.block world.ghost.owner world.ghost.copying world.ghost.working
     evacuating_after =
         let other : 2 ≤ world.memory Phase → ⊥ = λ on. (let is = step.phase in omega (arith, is, on)) in
@@ -137,19 +137,19 @@ module _ (config : Config) (world : World) (seat : ℕ) (marking : Word → ℕ)
 
     -- what holds of marking holds
     marks_kept : KeepsMarks config world world_after
-    marks_kept = record { phase = refl; snapshot = refl; markable = λ on a is. is; shapes = λ a is. refl; noted = step.noted }
+    marks_kept = record { phase = refl; snapshot = refl; markable = λ on a is. is; shapes = λ address is. refl; noted = step.noted }
 
     -- the facts of the seat's machine stand
     pub keeps_after : Keeps config seat world world_after
     keeps_after = record {
       names = λ a name is. is;
-      targets = λ a refs nums name is. is;
+      targets = λ address refs nums name is. is;
       promises = λ a words is. is;
-      no_promises = λ a words is. is;
-      promise_words = λ a words k is below. refl;
+      no_promises = λ address words is. is;
+      promise_words = λ address words k is below. refl;
       root_words = λ i. refl;
       roots = λ i. refl;
-      pin_words = λ i. refl;
+      pin_words = λ index. refl;
       pins = λ i. refl;
       count = refl;
       wait = refl;
@@ -162,20 +162,20 @@ module _ (config : Config) (world : World) (seat : ℕ) (marking : Word → ℕ)
     pub others_after : (j : ℕ) → j ≢ seat → Rely config j world world_after
     others_after j differs = record {
       names = λ a name is. is;
-      targets = λ a refs nums name is. is;
+      targets = λ address refs nums name is. is;
       rooms = λ a x is room. is;
       no_rooms = λ a x is room. is;
       room_words = λ a k x is room below. refl;
       promises = λ a words is. is;
-      no_promises = λ a words is. is;
-      promise_words = λ a words k is below. refl;
+      no_promises = λ address words is. is;
+      promise_words = λ address words k is below. refl;
       current = refl;
       opens = λ r is. is;
-      owners = λ r is. is;
+      owners = λ region is. is;
       tops = λ r is. refl;
       root_words = λ i. refl;
       roots = λ i. refl;
-      pin_words = λ i. refl;
+      pin_words = λ index. refl;
       pins = λ i. refl;
       count = refl;
       wait = refl;
@@ -193,7 +193,7 @@ module _ (config : Config) (world : World) (seat : ℕ) (marking : Word → ℕ)
       copies = copies_after j;
       fields = record {
         tams = λ r. refl;
-        limits = λ r. refl;
+        limits = λ region. refl;
         deads = λ a words is. is;
         fillers = λ a words is. is;
         claims = λ all. (let more = step.claims in omega (arith, all, more));

@@ -28,7 +28,7 @@ pub record IsShaped (config : Config) (world : World) (address : ℕ) : Type 0 w
 pub markable_shape : (config : Config) (world : World) (address : ℕ) → Shared config world → IsMarkable world.block address → IsShaped config world address
 markable_shape config world address shared (IsMarkable.object name refs nums is) =
     let there = (shared.contents.objects.each address refs nums name is).2 in
-    let inside = piece_inside config (λ r. world.memory (Top r)) world.block shared.parsable.plotted address (thing name refs nums) is in
+    let inside = piece_inside config (λ region. world.memory (Top region)) world.block shared.parsable.plotted address (thing name refs nums) is in
     record {
       refs = refs;
       nums = nums;
@@ -39,7 +39,7 @@ markable_shape config world address shared (IsMarkable.object name refs nums is)
     }
 markable_shape config world address shared (IsMarkable.to_come seat words is) =
     let blank = shared.unwritten.blanks address seat words is in
-    let inside = piece_inside config (λ r. world.memory (Top r)) world.block shared.parsable.plotted address (promised seat words) is in
+    let inside = piece_inside config (λ region. world.memory (Top region)) world.block shared.parsable.plotted address (promised seat words) is in
     record {
       refs = blank.refs;
       nums = blank.nums;

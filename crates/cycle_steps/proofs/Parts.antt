@@ -10,21 +10,21 @@ use Rattle.cycle_steps.proofs.Scans.{each_scans, can_scan_stays, hint_scans}
 pub recording_steps : RecordingSteps
 recording_steps = record {
   begins = λ c u mutator v seated marking object idle scanless roomless shared. takes_in_hand c u mutator v seated marking object idle scanless roomless shared;
-  steps = λ c mutator v. record {
-    stands = λ u at given can. record { stays = λ w rely. can_record_stays c u w mutator rely v at can; inside = record_inside c u mutator v at can };
-    goes = λ u at going shared can. record { step = each_records c u mutator v at going shared can; fits = found_is_fit c u.memory mutator v at can.words };
+  steps = λ config mutator address. record {
+    stands = λ world at given can. record { stays = λ w rely. can_record_stays config world w mutator rely address at can; inside = record_inside config world mutator address at can };
+    goes = λ u at going shared can. record { step = each_records config u mutator address at going shared can; fits = found_is_fit config u.memory mutator address at can.words };
   };
-  fits = λ c u mutator v at can. found_is_fit c u.memory mutator v at can.words;
-  noted = λ c u mutator v at can. record_noted c u mutator v at can;
+  fits = λ config u mutator address at can. found_is_fit config u.memory mutator address at can.words;
+  noted = λ config world mutator recorded at can. record_noted config world mutator recorded at can;
 }
 
 -- and those of scanning
 pub scanning_steps : ScanningSteps
 scanning_steps = record {
   begins = λ c u seat seated marking unrecorded idle roomless. record { seated = seated; phase = marking; scanning = idle; records_none = unrecorded; ready = refl; hands = roomless; facts = tt };
-  hinted = λ c u seat address can. hint_scans c u seat address can;
-  steps = λ c seat. record {
-    stands = λ u at given can. record { stays = λ w rely. can_scan_stays c u w seat rely at can; inside = scan_inside c at can.ready };
-    goes = λ u at going shared can. let step = each_scans c u seat at going shared can in record { step = step; fits = step.own.0.ready };
+  hinted = λ config world seat address can. hint_scans config world seat address can;
+  steps = λ config seat. record {
+    stands = λ u at given can. record { stays = λ w rely. can_scan_stays config u w seat rely at can; inside = scan_inside config at can.ready };
+    goes = λ u at going shared can. let step = each_scans config u seat at going shared can in record { step = step; fits = step.own.0.ready };
   };
 }

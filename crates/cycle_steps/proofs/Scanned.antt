@@ -9,7 +9,7 @@ use Rattle.heap_words.specs.Words.{Heap, IsWord}
 use Rattle.regions.specs.Marks.{mark_word, mark_bit, mark_at, with_mark}
 use Rattle.regions.proofs.MarksApart.{mark_no_more}
 use Rattle.heap_world.specs.World.{Scan, IsToScan}
-use Rattle.heap_world.proofs.Updates.{updated, updated_there, updated_else}
+use Rattle.heap_world.proofs.FunctionUpdates.{updated, updated_there, updated_else}
 use Rattle.cycle_steps.specs.Scanning.{scan_at}
 
 module _ (config : Config) (seat : ℕ) (scanning : ℕ → Option Scan) (next : Option Scan) (black : ℕ → ℕ) (address k : ℕ) where

@@ -20,7 +20,7 @@ use Rattle.heap_world.specs.Rely.{Rely}
 use Rattle.heap_world.specs.Part.{PartStep, SameWork}
 use Rattle.heap_world.proofs.Pointing.{named_thing}
 use Rattle.heap_world.proofs.Unmoved.{unmoved}
-use Rattle.heap_world.proofs.Updates.{updated, updated_there, updated_else}
+use Rattle.heap_world.proofs.FunctionUpdates.{updated, updated_there, updated_else}
 use Rattle.unit_part.specs.declared.scan_spot.ScanSpot.{ScanSpot}
 use Rattle.unit_part.specs.declared.scan_spot.ScanSpot.TheVariants.{LoadClaim, ClaimUnit, LoadGrey, LoadBlack, SetBlack, LoadShape, LoadField, SetGrey, Ended}
 use Rattle.unit_part.specs.ScanRows.{touch_at, next_at, next_reference, has_unit, has_fields, unscanned_in, is_ended, is_ready, hinted}
@@ -32,7 +32,7 @@ use Rattle.cycle_steps.proofs.Scanned.{scan_of_others, scan_passes, scan_blacken
 
 -- what a step of a machine that scans owes
 abbrev ScanStep : Config → World → ℕ → ScanSpot → Type 0
-ScanStep config world seat at = PartStep config world seat (touch_at config at) (λ w. CanScan config w seat (next_at config at (world.memory (touch_at config at).word)) × SameWork world w seat × (w.block ≡ world.block))
+ScanStep config world seat spot = PartStep config world seat (touch_at config spot) (λ next_world. CanScan config next_world seat (next_at config spot (world.memory (touch_at config spot).word)) × SameWork world next_world seat × (next_world.block ≡ world.block))
 
 -- a word of the heap is one by test
 word_there : (config : Config) (address : ℕ) → IsWord config (Heap address) → is_word config (Heap address) ≡ true
@@ -48,7 +48,7 @@ module _ (config : Config) (world : World) (seat : ℕ) where
 
   -- the word that it finds
   abbrev found_at : ScanSpot → ℕ
-  found_at at = world.memory (touch_at config at).word
+  found_at spot = world.memory (touch_at config spot).word
 
   -- who scans what, once the machine has gone on
   abbrev scans_then : ScanSpot → ℕ → Option Scan
@@ -56,13 +56,13 @@ module _ (config : Config) (world : World) (seat : ℕ) where
 
   -- the world then
   abbrev world_then : ScanSpot → ScanSpot → World
-  world_then at next = world_after config world seat (words_then at) world.ghost.recording (scans_then next)
+  world_then spot next = world_after config world seat (words_then spot) world.ghost.recording (scans_then next)
 
   -- what is noted then
   abbrev NotedThen : ScanSpot → ℕ → Type 0
-  NotedThen at seat = IsNoted config (λ n. words_then at (Grey n)) (λ t. words_then at (Count t)) (λ t k. words_then at (Buffer t k)) world.ghost.recording seat
+  NotedThen spot seat = IsNoted config (λ number. words_then spot (Grey number)) (λ mutator. words_then spot (Count mutator)) (λ mutator entry. words_then spot (Buffer mutator entry)) world.ghost.recording seat
 
-  memory_then : (at : ScanSpot) → with_marking world.memory (words_then at) ≡ touched world.memory (touch_at config at)
+  memory_then : (spot : ScanSpot) → with_marking world.memory (words_then spot) ≡ touched world.memory (touch_at config spot)
   memory_then LoadClaim = marking_loaded world.memory Claim
   memory_then (ClaimUnit unit) = marking_touched world.memory (touch_at config (ClaimUnit unit)) refl
   memory_then (LoadGrey word) = marking_loaded world.memory (Grey word)
@@ -73,19 +73,19 @@ module _ (config : Config) (world : World) (seat : ℕ) where
   memory_then (SetGrey address field refs found) = marking_touched world.memory (touch_at config (SetGrey address field refs found)) refl
   memory_then (Ended unit) = marking_loaded world.memory Claim
 
-  greys_stay : (at : ScanSpot) (a : ℕ) → HasMark config (λ n. world.memory (Grey n)) a → HasMark config (λ n. words_then at (Grey n)) a
-  greys_stay (SetGrey address field refs found) a mark = mark_stays config (λ n. world.memory (Grey n)) found a mark
+  greys_stay : (spot : ScanSpot) (a : ℕ) → HasMark config (λ number. world.memory (Grey number)) a → HasMark config (λ number. words_then spot (Grey number)) a
+  greys_stay (SetGrey address field refs found) a mark = mark_stays config (λ number. world.memory (Grey number)) found a mark
   greys_stay _ a mark = mark
 
-  counts_stay : (at : ScanSpot) (mutator : ℕ) → words_then at (Count mutator) ≡ world.memory (Count mutator)
+  counts_stay : (spot : ScanSpot) (mutator : ℕ) → words_then spot (Count mutator) ≡ world.memory (Count mutator)
   counts_stay LoadClaim mutator = refl
   counts_stay _ mutator = refl
 
-  buffers_stay : (at : ScanSpot) (mutator index : ℕ) → words_then at (Buffer mutator index) ≡ world.memory (Buffer mutator index)
+  buffers_stay : (spot : ScanSpot) (mutator index : ℕ) → words_then spot (Buffer mutator index) ≡ world.memory (Buffer mutator index)
   buffers_stay LoadClaim mutator index = refl
   buffers_stay _ mutator index = refl
 
-  claims_grow : (at : ScanSpot) → world.memory Claim ≤ words_then at Claim
+  claims_grow : (spot : ScanSpot) → world.memory Claim ≤ words_then spot Claim
   claims_grow LoadClaim = omega arith
   claims_grow (ClaimUnit unit) = ⊎_elim
       (λ (won : (world.memory Claim == unit) ≡ true).
@@ -97,36 +97,36 @@ module _ (config : Config) (world : World) (seat : ℕ) where
   claims_grow _ = omega arith
 
   -- what is noted stays so
-  noted_then : (at : ScanSpot) (v : ℕ) → NotedIn config world v → NotedThen at v
-  noted_then at v (IsNoted.by_mark mark) = IsNoted.by_mark (greys_stay at v mark)
-  noted_then at v (IsNoted.by_entry t k inside below is) = IsNoted.by_entry t k inside (subst (λ n. k < n) (sym (counts_stay at t)) below) (buffers_stay at t k ∙ is)
-  noted_then at v (IsNoted.by_hand t inside is) = IsNoted.by_hand t inside is
+  noted_then : (spot : ScanSpot) (v : ℕ) → NotedIn config world v → NotedThen spot v
+  noted_then spot v (IsNoted.by_mark mark) = IsNoted.by_mark (greys_stay spot v mark)
+  noted_then spot v (IsNoted.by_entry mutator index inside below is) = IsNoted.by_entry mutator index inside (subst (λ n. index < n) (sym (counts_stay spot mutator)) below) (buffers_stay spot mutator index ∙ is)
+  noted_then spot v (IsNoted.by_hand t inside is) = IsNoted.by_hand t inside is
 
-  entries_stay : (at : ScanSpot) → AreEntries config (λ t. world.memory (Count t)) (λ t k. world.memory (Buffer t k)) world.block
-      → AreEntries config (λ t. words_then at (Count t)) (λ t k. words_then at (Buffer t k)) world.block
+  entries_stay : (spot : ScanSpot) → AreEntries config (λ mutator. world.memory (Count mutator)) (λ mutator entry. world.memory (Buffer mutator entry)) world.block
+      → AreEntries config (λ mutator. words_then spot (Count mutator)) (λ mutator entry. words_then spot (Buffer mutator entry)) world.block
   entries_stay LoadClaim entries = entries
   entries_stay _ entries = entries
 
   -- the bits that are set are of objects
-  greys_then : (at : ScanSpot) → Shared config world → CanScan config world seat at → AreMarks config (λ n. words_then at (Grey n)) world.block
+  greys_then : (spot : ScanSpot) → Shared config world → CanScan config world seat spot → AreMarks config (λ number. words_then spot (Grey number)) world.block
   greys_then (SetGrey address field refs found) shared can =
-      marks_with config (λ n. world.memory (Grey n)) world.block found (markable_word config world found shared can.facts.1) can.facts.1 (shared.marked.marking can.phase).greys
+      marks_with config (λ number. world.memory (Grey number)) world.block found (markable_word config world found shared can.facts.1) can.facts.1 (shared.marked.marking can.phase).greys
   greys_then _ shared can = (shared.marked.marking can.phase).greys
 
-  blacks_then : (at : ScanSpot) → Shared config world → CanScan config world seat at → AreMarks config (λ n. words_then at (Black n)) world.block
+  blacks_then : (spot : ScanSpot) → Shared config world → CanScan config world seat spot → AreMarks config (λ number. words_then spot (Black number)) world.block
   blacks_then (SetBlack address) shared can =
-      marks_with config (λ n. world.memory (Black n)) world.block address (markable_word config world address shared can.facts) can.facts (shared.marked.marking can.phase).blacks
+      marks_with config (λ number. world.memory (Black number)) world.block address (markable_word config world address shared can.facts) can.facts (shared.marked.marking can.phase).blacks
   blacks_then _ shared can = (shared.marked.marking can.phase).blacks
 
   -- a field of the snapshot that a scan had still to come to is such a one, or done
   abbrev IsScannedOn : ScanSpot → ScanSpot → Type 0
-  IsScannedOn at next = (a refs nums k : ℕ) (name : Name) → world.ghost.snapshot.block a ≡ Some (thing name refs nums) → k < refs
-      → IsToScan config (λ n. world.memory (Black n)) world.ghost.scanning a k
-      → IsToScan config (λ n. words_then at (Black n)) (scans_then next) a k ⊎ NeedsNoMarking world.ghost.snapshot (NotedThen at) a k
+  IsScannedOn spot next = (a refs nums k : ℕ) (name : Name) → world.ghost.snapshot.block a ≡ Some (thing name refs nums) → k < refs
+      → IsToScan config (λ number. world.memory (Black number)) world.ghost.scanning a k
+      → IsToScan config (λ number. words_then spot (Black number)) (scans_then next) a k ⊎ NeedsNoMarking world.ghost.snapshot (NotedThen spot) a k
 
   -- a step that leads to another spot
-  leads_to : (at next : ScanSpot) → next_at config at (found_at at) ≡ next → is_ready config next ≡ true → ScanFacts config (world_then at next) next → IsScannedOn at next
-      → Shared config world → CanScan config world seat at → ScanStep config world seat at
+  leads_to : (spot next : ScanSpot) → next_at config spot (found_at spot) ≡ next → is_ready config next ≡ true → ScanFacts config (world_then spot next) next → IsScannedOn spot next
+      → Shared config world → CanScan config world seat spot → ScanStep config world seat spot
   leads_to at next leads ready facts scanned shared can =
       step_after config world seat (words_then at) world.ghost.recording (scans_then next) shared
       (record {
@@ -138,12 +138,12 @@ module _ (config : Config) (world : World) (seat : ℕ) where
         grey_marks = greys_then at shared can;
         black_marks = blacks_then at shared can;
         entries = entries_stay at (shared.marked.marking can.phase).entries;
-        counts = λ j differs. counts_stay at j;
-        buffers = λ j k differs. buffers_stay at j k;
+        counts = λ mutator differs. counts_stay at mutator;
+        buffers = λ mutator index differs. buffers_stay at mutator index;
         recorded = λ j differs. refl;
         scans = λ j differs. updated_else world.ghost.scanning seat (scanning_of next) j (λ e. differs (sym e));
       })
-      (touch_at config at) (λ w. CanScan config w seat (next_at config at (found_at at))) (memory_then at)
+      (touch_at config at) (λ world. CanScan config world seat (next_at config at (found_at at))) (memory_then at)
       (subst (λ spot. CanScan config (world_then at next) seat spot) (sym leads) (record {
         seated = can.seated;
         phase = can.phase;
@@ -155,10 +155,10 @@ module _ (config : Config) (world : World) (seat : ℕ) where
       }))
 
   -- a step outside a scan that leaves the black bits
-  looks : (at next : ScanSpot) → ((n : ℕ) → world.memory (Black n) ≡ words_then at (Black n)) → world.ghost.scanning seat ≡ None → IsScannedOn at next
-  looks at next same idle a refs nums k name is below scan =
-      subst (λ black. IsToScan config black (scans_then next) a k ⊎ NeedsNoMarking world.ghost.snapshot (NotedThen at) a k) (fun_ext same)
-      (scan_of_others config seat world.ghost.scanning (scanning_of next) (λ n. world.memory (Black n)) a k (NeedsNoMarking world.ghost.snapshot (NotedThen at) a k) idle scan)
+  looks : (spot next : ScanSpot) → ((number : ℕ) → world.memory (Black number) ≡ words_then spot (Black number)) → world.ghost.scanning seat ≡ None → IsScannedOn spot next
+  looks spot next same idle a refs nums k name is below scan =
+      subst (λ black. IsToScan config black (scans_then next) a k ⊎ NeedsNoMarking world.ghost.snapshot (NotedThen spot) a k) (fun_ext same)
+      (scan_of_others config seat world.ghost.scanning (scanning_of next) (λ number. world.memory (Black number)) a k (NeedsNoMarking world.ghost.snapshot (NotedThen spot) a k) idle scan)
 
   -- the load of what is claimed
   at_load_claim : Shared config world → CanScan config world seat LoadClaim → ScanStep config world seat LoadClaim
@@ -218,21 +218,21 @@ module _ (config : Config) (world : World) (seat : ℕ) where
   at_set_black address shared can =
       let heap : IsWord config (Heap address) = markable_word config world address shared can.facts in
       ⊎_elim
-      (λ (black : (mark_at config (λ n. world.memory (Black n)) address == 1) ≡ true).
-      leads_to (SetBlack address) (LoadGrey (mark_word config address)) (cond-true (mark_at config (λ n. world.memory (Black n)) address == 1) _ _ black)
+      (λ (black : (mark_at config (λ number. world.memory (Black number)) address == 1) ≡ true).
+      leads_to (SetBlack address) (LoadGrey (mark_word config address)) (cond-true (mark_at config (λ number. world.memory (Black number)) address == 1) _ _ black)
       (lt-ltb (mark_word config address) (bit_words config) (word_inside config address heap)) tt
-      (λ a refs nums k name is below scan. inl (scan_blackened config seat world.ghost.scanning None (λ n. world.memory (Black n)) a k address heap (snapshot_word a refs nums name shared is) can.scanning
-      (λ same white. (let set : mark_at config (λ n. world.memory (Black n)) a ≡ 1 = ap (mark_at config (λ n. world.memory (Black n))) same ∙ eqb-true _ _ black in absurd (omega (arith, set, white)))) scan))
+      (λ other_address refs nums k name is below scan. inl (scan_blackened config seat world.ghost.scanning None (λ number. world.memory (Black number)) other_address k address heap (snapshot_word other_address refs nums name shared is) can.scanning
+      (λ same white. (let set : mark_at config (λ number. world.memory (Black number)) other_address ≡ 1 = ap (mark_at config (λ number. world.memory (Black number))) same ∙ eqb-true _ _ black in absurd (omega (arith, set, white)))) scan))
       shared can)
-      (λ (white : (mark_at config (λ n. world.memory (Black n)) address == 1) ≡ false).
+      (λ (white : (mark_at config (λ number. world.memory (Black number)) address == 1) ≡ false).
       let shape = markable_shape config world address shared can.facts in
       let second : IsWord config (Heap (address + 1)) = (let above = shape.above in omega (arith, above), let below = shape.below in omega (arith, below)) in
-      leads_to (SetBlack address) (LoadShape address) (cond-false (mark_at config (λ n. world.memory (Black n)) address == 1) _ _ white)
+      leads_to (SetBlack address) (LoadShape address) (cond-false (mark_at config (λ number. world.memory (Black number)) address == 1) _ _ white)
       (and_from _ _ (word_there config address heap) (word_there config (address + 1) second)) can.facts
-      (λ a refs nums k name is below scan. inl (scan_blackened config seat world.ghost.scanning (Some (scan_at address 0)) (λ n. world.memory (Black n)) a k address heap (snapshot_word a refs nums name shared is) can.scanning
+      (λ other_address refs nums k name is below scan. inl (scan_blackened config seat world.ghost.scanning (Some (scan_at address 0)) (λ number. world.memory (Black number)) other_address k address heap (snapshot_word other_address refs nums name shared is) can.scanning
       (λ same unset. IsToScan.in_scan seat 0 can.seated (updated_there world.ghost.scanning seat (Some (scan_at address 0)) ∙ ap (λ x. Some (scan_at x 0)) (sym same)) (omega arith)) scan))
       shared can)
-      (cases_Bool (mark_at config (λ n. world.memory (Black n)) address == 1))
+      (cases_Bool (mark_at config (λ number. world.memory (Black number)) address == 1))
 
   -- a scan goes on to a field, or ends
   abbrev GoesTo : ℕ → ℕ → ℕ → ScanSpot → Type 0
@@ -248,29 +248,29 @@ module _ (config : Config) (world : World) (seat : ℕ) where
       and_from _ _ (word_there config address (markable_word config world address shared markable)) (word_there config (address + 2 + refs) (omega (arith, above), omega (arith, below, says, is)))
 
   -- the next reference, or the word of bits again
-  goes_on : (at : ScanSpot) (address field refs : ℕ) → next_at config at (found_at at) ≡ next_reference config address field refs → IsMarkable world.block address → refs_in (world.memory (Heap (address + 1))) ≡ refs
-      → ((next : ScanSpot) → GoesTo address field refs next → IsScannedOn at next) → Shared config world → CanScan config world seat at → ScanStep config world seat at
-  goes_on at address field refs leads markable is scanned shared can = ⊎_elim
+  goes_on : (spot : ScanSpot) (address field refs : ℕ) → next_at config spot (found_at spot) ≡ next_reference config address field refs → IsMarkable world.block address → refs_in (world.memory (Heap (address + 1))) ≡ refs
+      → ((next : ScanSpot) → GoesTo address field refs next → IsScannedOn spot next) → Shared config world → CanScan config world seat spot → ScanStep config world seat spot
+  goes_on spot address field refs leads markable is scanned shared can = ⊎_elim
       (λ (more : nat_lt field refs ≡ true).
-      leads_to at (LoadField address field refs) (leads ∙ cond-true (nat_lt field refs) _ _ more) (and_from _ _ (fields_there address refs shared markable is) more)
+      leads_to spot (LoadField address field refs) (leads ∙ cond-true (nat_lt field refs) _ _ more) (and_from _ _ (fields_there address refs shared markable is) more)
       (record { object = markable; refs_are = is; below = ltb-true field refs more }) (scanned (LoadField address field refs) (inl refl)) shared can)
       (λ (none : nat_lt field refs ≡ false).
-      leads_to at (LoadGrey (mark_word config address)) (leads ∙ cond-false (nat_lt field refs) _ _ none)
+      leads_to spot (LoadGrey (mark_word config address)) (leads ∙ cond-false (nat_lt field refs) _ _ none)
       (lt-ltb (mark_word config address) (bit_words config) (word_inside config address (markable_word config world address shared markable))) tt
       (scanned (LoadGrey (mark_word config address)) (inr (refl, ltb-false field refs none))) shared can)
       (cases_Bool (nat_lt field refs))
 
   -- what the machine's own scan leaves behind is done
-  passes : (at next : ScanSpot) (address from field refs : ℕ) → ((n : ℕ) → world.memory (Black n) ≡ words_then at (Black n)) → Shared config world → CanScan config world seat at → scanning_of at ≡ Some (scan_at address from)
+  passes : (spot next : ScanSpot) (address from field refs : ℕ) → ((number : ℕ) → world.memory (Black number) ≡ words_then spot (Black number)) → Shared config world → CanScan config world seat spot → scanning_of spot ≡ Some (scan_at address from)
       → refs_in (world.memory (Heap (address + 1))) ≡ refs → GoesTo address field refs next
-      → ((name : Name) (more nums k : ℕ) → world.ghost.snapshot.block address ≡ Some (thing name more nums) → k < more → from ≤ k → k < field → NeedsNoMarking world.ghost.snapshot (NotedThen at) address k) → IsScannedOn at next
-  passes at next address from field refs same shared can scans is goes passed a more nums k name old below scan =
-      subst (λ black. IsToScan config black (scans_then next) a k ⊎ NeedsNoMarking world.ghost.snapshot (NotedThen at) a k) (fun_ext same)
-      (scan_passes config seat world.ghost.scanning (scanning_of next) (λ n. world.memory (Black n)) a k (NeedsNoMarking world.ghost.snapshot (NotedThen at) a k) address from field refs can.seated (can.scanning ∙ scans) goes
+      → ((name : Name) (more nums k : ℕ) → world.ghost.snapshot.block address ≡ Some (thing name more nums) → k < more → from ≤ k → k < field → NeedsNoMarking world.ghost.snapshot (NotedThen spot) address k) → IsScannedOn spot next
+  passes spot next address from field refs same shared can scans is goes passed a more nums k name old below scan =
+      subst (λ black. IsToScan config black (scans_then next) a k ⊎ NeedsNoMarking world.ghost.snapshot (NotedThen spot) a k) (fun_ext same)
+      (scan_passes config seat world.ghost.scanning (scanning_of next) (λ number. world.memory (Black number)) a k (NeedsNoMarking world.ghost.snapshot (NotedThen spot) a k) address from field refs can.seated (can.scanning ∙ scans) goes
       (λ here. (let all : refs_in (world.memory (Heap (a + 1))) ≡ more = snapshot_refs a more nums name shared old in
       let there : refs_in (world.memory (Heap (a + 1))) ≡ refs = ap (λ x. refs_in (world.memory (Heap (x + 1)))) here ∙ is in
       omega (arith, below, all, there)))
-      (λ here start end. subst (λ x. NeedsNoMarking world.ghost.snapshot (NotedThen at) x k) (sym here) (passed name more nums k (ap world.ghost.snapshot.block (sym here) ∙ old) below start end))
+      (λ here start end. subst (λ x. NeedsNoMarking world.ghost.snapshot (NotedThen spot) x k) (sym here) (passed name more nums k (ap world.ghost.snapshot.block (sym here) ∙ old) below start end))
       scan)
 
   -- the load of an object's shape
@@ -285,29 +285,29 @@ module _ (config : Config) (world : World) (seat : ℕ) where
   field_then : (address field : ℕ) → Shared config world → IsDoneOrFound config world address field (world.memory (Heap (address + 3 + field)))
   field_then address field shared name refs nums is below = by_edge (shared.marked.traced.edges address refs nums field name is below)
     where
-      by_edge : IsTracedAt config world.ghost.snapshot (λ a. world.memory (Heap a)) (λ n. world.memory (Black n)) world.ghost.scanning (NotedIn config world) address field
+      by_edge : IsTracedAt config world.ghost.snapshot (λ address. world.memory (Heap address)) (λ number. world.memory (Black number)) world.ghost.scanning (NotedIn config world) address field
           → NeedsNoMarking world.ghost.snapshot (NotedIn config world) address field ⊎ (was_at world.ghost.snapshot address field ≡ world.memory (Heap (address + 3 + field)))
       by_edge (IsTracedAt.done is_done) = inl is_done
       by_edge (IsTracedAt.stands same scan) = inr (sym same)
 
   -- a word that stands for a reference and is not 0 is an object
   reference_object : ((address refs nums to : ℕ) (name : Name) → world.block address ≡ Some (moved name refs nums to) → ⊥) → (word : ℕ) (reference : Reference) → Points world.block word reference → word ≢ 0 → IsMarkable world.block word
-  reference_object unmoved word None points some = absurd (some points)
-  reference_object unmoved word (Some name) points some = let piece = named_thing (world.block word) name (λ refs nums to. unmoved word refs nums to name) points in IsMarkable.object name piece.0 piece.1 piece.2
+  reference_object unmoved word None points positive = absurd (positive points)
+  reference_object unmoved word (Some name) points positive = let piece = named_thing (world.block word) name (λ refs nums to. unmoved word refs nums to name) points in IsMarkable.object name piece.0 piece.1 piece.2
 
   -- what a field of an object names is one
   field_object : (address field refs : ℕ) → Shared config world → world.memory Phase ≡ 1 → IsMarkable world.block address → refs_in (world.memory (Heap (address + 1))) ≡ refs → field < refs → world.memory (Heap (address + 3 + field)) ≢ 0
       → IsMarkable world.block (world.memory (Heap (address + 3 + field)))
-  field_object address field refs shared on (IsMarkable.object name more nums piece) is below some =
+  field_object address field refs shared on (IsMarkable.object name more nums piece) is below positive =
       let of_graph = shared.contents.objects.each address more nums name piece in
       let there = of_graph.2 in
       let all : refs_in (world.memory (Heap (address + 1))) ≡ more = ap refs_in there.shape ∙ refs_in-shape_word more nums there.few_refs there.few_nums in
       let within : field < length of_graph.0.refs = (let many = there.refs_are in omega (arith, below, is, all, many)) in
-      reference_object (unmoved config world shared (omega (arith, on))) (world.memory (Heap (address + 3 + field))) _ (there.references field _ (slice_get-get_or of_graph.0.refs field None within)) some
-  field_object address field refs shared on (IsMarkable.to_come owner words piece) is below some =
+      reference_object (unmoved config world shared (omega (arith, on))) (world.memory (Heap (address + 3 + field))) _ (there.references field _ (slice_get-get_or of_graph.0.refs field None within)) positive
+  field_object address field refs shared on (IsMarkable.to_come owner words piece) is below positive =
       let blank = shared.unwritten.blanks address owner words piece in
       let all : refs_in (world.memory (Heap (address + 1))) ≡ blank.refs = ap refs_in blank.shape ∙ refs_in-shape_word blank.refs blank.nums blank.few_refs blank.few_nums in
-      absurd (some (blank.nulls field (omega (arith, below, is, all))))
+      absurd (positive (blank.nulls field (omega (arith, below, is, all))))
 
   -- the load of a field
   at_load_field : (address field refs : ℕ) → Shared config world → CanScan config world seat (LoadField address field refs) → ScanStep config world seat (LoadField address field refs)
@@ -354,10 +354,10 @@ module _ (config : Config) (world : World) (seat : ℕ) where
           → NeedsNoMarking world.ghost.snapshot (NotedThen (SetGrey address field refs found)) address field
       grey_done (inl (inl null)) = inl null
       grey_done (inl (inr noted)) = inr (noted_then (SetGrey address field refs found) _ noted)
-      grey_done (inr same) = inr (subst (NotedThen (SetGrey address field refs found)) (sym same) (IsNoted.by_mark (mark_set config (λ n. world.memory (Grey n)) found)))
+      grey_done (inr same) = inr (subst (NotedThen (SetGrey address field refs found)) (sym same) (IsNoted.by_mark (mark_set config (λ number. world.memory (Grey number)) found)))
 
   -- each step
-  pub each_scans : (at : ScanSpot) → is_ended at ≡ false → Shared config world → CanScan config world seat at → ScanStep config world seat at
+  pub each_scans : (spot : ScanSpot) → is_ended spot ≡ false → Shared config world → CanScan config world seat spot → ScanStep config world seat spot
   each_scans LoadClaim going shared can = at_load_claim shared can
   each_scans (ClaimUnit unit) going shared can = at_claim_unit unit shared can
   each_scans (LoadGrey word) going shared can = at_load_grey word shared can
@@ -371,8 +371,8 @@ module _ (config : Config) (world : World) (seat : ℕ) where
 -- While others step, what it counts on stays.
 module _ (config : Config) (world other_world : World) (seat : ℕ) (rely : Rely config seat world other_world) where
   field_stays : world.memory Phase ≢ 2 → (address field refs : ℕ) → IsAtField world address field refs → IsAtField other_world address field refs
-  field_stays on address field refs facts = record {
-    object = rely.marks.keeps.markable on address facts.object;
+  field_stays differs address field refs facts = record {
+    object = rely.marks.keeps.markable differs address facts.object;
     refs_are = ap refs_in (rely.marks.keeps.shapes address facts.object) ∙ facts.refs_are;
     below = facts.below;
   }
@@ -388,23 +388,23 @@ module _ (config : Config) (world other_world : World) (seat : ℕ) (rely : Rely
       noted_now (inl (inr noted)) = inl (inr (rely.marks.keeps.noted _ noted))
       noted_now (inr same) = inr same
 
-  facts_stay : world.memory Phase ≢ 2 → (at : ScanSpot) → ScanFacts config world at → ScanFacts config other_world at
-  facts_stay on (LoadBlack word grey) facts = record { small = facts.small; of_objects = λ k below set. rely.marks.keeps.markable on _ (facts.of_objects k below set) }
-  facts_stay on (SetBlack address) facts = rely.marks.keeps.markable on address facts
-  facts_stay on (LoadShape address) facts = rely.marks.keeps.markable on address facts
-  facts_stay on (LoadField address field refs) facts = field_stays on address field refs facts
-  facts_stay on (SetGrey address field refs found) facts = (field_stays on address field refs facts.0, rely.marks.keeps.markable on found facts.1, found_stays address field found facts.2)
-  facts_stay on _ facts = tt
+  facts_stay : world.memory Phase ≢ 2 → (spot : ScanSpot) → ScanFacts config world spot → ScanFacts config other_world spot
+  facts_stay differs (LoadBlack word grey) facts = record { small = facts.small; of_objects = λ k below set. rely.marks.keeps.markable differs _ (facts.of_objects k below set) }
+  facts_stay differs (SetBlack address) facts = rely.marks.keeps.markable differs address facts
+  facts_stay differs (LoadShape address) facts = rely.marks.keeps.markable differs address facts
+  facts_stay differs (LoadField address field refs) facts = field_stays differs address field refs facts
+  facts_stay differs (SetGrey address field refs found) facts = (field_stays differs address field refs facts.0, rely.marks.keeps.markable differs found facts.1, found_stays address field found facts.2)
+  facts_stay differs _ facts = tt
 
-  pub can_scan_stays : (at : ScanSpot) → CanScan config world seat at → CanScan config other_world seat at
-  can_scan_stays at can = record {
+  pub can_scan_stays : (spot : ScanSpot) → CanScan config world seat spot → CanScan config other_world seat spot
+  can_scan_stays spot can = record {
     seated = can.seated;
     phase = rely.marks.keeps.phase ∙ can.phase;
     scanning = rely.marks.scanning ∙ can.scanning;
     records_none = rely.marks.recording ∙ can.records_none;
     ready = can.ready;
     hands = λ a words is. can.hands a words (rely.no_rooms a _ is refl);
-    facts = facts_stay (λ two. (let one = can.phase in omega (arith, one, two))) at can.facts;
+    facts = facts_stay (λ two. (let one = can.phase in omega (arith, one, two))) spot can.facts;
   }
 
 -- Who has claimed no unit may take any hint: of the spot behind it nothing is counted on.

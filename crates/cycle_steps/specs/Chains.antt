@@ -12,8 +12,8 @@ use Rattle.cycle_steps.specs.Scanning.{scan_at}
 
 -- marking has still to come to an object: it is not black, and stood below its region's top at mark start
 pub record IsStillOpen (config : Config) (world : World) (a : ℕ) : Type 0 where
-  pub unmarked : mark_at config (λ n. world.memory (Black n)) a ≡ 0
-  pub old : IsYoung config (λ r. world.memory (Tams r)) a → ⊥
+  pub unmarked : mark_at config (λ number. world.memory (Black number)) a ≡ 0
+  pub old : IsYoung config (λ region. world.memory (Tams region)) a → ⊥
 
 -- a field of an object names an address
 pub record IsNamedBy (world : World) (address k value : ℕ) : Type 0 where
@@ -30,12 +30,12 @@ pub record IsNamedBy (world : World) (address k value : ℕ) : Type 0 where
 -- one before.
 pub data IsChained (config : Config) (world : World) : ℕ → Type 0 where
   begins : (a : ℕ) → NotedIn config world a → IsStillOpen config world a → IsChained config world a
-  in_scan : (seat o at k a : ℕ) → seat < seat_count config.mutators config.helpers → world.ghost.scanning seat ≡ Some (scan_at o at) → at ≤ k → IsNamedBy world o k a → IsStillOpen config world a → IsChained config world a
-  goes_on : (o k a : ℕ) → IsChained config world o → IsNamedBy world o k a → IsStillOpen config world a → IsChained config world a
+  in_scan : (seat address at k other_address : ℕ) → seat < seat_count config.mutators config.helpers → world.ghost.scanning seat ≡ Some (scan_at address at) → at ≤ k → IsNamedBy world address k other_address → IsStillOpen config world other_address → IsChained config world other_address
+  goes_on : (address k other_address : ℕ) → IsChained config world address → IsNamedBy world address k other_address → IsStillOpen config world other_address → IsChained config world other_address
 
 -- an object is marked, or was allocated since mark start, or marking comes to it
 abbrev pub IsSafe : Config → World → ℕ → Type 0
-IsSafe config world a = HasMark config (λ n. world.memory (Black n)) a ⊎ (IsYoung config (λ r. world.memory (Tams r)) a ⊎ IsChained config world a)
+IsSafe config world a = HasMark config (λ number. world.memory (Black number)) a ⊎ (IsYoung config (λ region. world.memory (Tams region)) a ⊎ IsChained config world a)
 
 -- While objects are marked, each object is safe. So is each that a root or a field names, for these name objects.
 abbrev pub MarkingComes : Type 0

@@ -18,15 +18,15 @@ use Rattle.cycle_steps.specs.Recording.{CanRecord}
 use Rattle.cycle_steps.specs.Scanning.{CanScan}
 
 -- A mutator that records an address. As all of marking, a step leaves who copies and works as it is, and each piece.
-abbrev pub recording_part : Config → (mutator v : ℕ) → Part
-recording_part config mutator v = record {
+abbrev pub recording_part : Config → (mutator recorded : ℕ) → Part
+recording_part config mutator recorded = record {
   Spot = RememberSpot;
   is_ended = remember.is_ended;
-  touch = remember.touch_at config mutator v;
+  touch = remember.touch_at config mutator recorded;
   next = remember.next_at;
   IsFit = remember.IsFit config;
-  Can = λ w at. CanRecord config w mutator v at;
-  Then = λ u w at. CanRecord config w mutator v at × SameWork u w mutator × (w.block ≡ u.block);
+  Can = λ world at. CanRecord config world mutator recorded at;
+  Then = λ world next_world at. CanRecord config next_world mutator recorded at × SameWork world next_world mutator × (next_world.block ≡ world.block);
 }
 
 -- the world in which a mutator has an address in hand
@@ -34,20 +34,20 @@ abbrev pub with_in_hand : World → ℕ → ℕ → World
 with_in_hand world mutator v = record { memory = world.memory; block = world.block; ghost = with_recording world.ghost (λ seat. if mutator == seat then Some v else world.ghost.recording seat); graph = world.graph }
 
 -- to take an address in hand changes nothing that others rely on, and from then on the mutator can record it
-pub record TakesInHand (config : Config) (world : World) (mutator v : ℕ) : Type 0 where
-  pub shared : Shared config (with_in_hand world mutator v)
-  pub own : CanRecord config (with_in_hand world mutator v) mutator v LoadCount
-  pub keeps : Keeps config mutator world (with_in_hand world mutator v)
-  pub others : (k : ℕ) → k ≢ mutator → Rely config k world (with_in_hand world mutator v)
-  pub noted : NotedIn config (with_in_hand world mutator v) v
+pub record TakesInHand (config : Config) (world : World) (mutator recorded : ℕ) : Type 0 where
+  pub shared : Shared config (with_in_hand world mutator recorded)
+  pub own : CanRecord config (with_in_hand world mutator recorded) mutator recorded LoadCount
+  pub keeps : Keeps config mutator world (with_in_hand world mutator recorded)
+  pub others : (seat : ℕ) → seat ≢ mutator → Rely config seat world (with_in_hand world mutator recorded)
+  pub noted : NotedIn config (with_in_hand world mutator recorded) recorded
 
 -- A mutator that overwrites a reference records it. What it finds is fit wherever it stands.
 pub record RecordingSteps : Type 0 where
   pub begins : (config : Config) (world : World) (mutator recorded : ℕ) → mutator < config.mutators → world.memory Phase ≡ marking_phase → IsMarkable world.block recorded
       → world.ghost.recording mutator ≡ None → world.ghost.scanning mutator ≡ None → ((address words : ℕ) → world.block address ≡ Some (hand mutator words) → ⊥) → Shared config world → TakesInHand config world mutator recorded
   pub steps : (config : Config) (mutator recorded : ℕ) → PartSteps config mutator (recording_part config mutator recorded) (λ world. ⊤)
-  pub fits : (config : Config) (world : World) (mutator recorded : ℕ) (at : RememberSpot) → CanRecord config world mutator recorded at → remember.IsFit config at (world.memory (remember.touch_at config mutator recorded at).word)
-  pub noted : (config : Config) (world : World) (mutator recorded : ℕ) (at : RememberSpot) → CanRecord config world mutator recorded at → NotedIn config world recorded
+  pub fits : (config : Config) (world : World) (mutator recorded : ℕ) (spot : RememberSpot) → CanRecord config world mutator recorded spot → remember.IsFit config spot (world.memory (remember.touch_at config mutator recorded spot).word)
+  pub noted : (config : Config) (world : World) (mutator recorded : ℕ) (spot : RememberSpot) → CanRecord config world mutator recorded spot → NotedIn config world recorded
 
 -- a machine that scans
 abbrev pub scanning_part : Config → (seat : ℕ) → Part
@@ -57,8 +57,8 @@ scanning_part config seat = record {
   touch = scan.touch_at config;
   next = scan.next_at config;
   IsFit = seen.IsFit config;
-  Can = λ w at. CanScan config w seat at;
-  Then = λ u w at. CanScan config w seat at × SameWork u w seat × (w.block ≡ u.block);
+  Can = λ world at. CanScan config world seat at;
+  Then = λ world next_world at. CanScan config next_world seat at × SameWork world next_world seat × (next_world.block ≡ world.block);
 }
 
 -- A machine that scans makes grey what the fields of black objects name.

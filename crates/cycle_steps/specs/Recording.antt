@@ -15,11 +15,11 @@ recording_of _ v = Some v
 
 -- Objects are marked, and the address is one that can be. The mutator has it in hand until it is recorded; it scans nothing, and has no
 -- room in hand.
-pub record CanRecord (config : Config) (world : World) (mutator recorded : ℕ) (at : RememberSpot) : Type 0 where
+pub record CanRecord (config : Config) (world : World) (mutator recorded : ℕ) (spot : RememberSpot) : Type 0 where
   pub seated : mutator < config.mutators
   pub phase : world.memory Phase ≡ marking_phase
   pub markable : IsMarkable world.block recorded
-  pub recording : world.ghost.recording mutator ≡ recording_of at recorded
+  pub recording : world.ghost.recording mutator ≡ recording_of spot recorded
   pub scanning : world.ghost.scanning mutator ≡ None
   pub hands : (address words : ℕ) → world.block address ≡ Some (hand mutator words) → ⊥
-  pub words : CanRemember config world.memory mutator recorded at
+  pub words : CanRemember config world.memory mutator recorded spot

@@ -50,11 +50,11 @@ ScanFacts config world (SetGrey address field refs found) = IsAtField world addr
 ScanFacts config world _ = ⊤
 
 -- Objects are marked, and the machine is in the scan of which its spot tells. It records nothing, and has no room in hand.
-pub record CanScan (config : Config) (world : World) (seat : ℕ) (at : ScanSpot) : Type 0 where
+pub record CanScan (config : Config) (world : World) (seat : ℕ) (spot : ScanSpot) : Type 0 where
   pub seated : seat < seat_count config.mutators config.helpers
   pub phase : world.memory Phase ≡ marking_phase
-  pub scanning : world.ghost.scanning seat ≡ scanning_of at
+  pub scanning : world.ghost.scanning seat ≡ scanning_of spot
   pub records_none : world.ghost.recording seat ≡ None
-  pub ready : is_ready config at ≡ true
+  pub ready : is_ready config spot ≡ true
   pub hands : (address words : ℕ) → world.block address ≡ Some (hand seat words) → ⊥
-  pub facts : ScanFacts config world at
+  pub facts : ScanFacts config world spot

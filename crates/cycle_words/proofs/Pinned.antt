@@ -16,18 +16,18 @@ use Rattle.cycle_words.specs.StillHolds.{IsUnpinned}
 use Rattle.cycle_words.proofs.Evacuation.RegionAddresses.{from_base, some_words}
 
 -- the same are, where pin slots are the same
-pub same_pinned : (config : Config) (memory other_memory : Word → ℕ) → ((mutator index : ℕ) → other_memory (Pin mutator index) ≡ memory (Pin mutator index)) → (r : ℕ) → is_pinned config other_memory r ≡ is_pinned config memory r
-same_pinned config memory other_memory same r =
+pub same_pinned : (config : Config) (memory other_memory : Word → ℕ) → ((mutator index : ℕ) → other_memory (Pin mutator index) ≡ memory (Pin mutator index)) → (region : ℕ) → is_pinned config other_memory region ≡ is_pinned config memory region
+same_pinned config memory other_memory same region =
     let words : ◌≡◌ {A = ℕ → ℕ → ℕ} (λ mutator index. other_memory (Pin mutator index)) (λ mutator index. memory (Pin mutator index)) = fun_ext (λ mutator. fun_ext (same mutator)) in
-    ap (λ (f : ℕ → ℕ → ℕ). list_any (λ mutator. list_any (λ index. lies_in config r (f mutator index)) (range_with_len 0 4)) (range_with_len 0 config.mutators)) words
+    ap (λ (f : ℕ → ℕ → ℕ). list_any (λ mutator. list_any (λ index. lies_in config region (f mutator index)) (range_with_len 0 4)) (range_with_len 0 config.mutators)) words
 
 module _ (config : Config) (memory : Word → ℕ) where
   -- the region of what a slot holds is pinned
   pub slot_pins : (mutator index : ℕ) → mutator < config.mutators → index < 4 → config.region_words ≤ memory (Pin mutator index) → is_pinned config memory (region_with config (memory (Pin mutator index))) ≡ true
-  slot_pins mutator index inside few above =
+  slot_pins mutator index inside below above =
       let again = from_base config.region_words (memory (Pin mutator index)) (some_words config) above in
       let rest = mod_below (memory (Pin mutator index)) config.region_words (some_words config) in
-      pins_region config memory (region_with config (memory (Pin mutator index))) mutator index inside few (omega (arith, again)) (omega (arith, again, rest))
+      pins_region config memory (region_with config (memory (Pin mutator index))) mutator index inside below (omega (arith, again)) (omega (arith, again, rest))
 
   -- so no slot holds an address of a region that is not pinned
   pub unpinned_there : (address : ℕ) → config.region_words ≤ address → is_pinned config memory (region_with config address) ≡ false → IsUnpinned config memory address

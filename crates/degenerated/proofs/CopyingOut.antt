@@ -37,12 +37,12 @@ module _ (config : Config) (memory : Word → ℕ) (address : ℕ) where
   stays none = no_room_keeps (copy_room config memory address) none
 
   -- the turn of the first address, and then those of the others
-  module _ (n : ℕ) where
-    room_is : is_room_from config memory address (suc n) ≡ cond (is_left config memory address) (has_copy_room config memory address && is_room_from config (copied_out config memory address) (address + 1) n) (is_room_from config memory (address + 1) n)
+  module _ (addresses : ℕ) where
+    room_is : is_room_from config memory address (suc addresses) ≡ cond (is_left config memory address) (has_copy_room config memory address && is_room_from config (copied_out config memory address) (address + 1) addresses) (is_room_from config memory (address + 1) addresses)
     unfolding is_room_from
     room_is = refl
 
-    pub can_here : CanCopyFrom config memory address (suc n) → is_left config memory address ≡ true → CanCopyOut config memory address
+    pub can_here : CanCopyFrom config memory address (suc addresses) → is_left config memory address ≡ true → CanCopyOut config memory address
     unfolding CanCopyFrom
     can_here can left = (can.0 left).0
 
@@ -50,30 +50,30 @@ module _ (config : Config) (memory : Word → ℕ) (address : ℕ) where
       found : is_left config memory address ≡ true → has_copy_room config memory address ≡ true
       found left = object_finds left ∙ room
 
-      pub goes_on : copied_from config memory address (suc n) ≡ copied_from config (turn_taken config memory address) (address + 1) n
+      pub goes_on : copied_from config memory address (suc addresses) ≡ copied_from config (turn_taken config memory address) (address + 1) addresses
       goes_on = ⊎_elim
-          (λ (left : is_left config memory address ≡ true). copied_next config memory address n left (found left) ∙ ap (λ k. copied_from config k (address + 1) n) (object_taken left))
-          (λ (none : is_left config memory address ≡ false). copied_skips config memory address n none ∙ ap (λ k. copied_from config k (address + 1) n) (nothing_taken none))
+          (λ (left : is_left config memory address ≡ true). copied_next config memory address addresses left (found left) ∙ ap (λ k. copied_from config k (address + 1) addresses) (object_taken left))
+          (λ (none : is_left config memory address ≡ false). copied_skips config memory address addresses none ∙ ap (λ k. copied_from config k (address + 1) addresses) (nothing_taken none))
           (cases_Bool (is_left config memory address))
 
-      pub room_goes_on : is_room_from config memory address (suc n) ≡ is_room_from config (turn_taken config memory address) (address + 1) n
+      pub room_goes_on : is_room_from config memory address (suc addresses) ≡ is_room_from config (turn_taken config memory address) (address + 1) addresses
       room_goes_on = ⊎_elim
           (λ (left : is_left config memory address ≡ true).
           room_is
-          ∙ cond-true (is_left config memory address) (has_copy_room config memory address && is_room_from config (copied_out config memory address) (address + 1) n) (is_room_from config memory (address + 1) n) left
-          ∙ ap (λ b. b && is_room_from config (copied_out config memory address) (address + 1) n) (found left)
-          ∙ ap (λ k. is_room_from config k (address + 1) n) (object_taken left))
+          ∙ cond-true (is_left config memory address) (has_copy_room config memory address && is_room_from config (copied_out config memory address) (address + 1) addresses) (is_room_from config memory (address + 1) addresses) left
+          ∙ ap (λ b. b && is_room_from config (copied_out config memory address) (address + 1) addresses) (found left)
+          ∙ ap (λ k. is_room_from config k (address + 1) addresses) (object_taken left))
           (λ (none : is_left config memory address ≡ false).
           room_is
-          ∙ cond-false (is_left config memory address) (has_copy_room config memory address && is_room_from config (copied_out config memory address) (address + 1) n) (is_room_from config memory (address + 1) n) none
-          ∙ ap (λ k. is_room_from config k (address + 1) n) (nothing_taken none))
+          ∙ cond-false (is_left config memory address) (has_copy_room config memory address && is_room_from config (copied_out config memory address) (address + 1) addresses) (is_room_from config memory (address + 1) addresses) none
+          ∙ ap (λ k. is_room_from config k (address + 1) addresses) (nothing_taken none))
           (cases_Bool (is_left config memory address))
 
-      pub can_go_on : CanCopyFrom config memory address (suc n) → CanCopyFrom config (turn_taken config memory address) (address + 1) n
+      pub can_go_on : CanCopyFrom config memory address (suc addresses) → CanCopyFrom config (turn_taken config memory address) (address + 1) addresses
       unfolding CanCopyFrom
       can_go_on can = ⊎_elim
-          (λ (left : is_left config memory address ≡ true). subst (λ k. CanCopyFrom config k (address + 1) n) (object_taken left) ((can.0 left).1 (found left)))
-          (λ (none : is_left config memory address ≡ false). subst (λ k. CanCopyFrom config k (address + 1) n) (nothing_taken none) (can.1 none))
+          (λ (left : is_left config memory address ≡ true). subst (λ k. CanCopyFrom config k (address + 1) addresses) (object_taken left) ((can.0 left).1 (found left)))
+          (λ (none : is_left config memory address ≡ false). subst (λ k. CanCopyFrom config k (address + 1) addresses) (nothing_taken none) (can.1 none))
           (cases_Bool (is_left config memory address))
 
     -- or it ends here
@@ -87,14 +87,14 @@ module _ (config : Config) (memory : Word → ℕ) (address : ℕ) where
       not_found : has_copy_room config memory address ≡ false
       not_found = object_finds is_one_left ∙ room
 
-      pub ends_here : copied_from config memory address (suc n) ≡ turn_taken config memory address
-      ends_here = copied_stuck config memory address n is_one_left not_found ∙ sym (stays not_found) ∙ object_taken is_one_left
+      pub ends_here : copied_from config memory address (suc addresses) ≡ turn_taken config memory address
+      ends_here = copied_stuck config memory address addresses is_one_left not_found ∙ sym (stays not_found) ∙ object_taken is_one_left
 
-      pub no_room_here : is_room_from config memory address (suc n) ≡ false
+      pub no_room_here : is_room_from config memory address (suc addresses) ≡ false
       no_room_here =
           room_is
-          ∙ cond-true (is_left config memory address) (has_copy_room config memory address && is_room_from config (copied_out config memory address) (address + 1) n) (is_room_from config memory (address + 1) n) is_one_left
-          ∙ ap (λ b. b && is_room_from config (copied_out config memory address) (address + 1) n) not_found
+          ∙ cond-true (is_left config memory address) (has_copy_room config memory address && is_room_from config (copied_out config memory address) (address + 1) addresses) (is_room_from config memory (address + 1) addresses) is_one_left
+          ∙ ap (λ b. b && is_room_from config (copied_out config memory address) (address + 1) addresses) not_found
 
   pub room_for_none : is_room_from config memory address 0 ≡ true
   unfolding is_room_from

@@ -43,8 +43,8 @@ module _ (config : Config) (memory : Word → ℕ) where
       (λ (some : after (Wait mutator) ≢ 0). absurd (none mutator (left_if_waits config memory mutator below some)))
       (cases_eq (after (Wait mutator)) 0))
 
-  pub not_all_served : (t : ℕ) → IsLeft config memory t → nobody_waits config after ≡ false
-  not_all_served t left = false_from_ne_true (nobody_waits config after) (λ all. waits_if_left config memory t left (nobody_is config after all t left.below))
+  pub not_all_served : (mutator : ℕ) → IsLeft config memory mutator → nobody_waits config after ≡ false
+  not_all_served mutator left = false_from_ne_true (nobody_waits config after) (λ all. waits_if_left config memory mutator left (nobody_is config after all mutator left.below))
 
 -- what a whole cycle tells
 pub whole_is : (config : Config) (memory : Word → ℕ) → is_room_for_all config memory ≡ true → (is_room_for_all config memory && nobody_waits config (finished_from config memory)) ≡ nobody_waits config (served config (cycle_finished config memory) config.mutators)

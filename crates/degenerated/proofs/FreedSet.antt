@@ -14,7 +14,7 @@ use Rattle.image_graph.specs.Pinned.{is_in_use, object_of, begins, filled_in, Ca
 use Rattle.cycle_words.specs.Finishing.Finish.{is_to_free, is_to_stay, has_moved, set_left}
 use Rattle.mark_core.specs.Steps.{freed_one, freed_below}
 use Rattle.mark_core.proofs.Freeing.{freed_none, freed_next, left_next, freed_all}
-use Rattle.degenerated.proofs.SameRegion.{same_choice, used_parts, can_fill_too, same_begin, shape_there}
+use Rattle.image_graph.proofs.SameRegion.{same_choice, used_parts, can_fill_too, same_begin, shape_there}
 
 -- what has moved is no filler
 moved_object : (header : ℕ) → is_forwarded header ≡ true → is_filler header ≡ false
@@ -35,8 +35,8 @@ module _ (config : Config) (memory : Word → ℕ) where
   left_below region = freed_below out region (filled_below region)
 
   -- what is filled, by the set of regions
-  same_filled : (f g : ℕ → Bool) → ((q : ℕ) → f q ≡ g q) → filled_in config f (has_moved memory) memory ≡ filled_in config g (has_moved memory) memory
-  same_filled f g same = ap (λ (k : ℕ → Bool). filled_in config k (has_moved memory) memory) (fun_ext same)
+  same_filled : (in_region other_in_region : ℕ → Bool) → ((q : ℕ) → in_region q ≡ other_in_region q) → filled_in config in_region (has_moved memory) memory ≡ filled_in config other_in_region (has_moved memory) memory
+  same_filled in_region g same = ap (λ (k : ℕ → Bool). filled_in config k (has_moved memory) memory) (fun_ext same)
 
   none_filled : memory ≡ filled_below 0
   none_filled = fun_ext at
@@ -77,7 +77,7 @@ module _ (config : Config) (memory : Word → ℕ) where
     spared_next not_freed not_filled = left_next out region (filled_below region) not_freed ∙ ap (freed_below out (region + 1)) (no_more_filled not_filled)
 
     pub freed_region : region < 64 → out region ≡ true → is_to_stay config memory region ≡ false → freed_one region (left_below region) ≡ left_below (region + 1)
-    freed_region few is not_filled = freed_next out region (filled_below region) few is ∙ ap (freed_below out (region + 1)) (no_more_filled not_filled)
+    freed_region below is not_filled = freed_next out region (filled_below region) below is ∙ ap (freed_below out (region + 1)) (no_more_filled not_filled)
 
     -- .. or where it is
     abbrev now : Word → ℕ
@@ -115,21 +115,21 @@ module _ (config : Config) (memory : Word → ℕ) where
         others q other = grind (arith, nat_tests, other)
 
         more_at : (word : Word) → filled_in config this_one (has_moved now) now word ≡ freed_below out region (filled_below (region + 1)) word
-        more_at (Heap a) =
-            let q = region_with config a in
+        more_at (Heap address) =
+            let q = region_with config address in
             ⊎_elim
             (λ (here : q ≡ region).
-            same_choice (this_one q) (stay_below (region + 1) q) (begins config now a) (begins config memory a) (has_moved now a) (has_moved memory a)
-            (filler_header (object_words (now (Heap (a + 1))))) (filler_header (object_words (memory (Heap (a + 1))))) (now (Heap a)) (memory (Heap a))
+            same_choice (this_one q) (stay_below (region + 1) q) (begins config now address) (begins config memory address) (has_moved now address) (has_moved memory address)
+            (filler_header (object_words (now (Heap (address + 1))))) (filler_header (object_words (memory (Heap (address + 1))))) (now (Heap address)) (memory (Heap address))
             (one_more q here)
-            (λ is. same_begin config memory now region fills same_top spared_there a here)
-            (λ is begun. ap is_forwarded (spared a here))
-            (λ is begun moved. ap (λ s. filler_header (object_words s)) (shape_there config memory now region fills same_top spared_there a here begun (moved_object (memory (Heap a)) moved)))
-            (spared a here))
+            (λ is. same_begin config memory now region fills same_top spared_there address here)
+            (λ is begun. ap is_forwarded (spared address here))
+            (λ is begun moved. ap (λ s. filler_header (object_words s)) (shape_there config memory now region fills same_top spared_there address here begun (moved_object (memory (Heap address)) moved)))
+            (spared address here))
             (λ (other : q ≢ region).
-            cond-false (this_one q && begins config now a && has_moved now a) (filler_header (object_words (now (Heap (a + 1))))) (now (Heap a))
-            (and_left (this_one q && begins config now a) (has_moved now a) (and_left (this_one q) (begins config now a) (ne_eqb q region other)))
-            ∙ ap (λ b. cond (b && is_to_stay config memory q && begins config memory a && has_moved memory a) (filler_header (object_words (memory (Heap (a + 1))))) (memory (Heap a))) (others q other))
+            cond-false (this_one q && begins config now address && has_moved now address) (filler_header (object_words (now (Heap (address + 1))))) (now (Heap address))
+            (and_left (this_one q && begins config now address) (has_moved now address) (and_left (this_one q) (begins config now address) (ne_eqb q region other)))
+            ∙ ap (λ b. cond (b && is_to_stay config memory q && begins config memory address && has_moved memory address) (filler_header (object_words (memory (Heap (address + 1))))) (memory (Heap address))) (others q other))
             (cases_eq q region)
         more_at _ = refl
 
@@ -138,17 +138,17 @@ module _ (config : Config) (memory : Word → ℕ) where
 
 -- after all regions
 module _ (config : Config) (words : List ℕ) where
-  abbrev m : Word → ℕ
-  m = view config words
+  abbrev viewed : Word → ℕ
+  viewed = view config words
 
   abbrev filled : Word → ℕ
-  filled = filled_in config (is_to_stay config m) (has_moved m) m
+  filled = filled_in config (is_to_stay config viewed) (has_moved viewed) viewed
 
   -- nothing begins past the last region
-  filled_all_at : (word : Word) → filled_in config (λ q. nat_lt q config.regions && is_to_stay config m q) (has_moved m) m word ≡ filled word
-  filled_all_at (Heap a) =
-      by_begun (nat_lt (region_with config a) config.regions) (is_to_stay config m (region_with config a)) (begins config m a) (has_moved m a) (filler_header (object_words (m (Heap (a + 1))))) (m (Heap a))
-      (λ begun. (let used = and_parts (is_in_use config m a) (object_of config m a == a) begun in lt-ltb (region_with config a) config.regions (used_parts config m a used.0).1))
+  filled_all_at : (word : Word) → filled_in config (λ q. nat_lt q config.regions && is_to_stay config viewed q) (has_moved viewed) viewed word ≡ filled word
+  filled_all_at (Heap address) =
+      by_begun (nat_lt (region_with config address) config.regions) (is_to_stay config viewed (region_with config address)) (begins config viewed address) (has_moved viewed address) (filler_header (object_words (viewed (Heap (address + 1))))) (viewed (Heap address))
+      (λ begun. (let used = and_parts (is_in_use config viewed address) (object_of config viewed address == address) begun in lt-ltb (region_with config address) config.regions (used_parts config viewed address used.0).1))
     where
       by_begun : (low stay begun moved : Bool) (x y : ℕ) → (begun ≡ true → low ≡ true) → cond (low && stay && begun && moved) x y ≡ cond (stay && begun && moved) x y
       by_begun low stay true moved x y is = ap (λ b. cond (b && stay && true && moved) x y) (is refl)
@@ -157,11 +157,11 @@ module _ (config : Config) (words : List ℕ) where
       by_begun false false false moved x y is = refl
   filled_all_at _ = refl
 
-  set_at : (word : Word) → freed_below (is_to_free config m) config.regions filled word ≡ set_left config m word
-  set_at (Top r) = ap (λ k. k (Top r)) (freed_all config words (is_to_free config m))
-  set_at (Tams r) = ap (λ k. k (Tams r)) (freed_all config words (is_to_free config m))
-  set_at (Limit r) = ap (λ k. k (Limit r)) (freed_all config words (is_to_free config m))
+  set_at : (word : Word) → freed_below (is_to_free config viewed) config.regions filled word ≡ set_left config viewed word
+  set_at (Top region) = ap (λ k. k (Top region)) (freed_all config words (is_to_free config viewed))
+  set_at (Tams region) = ap (λ k. k (Tams region)) (freed_all config words (is_to_free config viewed))
+  set_at (Limit region) = ap (λ k. k (Limit region)) (freed_all config words (is_to_free config viewed))
   set_at _ = refl
 
-  pub all_left : left_below config m config.regions ≡ set_left config m
-  all_left = ap (freed_below (is_to_free config m) config.regions) (fun_ext filled_all_at) ∙ fun_ext set_at
+  pub all_left : left_below config viewed config.regions ≡ set_left config viewed
+  all_left = ap (freed_below (is_to_free config viewed) config.regions) (fun_ext filled_all_at) ∙ fun_ext set_at

@@ -13,7 +13,7 @@ use Rattle.image_graph.specs.Full.{now_in}
 use Rattle.image_graph.specs.declared.image.Image.{Image}
 use Rattle.image_graph.specs.State.{config_of, words_of, places_of, IsUnchanged}
 use Rattle.image_graph.proofs.Packed.{heap_part}
-use Rattle.image_graph.proofs.Read.{heap_length}
+use Rattle.image_graph.proofs.HeapParts.{heap_length}
 use Rattle.degenerated.specs.Steps.{kept_now}
 
 -- images that have kept the same words
@@ -33,11 +33,11 @@ heap_word config words whole address above =
     ap (λ xs. get_or xs (address - config.region_words) 0) (heap_part config words)
     ∙ get_or-take (heap_size config) (drop (heap_start config) words) (address - config.region_words) 0 (omega (arith, below, above))
     ∙ get_or-drop (heap_start config) words (address - config.region_words) 0
-    ∙ ap (λ k. get_or words k 0) at ∙ sym (view_word config words (Heap address) (above, below)))
+    ∙ ap (λ index. get_or words index 0) at ∙ sym (view_word config words (Heap address) (above, below)))
     (λ (past : heap_end config ≤ address).
     get_or_past (heap_in config words) (address - config.region_words) 0 (omega (arith, heap_length config words whole, past, above)) ∙ sym (view_none config words (Heap address) (grind (arith, nat_tests))))
     (cases_lt address (heap_end config))
 
 -- so an address leads where its header says
-pub kept_is : (config : Config) (words : List ℕ) → length words ≡ table_words config → (a : ℕ) → config.region_words ≤ a → now_of config.region_words (heap_in config words) a ≡ now_in (view config words) a
-kept_is config words whole a above = ap (λ h. cond (is_forwarded h) (forwardee_in h) a) (heap_word config words whole a above)
+pub kept_is : (config : Config) (words : List ℕ) → length words ≡ table_words config → (address : ℕ) → config.region_words ≤ address → now_of config.region_words (heap_in config words) address ≡ now_in (view config words) address
+kept_is config words whole address above = ap (λ h. cond (is_forwarded h) (forwardee_in h) address) (heap_word config words whole address above)

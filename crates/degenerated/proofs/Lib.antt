@@ -3,5 +3,4 @@ pub mod KeptHeap
 pub mod UpdatedFields
 pub mod Naming
 pub mod Finishing
-pub mod SameRegion
 pub mod FreedSet

@@ -20,22 +20,22 @@ use Rattle.degenerated.proofs.UpdatedFields.{field_stays, lies_there}
 module _ (config : Config) (now : ℕ → ℕ) (memory : Word → ℕ) where
   -- the roots of a mutator
 
-  none_of_row_at : (t : ℕ) (word : Word) → memory word ≡ row_updated config now t 0 memory word
-  none_of_row_at t (Root u i) = none_yet (updated_by config now memory (memory (Root u i))) (memory (Root u i))
+  none_of_row_at : (mutator : ℕ) (word : Word) → memory word ≡ row_updated config now mutator 0 memory word
+  none_of_row_at mutator (Root other_mutator index) = none_yet (updated_by config now memory (memory (Root other_mutator index))) (memory (Root other_mutator index))
     where
-      none_yet : (x y : ℕ) → y ≡ cond ((t == u) && nat_lt i 0) x y
+      none_yet : (x y : ℕ) → y ≡ cond ((mutator == other_mutator) && nat_lt index 0) x y
       none_yet x y = grind (arith, nat_tests)
-  none_of_row_at t _ = refl
+  none_of_row_at mutator _ = refl
 
-  pub none_of_row : (t : ℕ) → memory ≡ row_updated config now t 0 memory
-  none_of_row t = fun_ext (none_of_row_at t)
+  pub none_of_row : (mutator : ℕ) → memory ≡ row_updated config now mutator 0 memory
+  none_of_row mutator = fun_ext (none_of_row_at mutator)
 
   one_of_row : (value before : ℕ → ℕ → ℕ) (t i u j : ℕ)
       → cond ((t == u) && (i == j)) (value t i) (cond ((t == u) && nat_lt j i) (value u j) (before u j)) ≡ cond ((t == u) && nat_lt j (i + 1)) (value u j) (before u j)
   one_of_row value before t i u j = grind (arith, nat_tests)
 
   row_next_at : (mutator index : ℕ) (word : Word) → write (row_updated config now mutator index memory) (Root mutator index) (updated_by config now memory (memory (Root mutator index))) word ≡ row_updated config now mutator (index + 1) memory word
-  row_next_at mutator index (Root u j) = one_of_row (λ x y. updated_by config now memory (memory (Root x y))) (λ x y. memory (Root x y)) mutator index u j
+  row_next_at mutator index (Root other_mutator other_index) = one_of_row (λ mutator index. updated_by config now memory (memory (Root mutator index))) (λ mutator index. memory (Root mutator index)) mutator index other_mutator other_index
   row_next_at mutator index _ = refl
 
   pub row_next : (mutator index : ℕ) → write (row_updated config now mutator index memory) (Root mutator index) (updated_by config now memory (memory (Root mutator index))) ≡ row_updated config now mutator (index + 1) memory
@@ -50,9 +50,9 @@ module _ (config : Config) (now : ℕ → ℕ) (memory : Word → ℕ) where
   -- the roots of all mutators
 
   no_roots_at : (word : Word) → memory word ≡ roots_updated config now 0 memory word
-  no_roots_at (Root u i) = none_yet (updated_by config now memory (memory (Root u i))) (memory (Root u i))
+  no_roots_at (Root mutator index) = none_yet (updated_by config now memory (memory (Root mutator index))) (memory (Root mutator index))
     where
-      none_yet : (x y : ℕ) → y ≡ cond (nat_lt u 0 && nat_lt i 16) x y
+      none_yet : (x y : ℕ) → y ≡ cond (nat_lt mutator 0 && nat_lt index 16) x y
       none_yet x y = grind (arith, nat_tests)
   no_roots_at _ = refl
 
@@ -65,7 +65,7 @@ module _ (config : Config) (now : ℕ → ℕ) (memory : Word → ℕ) where
   one_row value t u i x = grind (arith, nat_tests)
 
   roots_next_at : (t : ℕ) (word : Word) → row_updated config now t 16 (roots_updated config now t memory) word ≡ roots_updated config now (t + 1) memory word
-  roots_next_at t (Root u i) = one_row (updated_by config now memory) t u i (memory (Root u i))
+  roots_next_at t (Root mutator index) = one_row (updated_by config now memory) t mutator index (memory (Root mutator index))
   roots_next_at t _ = refl
 
   pub roots_next : (t : ℕ) → row_updated config now t 16 (roots_updated config now t memory) ≡ roots_updated config now (t + 1) memory
@@ -74,9 +74,9 @@ module _ (config : Config) (now : ℕ → ℕ) (memory : Word → ℕ) where
   -- the answers
 
   no_answers_at : (word : Word) → memory word ≡ answers_updated config now 0 memory word
-  no_answers_at (Answer u) = none_yet (updated_by config now memory (memory (Answer u))) (memory (Answer u))
+  no_answers_at (Answer mutator) = none_yet (updated_by config now memory (memory (Answer mutator))) (memory (Answer mutator))
     where
-      none_yet : (x y : ℕ) → y ≡ cond (nat_lt u 0) x y
+      none_yet : (x y : ℕ) → y ≡ cond (nat_lt mutator 0) x y
       none_yet x y = grind (arith, nat_tests)
   no_answers_at _ = refl
 
@@ -87,7 +87,7 @@ module _ (config : Config) (now : ℕ → ℕ) (memory : Word → ℕ) where
   one_answer value before t u = grind (arith, nat_tests)
 
   answers_next_at : (mutator : ℕ) (word : Word) → write (answers_updated config now mutator memory) (Answer mutator) (updated_by config now memory (memory (Answer mutator))) word ≡ answers_updated config now (mutator + 1) memory word
-  answers_next_at mutator (Answer u) = one_answer (λ x. updated_by config now memory (memory (Answer x))) (λ x. memory (Answer x)) mutator u
+  answers_next_at mutator (Answer other_mutator) = one_answer (λ mutator. updated_by config now memory (memory (Answer mutator))) (λ mutator. memory (Answer mutator)) mutator other_mutator
   answers_next_at mutator _ = refl
 
   pub answers_next : (mutator : ℕ) → write (answers_updated config now mutator memory) (Answer mutator) (updated_by config now memory (memory (Answer mutator))) ≡ answers_updated config now (mutator + 1) memory
@@ -101,48 +101,48 @@ module _ (config : Config) (now : ℕ → ℕ) (memory : Word → ℕ) where
 
 -- all together, by the headers as they were
 module _ (config : Config) (words : List ℕ) (whole : length words ≡ table_words config) where
-  abbrev m : Word → ℕ
-  m = view config words
+  abbrev memory_then : Word → ℕ
+  memory_then = view config words
 
   abbrev now : ℕ → ℕ
   now = now_of config.region_words (heap_in config words)
 
   abbrev fields : Word → ℕ
-  fields = fields_updated config now (is_of_first config config.regions) m
+  fields = fields_updated config now (is_of_first config config.regions) memory_then
 
   -- null stays null
-  null_stays : updated_word config m 0 ≡ 0
-  null_stays = low_spared config m 0 (omega arith)
+  null_stays : updated_word config memory_then 0 ≡ 0
+  null_stays = low_spared config memory_then 0 (omega arith)
 
-  same_update : (address : ℕ) → updated_by config now m address ≡ updated_word config m address
+  same_update : (address : ℕ) → updated_by config now memory_then address ≡ updated_word config memory_then address
   same_update address = ⊎_elim
-      (λ (is : is_collected config m address ≡ true).
-      let parts = and_parts (nat_le config.region_words address) (bit_at (m Cset) (region_with config address) == 1) is in
-      ap (λ y. cond (is_collected config m address) y address) (kept_is config words whole address (leb-true config.region_words address parts.0)))
-      (λ (no : is_collected config m address ≡ false). cond-false (is_collected config m address) (now address) address no ∙ sym (cond-false (is_collected config m address) (now_in m address) address no))
-      (cases_Bool (is_collected config m address))
+      (λ (is : is_collected config memory_then address ≡ true).
+      let parts = and_parts (nat_le config.region_words address) (bit_at (memory_then Cset) (region_with config address) == 1) is in
+      ap (λ y. cond (is_collected config memory_then address) y address) (kept_is config words whole address (leb-true config.region_words address parts.0)))
+      (λ (no : is_collected config memory_then address ≡ false). cond-false (is_collected config memory_then address) (now address) address no ∙ sym (cond-false (is_collected config memory_then address) (now_in memory_then address) address no))
+      (cases_Bool (is_collected config memory_then address))
 
   -- a word that is there is updated, and another one is null
-  there_or_null : (holds : Bool) (x : ℕ) → (holds ≡ false → x ≡ 0) → cond holds (updated_by config now m x) x ≡ updated_word config m x
-  there_or_null true x none = same_update x
-  there_or_null false x none = none refl ∙ sym null_stays ∙ ap (updated_word config m) (sym (none refl))
+  there_or_null : (holds : Bool) (address : ℕ) → (holds ≡ false → address ≡ 0) → cond holds (updated_by config now memory_then address) address ≡ updated_word config memory_then address
+  there_or_null true address none = same_update address
+  there_or_null false address none = none refl ∙ sym null_stays ∙ ap (updated_word config memory_then) (sym (none refl))
 
-  all_at : (word : Word) → answers_updated config now config.mutators (roots_updated config now config.mutators fields) word ≡ all_updated config m word
+  all_at : (word : Word) → answers_updated config now config.mutators (roots_updated config now config.mutators fields) word ≡ all_updated config memory_then word
   all_at (Heap address) =
-      by_field (is_of_first config config.regions address) (is_kept_field config m address) (updated_by config now m (m (Heap address))) (m (Heap address)) (λ is. within address is)
-      ∙ ap (λ other_address. cond (is_kept_field config m address) other_address (m (Heap address))) (same_update (m (Heap address)))
+      by_field (is_of_first config config.regions address) (is_kept_field config memory_then address) (updated_by config now memory_then (memory_then (Heap address))) (memory_then (Heap address)) (λ is. within address is)
+      ∙ ap (λ other_address. cond (is_kept_field config memory_then address) other_address (memory_then (Heap address))) (same_update (memory_then (Heap address)))
     where
-      within : (address : ℕ) → is_kept_field config m address ≡ true → is_of_first config config.regions address ≡ true
+      within : (address : ℕ) → is_kept_field config memory_then address ≡ true → is_of_first config config.regions address ≡ true
       within other_address is =
-          let lies = lies_there config m other_address (field_stays config m other_address is) in
+          let lies = lies_there config memory_then other_address (field_stays config memory_then other_address is) in
           lt-ltb (region_with config other_address) config.regions lies.of_region
 
       by_field : (holds other_holds : Bool) (v u : ℕ) → (other_holds ≡ true → holds ≡ true) → cond (holds && other_holds) v u ≡ cond other_holds v u
       by_field holds true v u is = ap (λ z. cond (z && true) v u) (is refl)
       by_field holds false v u is = ap (λ z. cond z v u) (and_right holds false refl)
-  all_at (Root t i) = there_or_null (nat_lt t config.mutators && nat_lt i 16) (m (Root t i)) (λ no. view_none config words (Root t i) no)
-  all_at (Answer t) = there_or_null (nat_lt t config.mutators) (m (Answer t)) (λ no. view_none config words (Answer t) no)
+  all_at (Root mutator index) = there_or_null (nat_lt mutator config.mutators && nat_lt index 16) (memory_then (Root mutator index)) (λ no. view_none config words (Root mutator index) no)
+  all_at (Answer mutator) = there_or_null (nat_lt mutator config.mutators) (memory_then (Answer mutator)) (λ no. view_none config words (Answer mutator) no)
   all_at _ = refl
 
-  pub all : answers_updated config now config.mutators (roots_updated config now config.mutators fields) ≡ all_updated config m
+  pub all : answers_updated config now config.mutators (roots_updated config now config.mutators fields) ≡ all_updated config memory_then
   all = fun_ext all_at

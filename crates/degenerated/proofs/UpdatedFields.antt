@@ -3,6 +3,7 @@ use Rattle.std.proofs.Common.{◌≡◌, ◌≢◌, ℕ, ◌+◌, ◌-◌, ◌<�
 use Rattle.std.proofs.lemmas.Bool.{cases_Bool, cases_eq, cond-false, true≢false, and_left, and_right, and_parts, eq-eqb, ne_eqb, eqb-true, leb-true, ltb-true, le-leb, lt-ltb, false_from_ne_true}
 use Rattle.std.proofs.lemmas.Bool.Decides.{nat_tests}
 use Rattle.std.proofs.Math.Path.{fun_ext}
+use Rattle.shen_graph.proofs.Bools.{both_true}
 use Rattle.heap_words.specs.declared.config.Config.{Config}
 use Rattle.heap_words.specs.Words.{Word, Top, Heap, IsWord, write}
 use Rattle.heap_words.specs.Encoding.{refs_in, object_words, is_forwarded}
@@ -12,12 +13,9 @@ use Rattle.regions.proofs.PlaceLemmas.{regions_tile}
 use Rattle.image_graph.specs.Pinned.{object_of, is_in_use}
 use Rattle.image_graph.proofs.Room.{room_in_heap}
 use Rattle.image_graph.proofs.Starts.{words, from, begins, starts_within, next_ends, next_goes_on, same_starts}
-use Rattle.image_graph.proofs.Filling.{object_stride, filler_same, region_of_base, in_heap_by_region}
+use Rattle.image_graph.proofs.LeftoversFilled.{object_stride, filler_same, region_of_base, in_heap_by_region}
 use Rattle.cycle_words.specs.Finishing.Updated.{is_kept, is_kept_here, is_reference, stays, is_staying, is_kept_field, CanUpdateAll}
 use Rattle.degenerated.specs.Steps.{updated_by, fields_updated, is_at, is_below, is_of, is_of_first}
-
-both_true : (holds other_holds : Bool) → holds ≡ true → other_holds ≡ true → (holds && other_holds) ≡ true
-both_true holds other_holds is too = ap (λ x. x && other_holds) is ∙ too
 
 -- what lies where objects stay
 pub record LiesThere (config : Config) (memory : Word → ℕ) (address : ℕ) : Type 0 where
@@ -50,15 +48,15 @@ module _ (config : Config) (memory : Word → ℕ) where
       (le-leb config.region_words x (omega arith))
       (both_true (nat_lt (region_with config x) config.regions) (nat_lt (x - base_of config (region_with config x)) (memory (Top (region_with config x))))
       (lt-ltb (region_with config x) config.regions (omega (arith, of, below)))
-      (lt-ltb (x - base_of config (region_with config x)) (memory (Top (region_with config x))) (subst (λ q. x - base_of config q < memory (Top q)) (sym of) (omega (arith, back, some))))))
+      (lt-ltb (x - base_of config (region_with config x)) (memory (Top (region_with config x))) (subst (λ region. x - base_of config region < memory (Top region)) (sym of) (omega (arith, back, some))))))
       (ap (stays config memory) of ∙ staying)
 
   -- the object that has an address of a region
-  pub object_in : (region k : ℕ) → k < config.region_words → object_of config memory (base_of config region + k) ≡ base_of config region + start_of (λ a. memory (Heap a)) (base_of config region) k
+  pub object_in : (region k : ℕ) → k < config.region_words → object_of config memory (base_of config region + k) ≡ base_of config region + start_of (λ address. memory (Heap address)) (base_of config region) k
   object_in region k below =
       let back : base_of config region + k - base_of config region ≡ k = omega arith in
-      ap (λ q. base_of config q + start_of (λ a. memory (Heap a)) (base_of config q) (base_of config region + k - base_of config q)) (region_of_base config region k below)
-      ∙ ap (λ d. base_of config region + start_of (λ a. memory (Heap a)) (base_of config region) d) back
+      ap (λ q. base_of config q + start_of (λ address. memory (Heap address)) (base_of config q) (base_of config region + k - base_of config q)) (region_of_base config region k below)
+      ∙ ap (λ d. base_of config region + start_of (λ address. memory (Heap address)) (base_of config region) d) back
 
   -- a field of a kept object
   module _ (x : ℕ) where
@@ -72,7 +70,7 @@ module _ (config : Config) (memory : Word → ℕ) where
     not_staying is = ap (λ b. b && is_kept_here config memory object && is_reference memory object x) is
 
     pub no_reference : (o : ℕ) → o ≡ object → is_reference memory o x ≡ false → is_kept_field config memory x ≡ false
-    no_reference o is none = and_right (is_staying config memory x && is_kept_here config memory object) (is_reference memory object x) (ap (λ a. is_reference memory a x) (sym is) ∙ none)
+    no_reference o is none = and_right (is_staying config memory x && is_kept_here config memory object) (is_reference memory object x) (ap (λ object. is_reference memory object x) (sym is) ∙ none)
 
     pub not_kept : (o : ℕ) → o ≡ object → is_kept_here config memory o ≡ false → is_kept_field config memory x ≡ false
     not_kept o is none =
@@ -81,7 +79,7 @@ module _ (config : Config) (memory : Word → ℕ) where
     pub kept_reference : (o : ℕ) → is_staying config memory x ≡ true → o ≡ object → is_kept_here config memory o ≡ true → is_reference memory o x ≡ true → is_kept_field config memory x ≡ true
     kept_reference o staying is kept reference =
         both_true (is_staying config memory x && is_kept_here config memory object) (is_reference memory object x)
-        (both_true (is_staying config memory x) (is_kept_here config memory object) staying (ap (is_kept_here config memory) (sym is) ∙ kept)) (ap (λ a. is_reference memory a x) (sym is) ∙ reference)
+        (both_true (is_staying config memory x) (is_kept_here config memory object) staying (ap (is_kept_here config memory) (sym is) ∙ kept)) (ap (λ object. is_reference memory object x) (sym is) ∙ reference)
 
   -- one address
   module _ (now : ℕ → ℕ) (x : ℕ) where
@@ -89,7 +87,7 @@ module _ (config : Config) (memory : Word → ℕ) where
     one_left holds y v u none = grind (arith, nat_tests)
 
     left_at : is_kept_field config memory x ≡ false → (word : Word) → memory word ≡ fields_updated config now (is_at x) memory word
-    left_at none (Heap y) = one_left (is_kept_field config memory y) y (updated_by config now memory (memory (Heap y))) (memory (Heap y)) (λ e. ap (is_kept_field config memory) (sym e) ∙ none)
+    left_at none (Heap address) = one_left (is_kept_field config memory address) address (updated_by config now memory (memory (Heap address))) (memory (Heap address)) (λ e. ap (is_kept_field config memory) (sym e) ∙ none)
     left_at none _ = refl
 
     pub left : is_kept_field config memory x ≡ false → memory ≡ fields_updated config now (is_at x) memory
@@ -99,7 +97,7 @@ module _ (config : Config) (memory : Word → ℕ) where
     one_set holds y v u is = grind (arith, nat_tests)
 
     set_at : is_kept_field config memory x ≡ true → (word : Word) → write memory (Heap x) (updated_by config now memory (memory (Heap x))) word ≡ fields_updated config now (is_at x) memory word
-    set_at is (Heap y) = one_set (is_kept_field config memory y) y (λ z. updated_by config now memory (memory (Heap z))) (λ z. memory (Heap z)) (λ e. ap (is_kept_field config memory) (sym e) ∙ is)
+    set_at is (Heap address) = one_set (is_kept_field config memory address) address (λ address. updated_by config now memory (memory (Heap address))) (λ address. memory (Heap address)) (λ e. ap (is_kept_field config memory) (sym e) ∙ is)
     set_at is _ = refl
 
     pub set_one : is_kept_field config memory x ≡ true → write memory (Heap x) (updated_by config now memory (memory (Heap x))) ≡ fields_updated config now (is_at x) memory
@@ -133,25 +131,25 @@ abbrev pub CanRead : Config → (Word → ℕ) → ℕ → Type 0
 CanRead config memory address = IsWord config (Heap address) × (is_filler (memory (Heap address)) ≡ false → IsWord config (Heap (address + 1)))
 
 -- so it is where references can be updated
-can_read : (config : Config) (memory : Word → ℕ) (region s : ℕ) → region < config.regions → stays config memory region ≡ true → s < memory (Top region) → start_of (λ a. memory (Heap a)) (base_of config region) s ≡ s → CanUpdateAll config memory
-    → CanRead config memory (base_of config region + s)
-can_read config memory region s below staying some begun can =
+can_read : (config : Config) (memory : Word → ℕ) (region top : ℕ) → region < config.regions → stays config memory region ≡ true → top < memory (Top region) → start_of (λ address. memory (Heap address)) (base_of config region) top ≡ top → CanUpdateAll config memory
+    → CanRead config memory (base_of config region + top)
+can_read config memory region top below staying some begun can =
     let most = can.within region below in
-    let first = room_in_heap config region s 1 below (omega (arith, some, most)) in (
+    let first = room_in_heap config region top 1 below (omega (arith, some, most)) in (
       (omega (arith, first.from), omega (arith, first.to)),
       λ object_here.
-          let long = object_stride (λ a. memory (Heap a)) (base_of config region + s) object_here in
-          let all = room_in_heap config region s 2 below (let size = can.objects region below staying s some begun in omega (arith, size, long, most)) in
+          let long = object_stride (λ address. memory (Heap address)) (base_of config region + top) object_here in
+          let all = room_in_heap config region top 2 below (let size = can.objects region below staying top some begun in omega (arith, size, long, most)) in
           (omega (arith, all.from), omega (arith, all.to)),
     )
 
 -- References can be updated, and some were.
 module _ (config : Config) (now : ℕ → ℕ) (memory : Word → ℕ) (can : CanUpdateAll config memory) (p : ℕ → Bool) where
-  abbrev n : Word → ℕ
-  n = fields_updated config now p memory
+  abbrev memory_then : Word → ℕ
+  memory_then = fields_updated config now p memory
 
   -- a word that is no field stays
-  word_stays : (address : ℕ) → is_kept_field config memory address ≡ false → n (Heap address) ≡ memory (Heap address)
+  word_stays : (address : ℕ) → is_kept_field config memory address ≡ false → memory_then (Heap address) ≡ memory (Heap address)
   word_stays address none = cond-false (p address && is_kept_field config memory address) (updated_by config now memory (memory (Heap address))) (memory (Heap address)) (and_right (p address) (is_kept_field config memory address) none)
 
   -- so headers and shapes stay
@@ -169,12 +167,12 @@ module _ (config : Config) (now : ℕ → ℕ) (memory : Word → ℕ) (can : Ca
     no_first : (fills : Bool) (a x refs : ℕ) → x < a + 3 → (not fills && nat_le (a + 3) x && nat_lt x (a + 3 + refs)) ≡ false
     no_first fills a x refs low = and_left (not fills && nat_le (a + 3) x) (nat_lt x (a + 3 + refs)) (and_right (not fills) (nat_le (a + 3) x) (grind (arith, nat_tests)))
 
-    pub same_header : (s : ℕ) → start_of heap base s ≡ s → s < memory (Top r) → n (Heap (base + s)) ≡ memory (Heap (base + s))
+    pub same_header : (s : ℕ) → start_of heap base s ≡ s → s < memory (Top r) → memory_then (Heap (base + s)) ≡ memory (Heap (base + s))
     same_header s is some =
         let object : object_of config memory (base + s) ≡ base + s = object_in config memory r s (omega (arith, some, top_within)) ∙ ap (λ k. base + k) is in
         word_stays (base + s) (no_reference config memory (base + s) (base + s) (sym object) (no_first (is_filler (memory (Heap (base + s)))) (base + s) (base + s) (refs_in (memory (Heap (base + s + 1)))) (omega arith)))
 
-    pub same_shape : (s : ℕ) → start_of heap base s ≡ s → s < memory (Top r) → is_filler (memory (Heap (base + s))) ≡ false → n (Heap (base + s + 1)) ≡ memory (Heap (base + s + 1))
+    pub same_shape : (s : ℕ) → start_of heap base s ≡ s → s < memory (Top r) → is_filler (memory (Heap (base + s))) ≡ false → memory_then (Heap (base + s + 1)) ≡ memory (Heap (base + s + 1))
     same_shape s is some object_here =
         let long : stride_at heap (base + s) ≡ object_words (memory (Heap (base + s + 1))) = object_stride heap (base + s) object_here in
         let size = can.objects r below staying s some is in
@@ -185,11 +183,11 @@ module _ (config : Config) (now : ℕ → ℕ) (memory : Word → ℕ) (can : Ca
         word_stays (base + s + 1) (no_reference config memory (base + s + 1) (base + s) (sym object) (no_first (is_filler (memory (Heap (base + s)))) (base + s) (base + s + 1) (refs_in (memory (Heap (base + s + 1)))) (omega arith)))
 
     -- so each is as long as before
-    pub same_stride : (s : ℕ) → start_of heap base s ≡ s → s < memory (Top r) → stride_at (λ a. n (Heap a)) (base + s) ≡ stride_at heap (base + s)
+    pub same_stride : (s : ℕ) → start_of heap base s ≡ s → s < memory (Top r) → stride_at (λ address. memory_then (Heap address)) (base + s) ≡ stride_at heap (base + s)
     same_stride s is some = ⊎_elim
-        (λ (fills : is_filler (memory (Heap (base + s))) ≡ true). filler_same heap (λ a. n (Heap a)) (base + s) (base + s) fills (same_header s is some))
+        (λ (fills : is_filler (memory (Heap (base + s))) ≡ true). filler_same heap (λ address. memory_then (Heap address)) (base + s) (base + s) fills (same_header s is some))
         (λ (object_here : is_filler (memory (Heap (base + s))) ≡ false).
-        object_stride (λ a. n (Heap a)) (base + s) (ap is_filler (same_header s is some) ∙ object_here) ∙ ap object_words (same_shape s is some object_here)
+        object_stride (λ address. memory_then (Heap address)) (base + s) (ap is_filler (same_header s is some) ∙ object_here) ∙ ap object_words (same_shape s is some object_here)
         ∙ sym (object_stride heap (base + s) object_here))
         (cases_Bool (is_filler (memory (Heap (base + s)))))
 
@@ -204,63 +202,63 @@ module _ (config : Config) (now : ℕ → ℕ) (memory : Word → ℕ) (can : Ca
       s_below : s < memory (Top r)
       s_below = omega (arith, from heap base (i - 1), some)
 
-      pub last_in_heap : CanRead config n (base + s)
+      pub last_in_heap : CanRead config memory_then (base + s)
       last_in_heap = subst (λ k. IsWord config (Heap (base + s)) × (is_filler k ≡ false → IsWord config (Heap (base + s + 1)))) (sym (same_header s s_begins s_below))
           (can_read config memory r s below staying s_below s_begins can)
 
-      same_size : stride_at (λ a. n (Heap a)) (base + s) ≡ words heap base s
+      same_size : stride_at (λ address. memory_then (Heap address)) (base + s) ≡ words heap base s
       same_size = same_stride s s_begins s_below
 
       -- it ends there, or it goes on
       module _ (object first : ℕ) (at : object ≡ base + s) (from_base : first ≡ base) where
-        size_is : object + stride_at (λ a. n (Heap a)) object ≡ base + s + words heap base s
-        size_is = ap (λ a. a + stride_at (λ b. n (Heap b)) a) at ∙ ap (λ k. base + s + k) same_size
+        size_is : object + stride_at (λ address. memory_then (Heap address)) object ≡ base + s + words heap base s
+        size_is = ap (λ a. a + stride_at (λ address. memory_then (Heap address)) a) at ∙ ap (λ k. base + s + k) same_size
 
-        pub here : (object + stride_at (λ a. n (Heap a)) object == first + i) ≡ true → first + i ≡ base + start_of heap base i
+        pub here : (object + stride_at (λ address. memory_then (Heap address)) object == first + i) ≡ true → first + i ≡ base + start_of heap base i
         here is =
-            let ends : object + stride_at (λ a. n (Heap a)) object ≡ first + i = eqb-true (object + stride_at (λ a. n (Heap a)) object) (first + i) is in
+            let ends : object + stride_at (λ address. memory_then (Heap address)) object ≡ first + i = eqb-true (object + stride_at (λ address. memory_then (Heap address)) object) (first + i) is in
             let begun : start_of heap base i ≡ i = next_ends heap base i (omega (arith, ends, size_is, from_base)) in
             omega (arith, begun, from_base)
 
-        pub still : (object + stride_at (λ a. n (Heap a)) object == first + i) ≡ false → object ≡ base + start_of heap base i
+        pub still : (object + stride_at (λ address. memory_then (Heap address)) object == first + i) ≡ false → object ≡ base + start_of heap base i
         still is =
             let begun : start_of heap base i ≡ s = next_goes_on heap base i
-            (λ ends. true≢false (sym (eq-eqb (object + stride_at (λ a. n (Heap a)) object) (first + i) (omega (arith, ends, size_is, from_base))) ∙ is)) in
+            (λ ends. true≢false (sym (eq-eqb (object + stride_at (λ address. memory_then (Heap address)) object) (first + i) (omega (arith, ends, size_is, from_base))) ∙ is)) in
             omega (arith, begun, at)
 
-    pub same_start : (k : ℕ) → k < memory (Top r) → start_of (λ a. n (Heap a)) base k ≡ start_of heap base k
-    same_start = same_starts heap (λ a. n (Heap a)) base (memory (Top r)) same_stride
+    pub same_start : (k : ℕ) → k < memory (Top r) → start_of (λ address. memory_then (Heap address)) base k ≡ start_of heap base k
+    same_start = same_starts heap (λ address. memory_then (Heap address)) base (memory (Top r)) same_stride
 
   -- so references can be updated still
-  pub can_still : CanUpdateAll config n
+  pub can_still : CanUpdateAll config memory_then
   can_still = record {
     set = can.set;
     within = can.within;
     objects = λ r below staying k some begun_now.
-        let begun : start_of (λ a. memory (Heap a)) (base_of config r) k ≡ k = sym (same_start r below staying k some) ∙ begun_now in
+        let begun : start_of (λ address. memory (Heap address)) (base_of config r) k ≡ k = sym (same_start r below staying k some) ∙ begun_now in
         let size = can.objects r below staying k some begun in
         let long = same_stride r below staying k begun some in
         omega (arith, size, long);
   }
 
   -- and each of them is the same
-  pub same_object : (address : ℕ) → is_staying config memory address ≡ true → object_of config n address ≡ object_of config memory address
+  pub same_object : (address : ℕ) → is_staying config memory address ≡ true → object_of config memory_then address ≡ object_of config memory address
   same_object address is =
       let lies = lies_there config memory address is in
       ap (λ k. base_of config (region_with config address) + k) (same_start (region_with config address) lies.of_region lies.staying (address - base_of config (region_with config address)) lies.below)
 
-  pub same_reference : (address : ℕ) → is_staying config memory address ≡ true → is_reference n (object_of config memory address) address ≡ is_reference memory (object_of config memory address) address
+  pub same_reference : (address : ℕ) → is_staying config memory address ≡ true → is_reference memory_then (object_of config memory address) address ≡ is_reference memory (object_of config memory address) address
   same_reference address is =
       let lies = lies_there config memory address is in
       let r = region_with config address in
       let k = address - base_of config r in
-      let s = start_of (λ a. memory (Heap a)) (base_of config r) k in
-      let some : s < memory (Top r) = omega (arith, from (λ a. memory (Heap a)) (base_of config r) k, lies.below) in
-      let begun = begins (λ a. memory (Heap a)) (base_of config r) k in
+      let s = start_of (λ address. memory (Heap address)) (base_of config r) k in
+      let some : s < memory (Top r) = omega (arith, from (λ address. memory (Heap address)) (base_of config r) k, lies.below) in
+      let begun = begins (λ address. memory (Heap address)) (base_of config r) k in
       let header = same_header r lies.of_region lies.staying s begun some in
-      ap (λ h. not (is_filler h) && nat_le (object_of config memory address + 3) address && nat_lt address (object_of config memory address + 3 + refs_in (n (Heap (object_of config memory address + 1))))) header
+      ap (λ h. not (is_filler h) && nat_le (object_of config memory address + 3) address && nat_lt address (object_of config memory address + 3 + refs_in (memory_then (Heap (object_of config memory address + 1))))) header
       ∙ ⊎_elim
-      (λ (fills : is_filler (memory (Heap (object_of config memory address))) ≡ true). none_there address fills (n (Heap (object_of config memory address + 1))) ∙ sym (none_there address fills (memory (Heap (object_of config memory address + 1)))))
+      (λ (fills : is_filler (memory (Heap (object_of config memory address))) ≡ true). none_there address fills (memory_then (Heap (object_of config memory address + 1))) ∙ sym (none_there address fills (memory (Heap (object_of config memory address + 1)))))
       (λ (object_here : is_filler (memory (Heap (object_of config memory address))) ≡ false).
       ap (λ h. not (is_filler (memory (Heap (object_of config memory address)))) && nat_le (object_of config memory address + 3) address && nat_lt address (object_of config memory address + 3 + refs_in h)) (same_shape r lies.of_region lies.staying s begun some object_here))
       (cases_Bool (is_filler (memory (Heap (object_of config memory address)))))
@@ -270,23 +268,23 @@ module _ (config : Config) (now : ℕ → ℕ) (memory : Word → ℕ) (can : Ca
       none_there y fills shape = ap (λ b. not b && nat_le (object_of config memory y + 3) y && nat_lt y (object_of config memory y + 3 + refs_in shape)) fills
 
   -- what has not moved has not moved
-  pub same_kept : (address : ℕ) → is_staying config memory address ≡ true → is_kept_here config n (object_of config memory address) ≡ is_kept_here config memory (object_of config memory address)
+  pub same_kept : (address : ℕ) → is_staying config memory address ≡ true → is_kept_here config memory_then (object_of config memory address) ≡ is_kept_here config memory (object_of config memory address)
   same_kept address is =
       let lies = lies_there config memory address is in
       let r = region_with config address in
       let k = address - base_of config r in
-      let s = start_of (λ a. memory (Heap a)) (base_of config r) k in
-      let some : s < memory (Top r) = omega (arith, from (λ a. memory (Heap a)) (base_of config r) k, lies.below) in
-      ap (λ h. not (is_forwarded h) && is_kept config memory (object_of config memory address)) (same_header r lies.of_region lies.staying s (begins (λ a. memory (Heap a)) (base_of config r) k) some)
+      let s = start_of (λ address. memory (Heap address)) (base_of config r) k in
+      let some : s < memory (Top r) = omega (arith, from (λ address. memory (Heap address)) (base_of config r) k, lies.below) in
+      ap (λ h. not (is_forwarded h) && is_kept config memory (object_of config memory address)) (same_header r lies.of_region lies.staying s (begins (λ address. memory (Heap address)) (base_of config r) k) some)
 
-  pub same_field : (x : ℕ) → is_kept_field config n x ≡ is_kept_field config memory x
-  same_field x = ⊎_elim
-      (λ (is : is_staying config memory x ≡ true).
-      ap (λ o. is_staying config memory x && is_kept_here config n o && is_reference n o x) (same_object x is)
-      ∙ ap (λ b. is_staying config memory x && b && is_reference n (object_of config memory x) x) (same_kept x is)
-      ∙ ap (λ b. is_staying config memory x && is_kept_here config memory (object_of config memory x) && b) (same_reference x is))
-      (λ (no : is_staying config memory x ≡ false). ap (λ b. b && is_kept_here config n (object_of config n x) && is_reference n (object_of config n x) x) no ∙ sym (not_staying config memory x no))
-      (cases_Bool (is_staying config memory x))
+  pub same_field : (address : ℕ) → is_kept_field config memory_then address ≡ is_kept_field config memory address
+  same_field address = ⊎_elim
+      (λ (is : is_staying config memory address ≡ true).
+      ap (λ object. is_staying config memory address && is_kept_here config memory_then object && is_reference memory_then object address) (same_object address is)
+      ∙ ap (λ b. is_staying config memory address && b && is_reference memory_then (object_of config memory address) address) (same_kept address is)
+      ∙ ap (λ b. is_staying config memory address && is_kept_here config memory (object_of config memory address) && b) (same_reference address is))
+      (λ (no : is_staying config memory address ≡ false). ap (λ b. b && is_kept_here config memory_then (object_of config memory_then address) && is_reference memory_then (object_of config memory_then address) address) no ∙ sym (not_staying config memory address no))
+      (cases_Bool (is_staying config memory address))
 
   -- some more are updated
   module _ (q s : ℕ → Bool) (apart : (x : ℕ) → is_kept_field config memory x ≡ true → p x ≡ true → q x ≡ false) (joined : (x : ℕ) → is_kept_field config memory x ≡ true → s x ≡ (p x || q x)) where
@@ -301,13 +299,13 @@ module _ (config : Config) (now : ℕ → ℕ) (memory : Word → ℕ) (can : Ca
         ∙ ap (λ z. cond z v u) (and_right a false refl)
         ∙ sym (ap (λ z. cond z v u) (and_right d false refl))
 
-    then_at : (word : Word) → fields_updated config now q n word ≡ fields_updated config now s memory word
-    then_at (Heap x) =
-        ap (λ b. cond (q x && b) (updated_by config now memory (n (Heap x))) (n (Heap x))) (same_field x)
-        ∙ by_sets (p x) (q x) (s x) (is_kept_field config memory x) (updated_by config now memory (memory (Heap x))) (memory (Heap x)) (updated_by config now memory) (apart x) (joined x) refl
+    then_at : (word : Word) → fields_updated config now q memory_then word ≡ fields_updated config now s memory word
+    then_at (Heap address) =
+        ap (λ b. cond (q address && b) (updated_by config now memory (memory_then (Heap address))) (memory_then (Heap address))) (same_field address)
+        ∙ by_sets (p address) (q address) (s address) (is_kept_field config memory address) (updated_by config now memory (memory (Heap address))) (memory (Heap address)) (updated_by config now memory) (apart address) (joined address) refl
     then_at _ = refl
 
-    pub then_updated : fields_updated config now q n ≡ fields_updated config now s memory
+    pub then_updated : fields_updated config now q memory_then ≡ fields_updated config now s memory
     then_updated = fun_ext then_at
 
 -- the first words of the object that has an address where objects stay can be read
@@ -316,7 +314,7 @@ object_inside config memory can address is =
     let lies = lies_there config memory address is in
     let region = region_with config address in
     let k = address - base_of config region in
-    let heap : ℕ → ℕ = λ a. memory (Heap a) in
+    let heap : ℕ → ℕ = λ address. memory (Heap address) in
     let s = start_of heap (base_of config region) k in
     let some : s < memory (Top region) = omega (arith, from heap (base_of config region) k, lies.below) in
     can_read config memory region s lies.of_region lies.staying some (begins heap (base_of config region) k) can
@@ -350,23 +348,23 @@ module _ (config : Config) where
       none : (b : ℕ) → (nat_le b x && nat_lt x (b + 0)) ≡ false
       none b = grind (arith, nat_tests)
 
-  pub addresses_apart : (region k x : ℕ) → is_below config region k x ≡ true → is_at (base_of config region + k) x ≡ false
-  addresses_apart region k x is = apart (base_of config region) is
+  pub addresses_apart : (region offset x : ℕ) → is_below config region offset x ≡ true → is_at (base_of config region + offset) x ≡ false
+  addresses_apart region offset x is = apart (base_of config region) is
     where
-      apart : (b : ℕ) → (nat_le b x && nat_lt x (b + k)) ≡ true → (b + k == x) ≡ false
+      apart : (b : ℕ) → (nat_le b x && nat_lt x (b + offset)) ≡ true → (b + offset == x) ≡ false
       apart b below = grind (arith, nat_tests)
 
-  pub one_address_more : (region k x : ℕ) → is_below config region (k + 1) x ≡ (is_below config region k x || is_at (base_of config region + k) x)
-  one_address_more region k x = more (base_of config region)
+  pub one_address_more : (region offset x : ℕ) → is_below config region (offset + 1) x ≡ (is_below config region offset x || is_at (base_of config region + offset) x)
+  one_address_more region offset x = more (base_of config region)
     where
-      more : (b : ℕ) → (nat_le b x && nat_lt x (b + (k + 1))) ≡ (nat_le b x && nat_lt x (b + k) || (b + k == x))
+      more : (b : ℕ) → (nat_le b x && nat_lt x (b + (offset + 1))) ≡ (nat_le b x && nat_lt x (b + offset) || (b + offset == x))
       more b = grind (arith, nat_tests)
 
   -- a region where nothing stays has no field to be updated
-  pub none_where_nothing_stays : (memory : Word → ℕ) (r : ℕ) → stays config memory r ≡ false → (address : ℕ) → is_kept_field config memory address ≡ true → is_of config r address ≡ false
-  none_where_nothing_stays memory r none address field =
+  pub none_where_nothing_stays : (memory : Word → ℕ) (region : ℕ) → stays config memory region ≡ false → (address : ℕ) → is_kept_field config memory address ≡ true → is_of config region address ≡ false
+  none_where_nothing_stays memory region none address field =
       let staying = (lies_there config memory address (field_stays config memory address field)).staying in
-      ne_eqb (region_with config address) r (λ same. true≢false (sym staying ∙ ap (stays config memory) same ∙ none))
+      ne_eqb (region_with config address) region (λ same. true≢false (sym staying ∙ ap (stays config memory) same ∙ none))
 
   -- the fields of a region lie below its top
   pub fields_below : (memory : Word → ℕ) (region : ℕ) → region < config.regions → memory (Top region) ≤ config.region_words → (address : ℕ) → is_kept_field config memory address ≡ true → is_below config region (memory (Top region)) address ≡ is_of config region address
@@ -377,7 +375,7 @@ module _ (config : Config) where
       ⊎_elim
       (λ (same : q ≡ region).
       let base : base_of config q ≡ base_of config region = ap (base_of config) same in
-      let top : memory (Top q) ≡ memory (Top region) = ap (λ k. memory (Top k)) same in
+      let top : memory (Top q) ≡ memory (Top region) = ap (λ region. memory (Top region)) same in
       let inside : address < base_of config region + memory (Top region) = omega (arith, lies.below, base, top, again.from) in
       let from_base : base_of config region ≤ address = omega (arith, again.from, base) in
       told from_base inside ∙ sym (eq-eqb q region same))

@@ -30,7 +30,7 @@ updated_by config now memory word = if is_collected config memory word then now 
 
 -- the words after the references at a set of addresses were updated
 abbrev pub fields_updated : Config → (now : ℕ → ℕ) → (ℕ → Bool) → (Word → ℕ) → Word → ℕ
-fields_updated config now set memory (Heap x) = if set x && is_kept_field config memory x then updated_by config now memory (memory (Heap x)) else memory (Heap x)
+fields_updated config now set memory (Heap address) = if set address && is_kept_field config memory address then updated_by config now memory (memory (Heap address)) else memory (Heap address)
 fields_updated config now set memory word = memory word
 
 -- sets of addresses: one, those of a region below an offset, those of a region, and those of so many regions
@@ -38,25 +38,25 @@ abbrev pub is_at : ℕ → ℕ → Bool
 is_at a x = a == x
 
 abbrev pub is_below : Config → (region offset : ℕ) → ℕ → Bool
-is_below config region k x = nat_le (base_of config region) x && nat_lt x (base_of config region + k)
+is_below config region offset x = nat_le (base_of config region) x && nat_lt x (base_of config region + offset)
 
 abbrev pub is_of : Config → (region : ℕ) → ℕ → Bool
-is_of config r address = region_with config address == r
+is_of config region address = region_with config address == region
 
 abbrev pub is_of_first : Config → (regions : ℕ) → ℕ → Bool
-is_of_first config n address = nat_lt (region_with config address) n
+is_of_first config regions address = nat_lt (region_with config address) regions
 
 -- the words after so many roots of a mutator were updated
 abbrev pub row_updated : Config → (now : ℕ → ℕ) → (mutator roots : ℕ) → (Word → ℕ) → Word → ℕ
-row_updated config now t n memory (Root u i) = if (t == u) && nat_lt i n then updated_by config now memory (memory (Root u i)) else memory (Root u i)
-row_updated config now t n memory word = memory word
+row_updated config now mutator roots memory (Root other_mutator index) = if (mutator == other_mutator) && nat_lt index roots then updated_by config now memory (memory (Root other_mutator index)) else memory (Root other_mutator index)
+row_updated config now mutator roots memory word = memory word
 
 -- the words after the roots of so many mutators were updated
 abbrev pub roots_updated : Config → (now : ℕ → ℕ) → (mutators : ℕ) → (Word → ℕ) → Word → ℕ
-roots_updated config now n memory (Root u i) = if nat_lt u n && nat_lt i 16 then updated_by config now memory (memory (Root u i)) else memory (Root u i)
-roots_updated config now n memory word = memory word
+roots_updated config now mutators memory (Root mutator index) = if nat_lt mutator mutators && nat_lt index 16 then updated_by config now memory (memory (Root mutator index)) else memory (Root mutator index)
+roots_updated config now mutators memory word = memory word
 
 -- the words after the answers of so many mutators were updated
 abbrev pub answers_updated : Config → (now : ℕ → ℕ) → (mutators : ℕ) → (Word → ℕ) → Word → ℕ
-answers_updated config now n memory (Answer u) = if nat_lt u n then updated_by config now memory (memory (Answer u)) else memory (Answer u)
-answers_updated config now n memory word = memory word
+answers_updated config now mutators memory (Answer mutator) = if nat_lt mutator mutators then updated_by config now memory (memory (Answer mutator)) else memory (Answer mutator)
+answers_updated config now mutators memory word = memory word

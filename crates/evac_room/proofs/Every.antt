@@ -5,12 +5,12 @@ use Rattle.std.proofs.lemmas.Bool.Decides.{nat_tests}
 use Rattle.std.proofs.lemmas.List.{length-set, length-replicate}
 use Rattle.std.proofs.lemmas.List.Elements.{All-head, All-tail}
 use Rattle.std.proofs.lemmas.List.Sums.{count_by-le-length}
+use Rattle.heap_words.proofs.Lists.{slice_get-set_other, slice_get-set_same}
 use Rattle.heap_words.specs.Access.{table_index}
 use Rattle.heap_words.specs.Touch.{access_at}
 use Rattle.heap_words.specs.Steps.{Stage, Event, act, go, moved}
 use Rattle.heap_words.proofs.Runs.{go-none, go-first, go-append, go-keeps}
 use Rattle.heap_words.proofs.Laws.{act_cases, act-event, machines_other}
-use Rattle.heap_words.proofs.Places.{slice_get-set_same, slice_get-set_other}
 use Rattle.heap_words.specs.declared.access.Took.{Took}
 use Rattle.heap_words.specs.declared.access.Took.TheVariants.{Done}
 use Rattle.evac_room.specs.declared.wish.Wish.{Wish}
@@ -108,11 +108,11 @@ each_step s step sound = act_cases copier_kind (λ x. IsStep s x) s step
     }))
 
 pub opening_sound : (copiers : ℕ) → IsFew copiers → IsCounting (opening copiers)
-opening_sound copiers few = record {
+opening_sound copiers is_few = record {
   one = refl;
   holds = record {
     is_word = omega arith;
-    few = omega (arith, few.most, length-replicate copiers Outside);
+    few = omega (arith, is_few.most, length-replicate copiers Outside);
     counts = sym (counted_outside copiers);
     mine = λ number spot here. subst (λ x. Mine 0 x) (sym (outside_here copiers number spot here)) tt;
   };
@@ -123,7 +123,7 @@ pub run_sound : (s : Stage RoomSpot) (steps : List (Event Wish)) → IsCounting 
 run_sound s steps sound = go-keeps copier_kind IsCounting (λ x step before. (each_step x step before).sound) s steps sound
 
 pub reached_sound : (copiers : ℕ) (steps : List (Event Wish)) → IsFew copiers → IsCounting (copiers_reached copiers steps)
-reached_sound copiers steps few = run_sound (opening copiers) steps (opening_sound copiers few)
+reached_sound copiers steps is_few = run_sound (opening copiers) steps (opening_sound copiers is_few)
 
 -- what stays from one stage to all that follow
 pub record IsLater (old : ℕ) (s : Stage RoomSpot) : Type 0 where
@@ -141,9 +141,9 @@ later_more s more sound = go-keeps copier_kind (λ x. IsLater (counter s) x)
     s more (record { sound = sound; bit_stays = λ h. h; quiet_stays = λ q. refl })
 
 pub later_reached : (copiers : ℕ) (steps more : List (Event Wish)) → IsFew copiers → IsLater (counter (copiers_reached copiers steps)) (copiers_reached copiers (steps ++ more))
-later_reached copiers steps more few =
+later_reached copiers steps more is_few =
     subst (λ x. IsLater (counter (copiers_reached copiers steps)) x) (sym (go-append copier_kind (opening copiers) steps more))
-    (later_more (copiers_reached copiers steps) more (reached_sound copiers steps few))
+    (later_more (copiers_reached copiers steps) more (reached_sound copiers steps is_few))
 
 -- what an answer says, of a sound stage
 pub answer_says : (s : Stage RoomSpot) (step : Event Wish) (answer : Copying) → IsCounting s → answer_to s step ≡ Some answer → Says (counter s) answer
@@ -153,7 +153,7 @@ answer_says s step answer sound = by_machine (slice_get s.machines step.number) 
         → (if holds then Some (copying_at (wish_begun spot step.order) (counter s)) else None) ≡ Some answer → Says (counter s) answer
     by_takes spot true here takes is =
         let same : copying_at (wish_begun spot step.order) (counter s) ≡ answer = cc (is) in
-        subst (λ x. Says (counter s) x) same
+        subst (λ answer. Says (counter s) answer) same
         (each_says (counter s) (wish_begun spot step.order) (can_step (counter s) s.machines step.number spot step.order sound.holds here takes))
     by_takes spot false here takes is = absurd (cc (is))
 
@@ -193,40 +193,40 @@ others_leave s number (step ∷ steps) others =
 
 -- the laws over every list of steps
 pub word_counts : (copiers : ℕ) (steps : List (Event Wish)) → IsFew copiers → count_of (counter (copiers_reached copiers steps)) ≡ counted (copiers_reached copiers steps).machines
-word_counts copiers steps few = (reached_sound copiers steps few).holds.counts
+word_counts copiers steps is_few = (reached_sound copiers steps is_few).holds.counts
 
 pub word_is_word : (copiers : ℕ) (steps : List (Event Wish)) → IsFew copiers → counter (copiers_reached copiers steps) < 2 ^ 64
-word_is_word copiers steps few = (reached_sound copiers steps few).holds.is_word
+word_is_word copiers steps is_few = (reached_sound copiers steps is_few).holds.is_word
 
 pub words_fit : (copiers : ℕ) (steps : List (Event Wish)) (number : ℕ) (spot : RoomSpot) (wish : Wish) → IsFew copiers → slice_get (copiers_reached copiers steps).machines number ≡ Some spot → takes_at spot wish ≡ true
     → IsFit (wish_begun spot wish) (counter (copiers_reached copiers steps))
-words_fit copiers steps number spot wish few here takes =
-    each_fits _ _ (can_step _ _ number spot wish (reached_sound copiers steps few).holds here takes)
+words_fit copiers steps number spot wish is_few here takes =
+    each_fits _ _ (can_step _ _ number spot wish (reached_sound copiers steps is_few).holds here takes)
 
 pub bit_stays : (copiers : ℕ) (steps more : List (Event Wish)) → IsFew copiers → is_out_of_room (counter (copiers_reached copiers steps)) ≡ true → is_out_of_room (counter (copiers_reached copiers (steps ++ more))) ≡ true
-bit_stays copiers steps more few = (later_reached copiers steps more few).bit_stays
+bit_stays copiers steps more is_few = (later_reached copiers steps more is_few).bit_stays
 
 -- a copier that was told that it may copy stands inside, and the others leave it there
 pub inside_still : (copiers : ℕ) (steps more : List (Event Wish)) (step : Event Wish) → IsFew copiers → answer_to (copiers_reached copiers steps) step ≡ Some copying.Inside → AreOfOthers step.number more
     → slice_get (copiers_reached copiers (steps ++ step ∷ more)).machines step.number ≡ Some Inside
-inside_still copiers steps more step few answer others =
+inside_still copiers steps more step is_few answer others =
     ap (λ s. slice_get s.machines step.number) (go-append copier_kind (opening copiers) steps (step ∷ more) ∙ go-first copier_kind (copiers_reached copiers steps) step more)
     ∙ others_leave (act copier_kind (copiers_reached copiers steps) step) step.number more others
-    ∙ act_inside (copiers_reached copiers steps) step (reached_sound copiers steps few) answer
+    ∙ act_inside (copiers_reached copiers steps) step (reached_sound copiers steps is_few) answer
 
 -- and the word counts it
 pub inside_until_its_step : (copiers : ℕ) (steps more : List (Event Wish)) (step : Event Wish) → IsFew copiers → answer_to (copiers_reached copiers steps) step ≡ Some copying.Inside → AreOfOthers step.number more
     → (slice_get (copiers_reached copiers (steps ++ step ∷ more)).machines step.number ≡ Some Inside) × (1 ≤ count_of (counter (copiers_reached copiers (steps ++ step ∷ more))))
-inside_until_its_step copiers steps more step few answer others =
-    let here = inside_still copiers steps more step few answer others in
-    (here, omega (arith, word_counts copiers (steps ++ step ∷ more) few, weight_counted (copiers_reached copiers (steps ++ step ∷ more)).machines step.number Inside here))
+inside_until_its_step copiers steps more step is_few answer others =
+    let here = inside_still copiers steps more step is_few answer others in
+    (here, omega (arith, word_counts copiers (steps ++ step ∷ more) is_few, weight_counted (copiers_reached copiers (steps ++ step ∷ more)).machines step.number Inside here))
 
 pub stopped_is_quiet : (copiers : ℕ) (steps : List (Event Wish)) (step : Event Wish) → IsFew copiers → answer_to (copiers_reached copiers steps) step ≡ Some copying.Stopped → IsQuiet (counter (copiers_reached copiers steps))
-stopped_is_quiet copiers steps step few answer = (answer_says (copiers_reached copiers steps) step copying.Stopped (reached_sound copiers steps few) answer).stopped_is_quiet refl
+stopped_is_quiet copiers steps step is_few answer = (answer_says (copiers_reached copiers steps) step copying.Stopped (reached_sound copiers steps is_few) answer).stopped_is_quiet refl
 
 pub quiet_stays : (copiers : ℕ) (steps more : List (Event Wish)) → IsFew copiers → IsQuiet (counter (copiers_reached copiers steps)) → IsQuiet (counter (copiers_reached copiers (steps ++ more)))
-quiet_stays copiers steps more few quiet = subst IsQuiet (sym ((later_reached copiers steps more few).quiet_stays quiet)) quiet
+quiet_stays copiers steps more is_few quiet = subst IsQuiet (sym ((later_reached copiers steps more is_few).quiet_stays quiet)) quiet
 
 pub none_enters : (copiers : ℕ) (steps more : List (Event Wish)) (step : Event Wish) → IsFew copiers → IsQuiet (counter (copiers_reached copiers steps)) → answer_to (copiers_reached copiers (steps ++ more)) step ≢ Some copying.Inside
-none_enters copiers steps more step few quiet answer =
-    (answer_says (copiers_reached copiers (steps ++ more)) step copying.Inside (reached_sound copiers (steps ++ more) few) answer).none_enters (quiet_stays copiers steps more few quiet) refl
+none_enters copiers steps more step is_few quiet answer =
+    (answer_says (copiers_reached copiers (steps ++ more)) step copying.Inside (reached_sound copiers (steps ++ more) is_few) answer).none_enters (quiet_stays copiers steps more is_few quiet) refl

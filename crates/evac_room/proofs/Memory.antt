@@ -24,9 +24,9 @@ use Rattle.evac_room.proofs.OneStep.{after, IsKept, Says, each_keeps, each_says,
 use Rattle.evac_room.proofs.Every.{at_word, moved_one, IsCounting, reached_sound, can_step}
 
 -- what follows from a sound stage, and has one proof at most, follows of each stage that memory may have
-pub from_memory : {P : Type 0} → IsProp P → (copiers : ℕ) (s : Stage RoomSpot) → IsFew copiers → ∥ IsReached copier_kind (opening copiers) s ∥₁ → (IsCounting s → P) → P
-from_memory prop copiers s few some follows =
-    ∥∥₁_elim some prop (λ one. follows (reached_has copier_kind IsCounting (opening copiers) s (λ steps. reached_sound copiers steps few) one))
+pub from_memory : {P : Type 0} → IsProp P → (copiers : ℕ) (end : Stage RoomSpot) → IsFew copiers → ∥ IsReached copier_kind (opening copiers) end ∥₁ → (IsCounting end → P) → P
+from_memory prop copiers end is_few some follows =
+    ∥∥₁_elim some prop (λ one. follows (reached_has copier_kind IsCounting (opening copiers) end (λ steps. reached_sound copiers steps is_few) one))
 
 pub IsFit-prop : (spot : RoomSpot) (word : ℕ) → IsProp (IsFit spot word)
 IsFit-prop Lower word = hlevel (le_prop)
@@ -36,68 +36,68 @@ pub IsQuiet-prop : (word : ℕ) → IsProp (IsQuiet word)
 IsQuiet-prop word = hlevel (Bool-set, ℕ_set)
 
 -- the copier of a number, as the code reads it
-pub spot_here : (copiers : List Copier) (number : ℕ) (x : Copier) → number < length (map spot_of copiers) → x ≡ get_or copiers number x → slice_get (map spot_of copiers) number ≡ Some (spot_of x)
-spot_here copiers number x below value =
+pub spot_here : (copiers : List Copier) (number : ℕ) (copier : Copier) → number < length (map spot_of copiers) → copier ≡ get_or copiers number copier → slice_get (map spot_of copiers) number ≡ Some (spot_of copier)
+spot_here copiers number copier below value =
     let within : number < length copiers = omega (arith, length-map copiers spot_of) in
-    slice_get-map spot_of copiers number ∙ ap (λ o. option_map spot_of o) (slice_get_read copiers (length copiers) number x refl within value)
+    slice_get-map spot_of copiers number ∙ ap (λ o. option_map spot_of o) (slice_get_read copiers (length copiers) number copier refl within value)
 
 -- a copier has taken a wish and made its access
-pub record IsMade (word made : ℕ) (copiers : List Copier) (number : ℕ) (x y : Copier) (wish : Wish) : Type 0 where
-  pub here : slice_get (map spot_of copiers) number ≡ Some (spot_of x)
-  pub takes : takes_at (spot_of x) wish ≡ true
-  pub spot_is : spot_of y ≡ next_at (wish_begun (spot_of x) wish) word
-  pub word_is : made ≡ after word (wish_begun (spot_of x) wish)
+pub record IsMade (word made : ℕ) (copiers : List Copier) (number : ℕ) (copier other_copier : Copier) (wish : Wish) : Type 0 where
+  pub here : slice_get (map spot_of copiers) number ≡ Some (spot_of copier)
+  pub takes : takes_at (spot_of copier) wish ≡ true
+  pub spot_is : spot_of other_copier ≡ next_at (wish_begun (spot_of copier) wish) word
+  pub word_is : made ≡ after word (wish_begun (spot_of copier) wish)
 
 -- the wish is taken by the copier that the code reads
-pub takes_here : (copiers : List Copier) (number : ℕ) (x : Copier) (wish : Wish) → slice_get (map spot_of copiers) number ≡ Some (spot_of x)
-    → takes_at (get_or (map spot_of copiers) number Outside) wish ≡ true → takes_at (spot_of x) wish ≡ true
-takes_here copiers number x wish here takes =
-    subst (λ spot. takes_at spot wish ≡ true) (get_or_from_slice_get (map spot_of copiers) number (spot_of x) Outside here) takes
+pub takes_here : (copiers : List Copier) (number : ℕ) (copier : Copier) (wish : Wish) → slice_get (map spot_of copiers) number ≡ Some (spot_of copier)
+    → takes_at (get_or (map spot_of copiers) number Outside) wish ≡ true → takes_at (spot_of copier) wish ≡ true
+takes_here copiers number copier wish here takes =
+    subst (λ spot. takes_at spot wish ≡ true) (get_or_from_slice_get (map spot_of copiers) number (spot_of copier) Outside here) takes
 
-pub made_from : (word made : ℕ) (copiers : List Copier) (number : ℕ) (x y : Copier) (wish : Wish) → number < length (map spot_of copiers) → x ≡ get_or copiers number x
-    → takes_at (get_or (map spot_of copiers) number Outside) wish ≡ true → spot_of y ≡ next_at (wish_begun (spot_of x) wish) word → made ≡ after word (wish_begun (spot_of x) wish)
-    → IsMade word made copiers number x y wish
-made_from word made copiers number x y wish below value takes spot_is word_is =
-    let here : slice_get (map spot_of copiers) number ≡ Some (spot_of x) = spot_here copiers number x below value in
-    record { here = here; takes = takes_here copiers number x wish here takes; spot_is = spot_is; word_is = word_is }
+pub made_from : (word made : ℕ) (copiers : List Copier) (number : ℕ) (copier other_copier : Copier) (wish : Wish) → number < length (map spot_of copiers) → copier ≡ get_or copiers number copier
+    → takes_at (get_or (map spot_of copiers) number Outside) wish ≡ true → spot_of other_copier ≡ next_at (wish_begun (spot_of copier) wish) word → made ≡ after word (wish_begun (spot_of copier) wish)
+    → IsMade word made copiers number copier other_copier wish
+made_from word made copiers number copier other_copier wish below value takes spot_is word_is =
+    let here : slice_get (map spot_of copiers) number ≡ Some (spot_of copier) = spot_here copiers number copier below value in
+    record { here = here; takes = takes_here copiers number copier wish here takes; spot_is = spot_is; word_is = word_is }
 
-module _ (word made : ℕ) (copiers : List Copier) (number : ℕ) (x y : Copier) (wish : Wish) (step : IsMade word made copiers number x y wish) where
+module _ (word made : ℕ) (copiers : List Copier) (number : ℕ) (copier other_copier : Copier) (wish : Wish) (step : IsMade word made copiers number copier other_copier wish) where
   -- it is one step of the protocol
-  pub made_event : at_word made (map spot_of (slice_set copiers number y)) ≡ act copier_kind (at_word word (map spot_of copiers)) (record { number = number; order = wish })
+  pub made_event : at_word made (map spot_of (slice_set copiers number other_copier)) ≡ act copier_kind (at_word word (map spot_of copiers)) (record { number = number; order = wish })
   made_event =
-      ap (λ w. at_word w (map spot_of (slice_set copiers number y))) step.word_is
-      ∙ ap (λ spots. at_word (after word (wish_begun (spot_of x) wish)) spots) (map-set spot_of copiers number y ∙ ap (λ spot. slice_set (map spot_of copiers) number spot) step.spot_is)
-      ∙ sym (moved_one word (map spot_of copiers) number (spot_of x) wish)
-      ∙ sym (act-event copier_kind (at_word word (map spot_of copiers)) (record { number = number; order = wish }) (spot_of x) (record { here = step.here; takes = step.takes }))
+      ap (λ w. at_word w (map spot_of (slice_set copiers number other_copier))) step.word_is
+      ∙ ap (λ spots. at_word (after word (wish_begun (spot_of copier) wish)) spots) (map-set spot_of copiers number other_copier ∙ ap (λ spot. slice_set (map spot_of copiers) number spot) step.spot_is)
+      ∙ sym (moved_one word (map spot_of copiers) number (spot_of copier) wish)
+      ∙ sym (act-event copier_kind (at_word word (map spot_of copiers)) (record { number = number; order = wish }) (spot_of copier) (record { here = step.here; takes = step.takes }))
 
-  pub made_reached : IsReached copier_kind (opening (length copiers)) (at_word word (map spot_of copiers)) → IsReached copier_kind (opening (length (slice_set copiers number y))) (at_word made (map spot_of (slice_set copiers number y)))
+  pub made_reached : IsReached copier_kind (opening (length copiers)) (at_word word (map spot_of copiers)) → IsReached copier_kind (opening (length (slice_set copiers number other_copier))) (at_word made (map spot_of (slice_set copiers number other_copier)))
   made_reached reached =
-      subst (λ n. IsReached copier_kind (opening n) (at_word made (map spot_of (slice_set copiers number y)))) (sym (length-set copiers number y))
-      (subst (λ s. IsReached copier_kind (opening (length copiers)) s) (sym made_event) (reached_more copier_kind (opening (length copiers)) (at_word word (map spot_of copiers)) (record { number = number; order = wish }) reached))
+      subst (λ n. IsReached copier_kind (opening n) (at_word made (map spot_of (slice_set copiers number other_copier)))) (sym (length-set copiers number other_copier))
+      (subst (λ end. IsReached copier_kind (opening (length copiers)) end) (sym made_event) (reached_more copier_kind (opening (length copiers)) (at_word word (map spot_of copiers)) (record { number = number; order = wish }) reached))
 
-  pub made_few : IsFew (length copiers) → IsFew (length (slice_set copiers number y))
-  made_few few = subst IsFew (sym (length-set copiers number y)) few
+  pub made_few : IsFew (length copiers) → IsFew (length (slice_set copiers number other_copier))
+  made_few is_few = subst IsFew (sym (length-set copiers number other_copier)) is_few
 
-  pub made_answer : (answer : Copying) → answer ≡ copying_at (wish_begun (spot_of x) wish) word → answer_to (at_word word (map spot_of copiers)) (record { number = number; order = wish }) ≡ Some answer
+  pub made_answer : (answer : Copying) → answer ≡ copying_at (wish_begun (spot_of copier) wish) word → answer_to (at_word word (map spot_of copiers)) (record { number = number; order = wish }) ≡ Some answer
   made_answer answer is = rw (step.here, step.takes) (ap (λ a. Some a) (sym is))
 
   -- what the step keeps, and what its answer says
-  pub made_keeps : IsCounting (at_word word (map spot_of copiers)) → IsKept word (wish_begun (spot_of x) wish) made (spot_of y)
+  pub made_keeps : IsCounting (at_word word (map spot_of copiers)) → IsKept word (wish_begun (spot_of copier) wish) made (spot_of other_copier)
   made_keeps sound =
-      subst (λ spot. IsKept word (wish_begun (spot_of x) wish) made spot) (sym step.spot_is)
-      (subst (λ w. IsKept word (wish_begun (spot_of x) wish) w (next_at (wish_begun (spot_of x) wish) word)) (sym step.word_is)
-      (each_keeps word (wish_begun (spot_of x) wish) (can_step word (map spot_of copiers) number (spot_of x) wish sound.holds step.here step.takes)))
+      subst (λ spot. IsKept word (wish_begun (spot_of copier) wish) made spot) (sym step.spot_is)
+      (subst (λ made. IsKept word (wish_begun (spot_of copier) wish) made (next_at (wish_begun (spot_of copier) wish) word)) (sym step.word_is)
+      (each_keeps word (wish_begun (spot_of copier) wish) (can_step word (map spot_of copiers) number (spot_of copier) wish sound.holds step.here step.takes)))
 
-  pub made_says : (answer : Copying) → answer ≡ copying_at (wish_begun (spot_of x) wish) word → IsCounting (at_word word (map spot_of copiers)) → Says word answer
+  pub made_says : (answer : Copying) → answer ≡ copying_at (wish_begun (spot_of copier) wish) word → IsCounting (at_word word (map spot_of copiers)) → Says word answer
   made_says answer is sound =
-      subst (λ a. Says word a) (sym is)
-      (each_says word (wish_begun (spot_of x) wish) (can_step word (map spot_of copiers) number (spot_of x) wish sound.holds step.here step.takes))
+      subst (λ answer. Says word answer) (sym is)
+      (each_says word (wish_begun (spot_of copier) wish) (can_step word (map spot_of copiers) number (spot_of copier) wish sound.holds step.here step.takes))
 
 -- the word that a copier finds is fit
-pub found_fits : (word : ℕ) (copiers : List Copier) (number : ℕ) (x : Copier) (wish : Wish) → slice_get (map spot_of copiers) number ≡ Some (spot_of x) → takes_at (spot_of x) wish ≡ true
-    → IsCounting (at_word word (map spot_of copiers)) → IsFit (wish_begun (spot_of x) wish) word
-found_fits word copiers number x wish here takes sound =
-    each_fits word (wish_begun (spot_of x) wish) (can_step word (map spot_of copiers) number (spot_of x) wish sound.holds here takes)
+pub found_fits : (word : ℕ) (copiers : List Copier) (number : ℕ) (copier : Copier) (wish : Wish) → slice_get (map spot_of copiers) number ≡ Some (spot_of copier) → takes_at (spot_of copier) wish ≡ true
+    → IsCounting (at_word word (map spot_of copiers)) → IsFit (wish_begun (spot_of copier) wish) word
+found_fits word copiers number copier wish here takes sound =
+    each_fits word (wish_begun (spot_of copier) wish) (can_step word (map spot_of copiers) number (spot_of copier) wish sound.holds here takes)
 
 -- one copier more, as the opening makes them
 pub outside_more : (copiers : List Copier) (new : Copier) (count : ℕ) → map spot_of copiers ≡ replicate count Outside → spot_of new ≡ Outside → map spot_of (copiers ++ new ∷ []) ≡ replicate (count + 1) Outside

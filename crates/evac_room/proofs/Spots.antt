@@ -44,17 +44,17 @@ begun_mine word Inside Leave mine = tt
 begun_mine word Inside NoRoom mine = tt
 begun_mine word spot wish mine = mine
 
-pub counted_first : (x : RoomSpot) (xs : List RoomSpot) → counted (x ∷ xs) ≡ weight x + counted xs
-counted_first x xs = sum_by-cons weight x xs
+pub counted_first : (spot : RoomSpot) (xs : List RoomSpot) → counted (spot ∷ xs) ≡ weight spot + counted xs
+counted_first spot xs = sum_by-cons weight spot xs
 
 -- one copier elsewhere changes the count by its own weight
 pub counted_set : (copiers : List RoomSpot) (number : ℕ) (spot next : RoomSpot) → slice_get copiers number ≡ Some spot
     → counted (slice_set copiers number next) + weight spot ≡ counted copiers + weight next
 counted_set [] number spot next here = absurd (cc (here))
-counted_set (x ∷ xs) zero spot next here =
-    let same : x ≡ spot = cc (here) in omega (arith, ap weight same, counted_first x xs, counted_first next xs)
-counted_set (x ∷ xs) (suc number) spot next here =
-    omega (arith, counted_set xs number spot next here, counted_first x xs, counted_first x (slice_set xs number next))
+counted_set (other_spot ∷ rest) zero spot next here =
+    let same : other_spot ≡ spot = cc (here) in omega (arith, ap weight same, counted_first other_spot rest, counted_first next rest)
+counted_set (other_spot ∷ rest) (suc number) spot next here =
+    omega (arith, counted_set rest number spot next here, counted_first other_spot rest, counted_first other_spot (slice_set rest number next))
 
 -- the count is at least the weight of each
 pub weight_counted : (copiers : List RoomSpot) (number : ℕ) (spot : RoomSpot) → slice_get copiers number ≡ Some spot → weight spot ≤ counted copiers

@@ -71,21 +71,13 @@ impl RoomSpot {
     {
         let at = config.evac_at();
         match self {
-            RoomSpot::Look | RoomSpot::Ask | RoomSpot::Wait => Access::Load { at },
+            RoomSpot::Look | RoomSpot::Ask | RoomSpot::Wait => Access::load(at),
             // keeps IsCounted of heap_world, IsPhased, Target and KeepsCopies
-            RoomSpot::Raise { found } => Access::Exchange {
-                at,
-                expect: found,
-                value: found + 1,
-            },
+            RoomSpot::Raise { found } => Access::exchange(at, found, found + 1),
             // keeps IsCounted of heap_world and KeepsCopies
-            RoomSpot::Lower => Access::Sub { at, value: 1 },
+            RoomSpot::Lower => Access::sub(at, 1),
             // keeps IsCounted of heap_world, AreCaredFor and KeepsCopies
-            RoomSpot::Mark { found } => Access::Exchange {
-                at,
-                expect: found,
-                value: marked(found),
-            },
+            RoomSpot::Mark { found } => Access::exchange(at, found, marked(found)),
             RoomSpot::Outside | RoomSpot::Inside | RoomSpot::Stopped => unreachable!(),
         }
     }

@@ -21,13 +21,13 @@ position_is p xs index d lt before here =
     subst (λ (m : ℕ). Some index ≡ cond (nat_lt m (length xs)) (Some m) None) (sym is) (some_if index (length xs) lt)
 
 -- a reply that fits is found
-pub never_broken : (w : Wanted) (entries : List Entry) (index : ℕ) (entry : Entry) → slice_get entries index ≡ Some entry → fits w entry.reply ≡ true → false ≡ list_all (λ x. not (fits w x.reply)) entries
-never_broken w entries index entry at is =
-    sym (list_all_at (λ (entry : Entry). not (fits w entry.reply)) entries index entry (slice_get_within entries index entry at) (ap (λ (entry : Entry). not (fits w entry.reply)) (get_or_from_slice_get entries index entry entry at) ∙ ap not is))
+pub never_broken : (wanted : Wanted) (entries : List Entry) (index : ℕ) (entry : Entry) → slice_get entries index ≡ Some entry → fits wanted entry.reply ≡ true → false ≡ list_all (λ x. not (fits wanted x.reply)) entries
+never_broken wanted entries index entry found is =
+    sym (list_all_at (λ (entry : Entry). not (fits wanted entry.reply)) entries index entry (slice_get_within entries index entry found) (ap (λ (entry : Entry). not (fits wanted entry.reply)) (get_or_from_slice_get entries index entry entry found) ∙ ap not is))
 
 -- one that does not is passed over
-pub never_on : (w : Wanted) (entries : List Entry) (index : ℕ) (entry : Entry) (whole : Bool) → slice_get entries index ≡ Some entry → fits w entry.reply ≡ false → list_all (λ x. not (fits w x.reply)) (drop index entries) ≡ whole → list_all (λ x. not (fits w x.reply)) (drop (index + 1) entries) ≡ whole
-never_on w entries index entry whole at is sofar =
-    let p : Entry → Bool = λ x. not (fits w x.reply) in
-    let fine : p (get_or entries index entry) ≡ true = ap p (get_or_from_slice_get entries index entry entry at) ∙ ap not is in
-    sym (at_drop_more (list_all p) entries index entry (slice_get_within entries index entry at) ∙ ap (λ (holds : Bool). holds && list_all p (drop (index + 1) entries)) fine) ∙ sofar
+pub never_on : (wanted : Wanted) (entries : List Entry) (index : ℕ) (entry : Entry) (whole : Bool) → slice_get entries index ≡ Some entry → fits wanted entry.reply ≡ false → list_all (λ x. not (fits wanted x.reply)) (drop index entries) ≡ whole → list_all (λ x. not (fits wanted x.reply)) (drop (index + 1) entries) ≡ whole
+never_on wanted entries index entry whole found is sofar =
+    let p : Entry → Bool = λ x. not (fits wanted x.reply) in
+    let fine : p (get_or entries index entry) ≡ true = ap p (get_or_from_slice_get entries index entry entry found) ∙ ap not is in
+    sym (at_drop_more (list_all p) entries index entry (slice_get_within entries index entry found) ∙ ap (λ (holds : Bool). holds && list_all p (drop (index + 1) entries)) fine) ∙ sofar

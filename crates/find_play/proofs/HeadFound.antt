@@ -11,26 +11,26 @@ use Rattle.heap_words.specs.Narrow.{IsNarrow}
 use Rattle.trace_reading.specs.Spelling.{IsVersion, header}
 use Rattle.trace_reading.specs.Scanning.{HeadNumbers, sizes_at}
 use Rattle.trace_reading.specs.Grammar.{HasNoHead}
-use Rattle.trace_reading.proofs.Header.{these_numbers, sizes_take, no_head, no_configuration, head_read}
+use Rattle.trace_reading.proofs.HeadLaws.{these_numbers, sizes_take, no_head, no_configuration, head_read}
 
 within : (least most n : ℕ) → is_within least most n ≡ true → (least ≤ n) × (n ≤ most)
-within least most n e = (grind (arith, nat_tests), grind (arith, nat_tests))
+within least most n same = (grind (arith, nat_tests), grind (arith, nat_tests))
 
 below : (n m : ℕ) → ltb n m ≡ true → suc n ≤ m
-below n m e = grind (arith, nat_tests)
+below n m same = grind (arith, nat_tests)
 
 -- numbers of which none is at fault are those of a configuration
-in_range : (r w m h e : ℕ) → fault_of r w m h e ≡ None → IsInRange r w m h e × (w ≤ 1024)
-in_range r w m h e none = by_tests (is_within 4 64 r) (is_within 64 1024 w) (is_within 1 8 m) (is_within 0 3 h) (ltb e r) refl refl refl refl refl none
+in_range : (regions region_words mutators helpers reserve : ℕ) → fault_of regions region_words mutators helpers reserve ≡ None → IsInRange regions region_words mutators helpers reserve × (region_words ≤ 1024)
+in_range r region_words m h reserve none = by_tests (is_within 4 64 r) (is_within 64 1024 region_words) (is_within 1 8 m) (is_within 0 3 h) (ltb reserve r) refl refl refl refl refl none
   where
-    by_tests : (a b c d f : Bool) → is_within 4 64 r ≡ a → is_within 64 1024 w ≡ b → is_within 1 8 m ≡ c → is_within 0 3 h ≡ d → ltb e r ≡ f
-        → cond a (cond b (cond c (cond d (cond f None (Some Reserve)) (Some Helpers)) (Some Mutators)) (Some RegionWords)) (Some Regions) ≡ None → IsInRange r w m h e × (w ≤ 1024)
+    by_tests : (a b c d f : Bool) → is_within 4 64 r ≡ a → is_within 64 1024 region_words ≡ b → is_within 1 8 m ≡ c → is_within 0 3 h ≡ d → ltb reserve r ≡ f
+        → cond a (cond b (cond c (cond d (cond f None (Some Reserve)) (Some Helpers)) (Some Mutators)) (Some RegionWords)) (Some Regions) ≡ None → IsInRange r region_words m h reserve × (region_words ≤ 1024)
     by_tests true true true true true p q s t u none =
         let regions = within 4 64 r p in
-        let words = within 64 1024 w q in
+        let words = within 64 1024 region_words q in
         let mutators = within 1 8 m s in
         let helpers = within 0 3 h t in
-        let left = below e r u in (
+        let left = below reserve r u in (
           record {
             least_regions = regions.0;
             most_regions = regions.1;

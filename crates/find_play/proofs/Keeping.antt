@@ -24,27 +24,27 @@ IsFurther program at (Back first) = Unit {0}
 IsFurther program at (Gives (Keep note) to) = (at < length program) × (to ≡ at + 1)
 IsFurther program at (Gives next to) = Unit {0}
 
-further_if : (program : List Statement) (at a b : ℕ) (test : Bool) → at < length program → at < a → at < b → IsFurther program at (if test then Goes a else Goes b)
-further_if program at a b true h x y = (h, x)
-further_if program at a b false h x y = (h, y)
+further_if : (program : List Statement) (index a b : ℕ) (test : Bool) → index < length program → index < a → index < b → IsFurther program index (if test then Goes a else Goes b)
+further_if program index a b true below x y = (below, x)
+further_if program index a b false below x y = (below, y)
 
-further : (program : List Statement) (reply : Option Reply) (at : ℕ) (found : Option Statement) → slice_get program at ≡ found → IsFurther program at (move_by program reply at found)
-further program reply at None h = tt
-further program reply at (Some (statement.Run c)) h = tt
-further program reply at (Some (statement.Keep note)) h = (slice_get_within program at (statement.Keep note) h, refl)
-further program reply at (Some statement.Loop) h = (slice_get_within program at statement.Loop h, omega arith)
-further program reply at (Some (statement.Until w)) h = further_if program at (behind part.Loop program at) (at + 1) (fits_last w reply) (slice_get_within program at (statement.Until w) h) (omega arith) (omega arith)
-further program reply at (Some (statement.If w)) h = further_if program at (at + 1) (behind part.If program at) (fits_last w reply) (slice_get_within program at (statement.If w) h) (omega arith) (omega arith)
-further program reply at (Some statement.Else) h = (slice_get_within program at statement.Else h, omega arith)
-further program reply at (Some statement.End) h = (slice_get_within program at statement.End h, omega arith)
-further program reply at (Some (statement.Again first)) h = tt
+further : (program : List Statement) (reply : Option Reply) (index : ℕ) (found : Option Statement) → slice_get program index ≡ found → IsFurther program index (move_by program reply index found)
+further program reply index None same = tt
+further program reply index (Some (statement.Run command)) same = tt
+further program reply index (Some (statement.Keep note)) same = (slice_get_within program index (statement.Keep note) same, refl)
+further program reply index (Some statement.Loop) same = (slice_get_within program index statement.Loop same, omega arith)
+further program reply index (Some (statement.Until wanted)) same = further_if program index (behind part.Loop program index) (index + 1) (fits_last wanted reply) (slice_get_within program index (statement.Until wanted) same) (omega arith) (omega arith)
+further program reply index (Some (statement.If wanted)) same = further_if program index (index + 1) (behind part.If program index) (fits_last wanted reply) (slice_get_within program index (statement.If wanted) same) (omega arith) (omega arith)
+further program reply index (Some statement.Else) same = (slice_get_within program index statement.Else same, omega arith)
+further program reply index (Some statement.End) same = (slice_get_within program index statement.End same, omega arith)
+further program reply index (Some (statement.Again first)) same = tt
 
 -- where a statement leads
 leads : (program : List Statement) (reply : Option Reply) (at : ℕ) (m : Move) → move_at program reply at ≡ m → IsFurther program at m
-leads program reply at m h = subst (IsFurther program at) h (further program reply at (slice_get program at) refl)
+leads program reply index m same = subst (IsFurther program index) same (further program reply index (slice_get program index) refl)
 
 less_on : (n at to left : ℕ) → at < n → at < to → left * (n + 1) + (n - to) < left * (n + 1) + (n - at)
-less_on n at to left lt on = omega arith
+less_on n at to left lt below = omega arith
 
 less_back : (n at first left : ℕ) → left * (n + 1) + (n - first) < suc left * (n + 1) + (n - at)
 less_back n at first left = omega arith

@@ -8,8 +8,8 @@ use Rattle.find_play.specs.Plays.{Programs, Scene, Plays, Then, IsPlay}
 use Rattle.find_play.specs.Scenes.{IsNextEntry}
 
 pub played_on : (programs : Programs) (returns notes : ℕ) (entries : List Entry) (index : ℕ) (entry : Entry) (scene other_scene : Scene) → slice_get entries index ≡ Some entry → IsPlay programs returns notes (take index entries) scene → IsNextEntry programs entry scene other_scene → IsPlay programs returns notes (take (index + 1) entries) other_scene
-played_on programs returns notes entries index entry scene other_scene at play answers =
-    let more : take (index + 1) entries ≡ take index entries ++ entry ∷ [] = take_more entries index entry (slice_get_within entries index entry at) ∙ ap (λ (entry : Entry). take index entries ++ entry ∷ []) (get_or_from_slice_get entries index entry entry at) in
+played_on programs returns notes entries index entry scene other_scene found play answers =
+    let more : take (index + 1) entries ≡ take index entries ++ entry ∷ [] = take_more entries index entry (slice_get_within entries index entry found) ∙ ap (λ (entry : Entry). take index entries ++ entry ∷ []) (get_or_from_slice_get entries index entry entry found) in
     record {
       begun = play.begun;
       begins = play.begins;

@@ -10,11 +10,11 @@ along_none rows field zero = refl
 along_none rows field (suc count) = along_none rows field count
 
 pub along_absent : (rows : List Row) (field count : ℕ) (at : Option Reference) → is_some at ≡ false → along rows field count at ≡ None
-along_absent rows field count None h = along_none rows field count
-along_absent rows field count (Some r) h = absurd cc
+along_absent rows field count None same = along_none rows field count
+along_absent rows field count (Some reference) same = absurd cc
 
 -- one object further
 pub along_on : (rows : List Row) (field count made : ℕ) (at next : Option Reference) → made < count → next ≡ follow rows field at → along rows field (count - made) at ≡ along rows field (count - (made + 1)) next
-along_on rows field count made at next lt h =
+along_on rows field count made at next lt same =
     let more : count - made ≡ suc (count - (made + 1)) = omega arith in
-    ap (λ (n : ℕ). along rows field n at) more ∙ ap (along rows field (count - (made + 1))) (sym h)
+    ap (λ (n : ℕ). along rows field n at) more ∙ ap (along rows field (count - (made + 1))) (sym same)

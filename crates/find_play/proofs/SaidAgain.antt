@@ -7,10 +7,11 @@ use Rattle.std.specs.Str.Parse.{digits_value}
 use Rattle.std.proofs.lemmas.Bool.{ltb-true}
 use Rattle.std.proofs.lemmas.Bool.Decides.{nat_tests}
 use Rattle.std.proofs.lemmas.Fmt.{digits_value-decimal}
+use Rattle.shen_graph.proofs.Numbers.{not_below}
+use Rattle.shen_graph.proofs.Bools.{true_parts}
 use Rattle.trace_reading.specs.declared.kind.CommandKind.TheVariants as command
 use Rattle.trace_reading.proofs.GrammarNumbers.{own}
 use Rattle.trace_reading.specs.Causes.{is_same, is_plain_number}
-use Rattle.trace_reading.proofs.Words.{both}
 use Rattle.trace_reading.proofs.Numerals.{decimal_is_number}
 use Rattle.shen_graph.proofs.ReachLemmas.{Contains-nil, Contains-cons_cases}
 use Rattle.find_play.specs.declared.wanted.Wanted.{Wanted}
@@ -29,15 +30,12 @@ use Rattle.find_play.specs.Spelling.{wanted_word, FitsWhenWanted, Says, AreSaid,
 use Rattle.find_play.proofs.Said.{is_small_slot, are_small}
 use Rattle.find_play.proofs.SaidLines.{line_small}
 
-not_below : (n least : ℕ) → least ≤ n → ltb n least ≡ false
-not_below n least le = grind (arith, nat_tests)
-
-pub number_again : (least most n : ℕ) (w : List ℕ) → most < 2 ^ 64 → w ≡ decimal n → least ≤ n → n ≤ most → number_between least most w ≡ Ok n
+pub number_again : (least most other_least : ℕ) (w : List ℕ) → most < 2 ^ 64 → w ≡ decimal other_least → least ≤ other_least → other_least ≤ most → number_between least most w ≡ Ok other_least
 unfolding number_between ranged
-number_again least most n w small spelled low high =
-    let fits : n < 2 ^ 64 = omega (arith, small, high) in
-    let value : digits_value 10 (decimal n) ≡ n = digits_value-decimal own n fits in
-    rw (spelled, decimal_is_number n fits, value, not_below n least low, not_below most n high) refl
+number_again least most other_least w small spelled low high =
+    let fits : other_least < 2 ^ 64 = omega (arith, small, high) in
+    let value : digits_value 10 (decimal other_least) ≡ other_least = digits_value-decimal own other_least fits in
+    rw (spelled, decimal_is_number other_least fits, value, not_below other_least least low, not_below most other_least high) refl
 
 -- ---- replies
 
@@ -58,17 +56,17 @@ above n m lt = grind (arith, nat_tests)
 
 pub reply_again : (version : ℕ) (x : Wanted) (w : List ℕ) → w ≡ wanted_word x → FitsWhenWanted version x → wanted_in version w ≡ Ok (value.Wanted x)
 unfolding wanted_in
-reply_again version wanted.Yes w e fits = rw e refl
-reply_again version wanted.No w e fits = rw e refl
-reply_again version wanted.Null w e fits = rw e refl
-reply_again version wanted.Object w e fits = rw e refl
-reply_again version wanted.Ok w e fits = rw e refl
-reply_again version wanted.Full w e fits = rw e refl
-reply_again version wanted.Bad w e fits = rw e refl
-reply_again version wanted.Pinned w e fits = rw (e, above 1 version fits) refl
-reply_again version (wanted.Number n) w e fits =
+reply_again version wanted.Yes w same fits = rw same refl
+reply_again version wanted.No w same fits = rw same refl
+reply_again version wanted.Null w same fits = rw same refl
+reply_again version wanted.Object w same fits = rw same refl
+reply_again version wanted.Ok w same fits = rw same refl
+reply_again version wanted.Full w same fits = rw same refl
+reply_again version wanted.Bad w same fits = rw same refl
+reply_again version wanted.Pinned w same fits = rw (same, above 1 version fits) refl
+reply_again version (wanted.Number n) w same fits =
     rw (
-      e,
+      same,
       digits_first n (codes "yes") fits refl,
       digits_first n (codes "no") fits refl,
       digits_first n (codes "null") fits refl,
@@ -108,10 +106,10 @@ values_again told kind [] (w ∷ ws) (v ∷ vs) small said = absurd said
 values_again told kind (s ∷ ss) [] [] small said = absurd said
 values_again told kind (s ∷ ss) (w ∷ ws) [] small said = absurd said
 values_again told kind (s ∷ ss) [] (v ∷ vs) small said =
-    let pass = both (is_small_slot s) (are_small ss) small in
+    let pass = true_parts (is_small_slot s) (are_small ss) small in
     rw (said.0, said.1, values_again told kind ss [] vs pass.1 said.2) refl
 values_again told kind (s ∷ ss) (w ∷ ws) (v ∷ vs) small said =
-    let pass = both (is_small_slot s) (are_small ss) small in
+    let pass = true_parts (is_small_slot s) (are_small ss) small in
     rw (value_again told kind s w v pass.0 said.0, values_again told kind ss ws vs pass.1 said.1) refl
 
 -- ---- lines
@@ -124,17 +122,17 @@ is_later _ = false
 
 unfoldable none_later : List LineKind → Bool
 none_later [] = true
-none_later (k ∷ ks) = not (is_later k) && none_later ks
+none_later (kind ∷ rest) = not (is_later kind) && none_later rest
 
 -- where none of these is later, a kind among them is not
 not_later : (ks : List LineKind) (kind : LineKind) → none_later ks ≡ true → Contains ks kind → is_later kind ≡ false
 unfolding none_later
 not_later [] kind none there = absurd (Contains-nil kind there)
-not_later (x ∷ ks) kind none there =
-    let pass = both (not (is_later x)) (none_later ks) none in
-    elim (Contains-cons_cases x ks kind there) [
-      | inl same ↦ ap is_later (sym same) ∙ not_true (is_later x) pass.0
-      | inr behind ↦ not_later ks kind pass.1 behind
+not_later (other_kind ∷ rest) kind none there =
+    let pass = true_parts (not (is_later other_kind)) (none_later rest) none in
+    elim (Contains-cons_cases other_kind rest kind there) [
+      | inl same ↦ ap is_later (sym same) ∙ not_true (is_later other_kind) pass.0
+      | inr behind ↦ not_later rest kind pass.1 behind
     ]
   where
     not_true : (holds : Bool) → not holds ≡ true → holds ≡ false

@@ -1,5 +1,6 @@
 -- Bytes are one test at most, or they are refused, once.
 use Rattle.std.proofs.Common.{◌≡◌, ◌⊎◌, inl, inr, ℕ, ◌+◌, ◌≤◌, Bool, ◌&&◌, true, false, eqb, List, [], ◌∷◌, ◌++◌, length, get_or, Option, Some, None, refl, sym, ap, subst, ◌∙◌, arith}
+use Rattle.shen_graph.proofs.Options.{same_some}
 use Rattle.heap_words.specs.declared.config.Config.{Config}
 use Rattle.heap_words.specs.declared.schedule.Item.{Item}
 use Rattle.heap_words.specs.Narrow.{IsNarrow}
@@ -8,8 +9,7 @@ use Rattle.trace_reading.specs.Spelling.{IsVersion, header}
 use Rattle.trace_reading.specs.Scanning.{HeadNumbers, sizes_at}
 use Rattle.trace_reading.specs.Grammar.{most_bytes, Reads, HasNoHead}
 use Rattle.trace_reading.specs.declared.why.Why.{Why}
-use Rattle.trace_reading.proofs.GrammarNumbers.{same_some}
-use Rattle.trace_reading.proofs.Header.{numbers_in_head, sizes_again}
+use Rattle.trace_reading.proofs.HeadLaws.{numbers_in_head, sizes_again}
 use Rattle.trace_reading.proofs.Once.{same_config}
 use Rattle.trace_reading.specs.Causes.{parts}
 use Rattle.trace_reading.specs.Refused.{Refused}
@@ -28,11 +28,11 @@ use Rattle.find_play.proofs.Following.{version_stays, IsEnding, Ends, all_end, o
 -- ---- one head
 
 -- a head, and what is behind it, are one
-same_head : (v w : ℕ) (config other_config : Config) (rest after : List ℕ) → IsVersion v → IsVersion w → IsNarrow config → IsNarrow other_config → header v config ++ rest ≡ header w other_config ++ after → (v ≡ w) × (config ≡ other_config) × (rest ≡ after)
-same_head v w config other_config rest after known other p q e =
-    let one : HeadNumbers × List ℕ = (numbers_in_head v config, rest) in
-    let two : HeadNumbers × List ℕ = (numbers_in_head w other_config, after) in
-    let same : one ≡ two = same_some one two (sym (sizes_again v config rest known p) ∙ ap sizes_at e ∙ sizes_again w other_config after other q) in (
+same_head : (version other_version : ℕ) (config other_config : Config) (rest after : List ℕ) → IsVersion version → IsVersion other_version → IsNarrow config → IsNarrow other_config → header version config ++ rest ≡ header other_version other_config ++ after → (version ≡ other_version) × (config ≡ other_config) × (rest ≡ after)
+same_head version other_version config other_config rest after known other narrow q e =
+    let one : HeadNumbers × List ℕ = (numbers_in_head version config, rest) in
+    let two : HeadNumbers × List ℕ = (numbers_in_head other_version other_config, after) in
+    let same : one ≡ two = same_some one two (sym (sizes_again version config rest known narrow) ∙ ap sizes_at e ∙ sizes_again other_version other_config after other q) in (
       ap (λ (x : HeadNumbers × List ℕ). x.0.version) same,
       same_config config other_config (ap (λ (x : HeadNumbers × List ℕ). get_or x.0.heap 0 0) same) (ap (λ (x : HeadNumbers × List ℕ). get_or x.0.heap 1 0) same)
           (ap (λ (x : HeadNumbers × List ℕ). get_or x.0.threads 0 0) same) (ap (λ (x : HeadNumbers × List ℕ). get_or x.0.threads 1 0) same) (ap (λ (x : HeadNumbers × List ℕ). get_or x.0.heap 2 0) same),
@@ -46,47 +46,47 @@ of_same P v w config other_config rest after same holds =
 
 -- ---- one test
 
-said_once : (config : Config) (told : Told) (t u : TestSaid) → IsWholeTest config told t → IsWholeTest config told u → t ≡ u
-said_once config told t u a b =
-    let bounds : t.bounds ≡ u.bounds = same_some t.bounds u.bounds (sym a.bounds ∙ b.bounds) in
-    a.test_is ∙ ap (λ (x : Bounds). said_in_all config x told) bounds ∙ sym b.test_is
+said_once : (config : Config) (told : Told) (said other_said : TestSaid) → IsWholeTest config told said → IsWholeTest config told other_said → said ≡ other_said
+said_once config told said other_said whole_test b =
+    let bounds : said.bounds ≡ other_said.bounds = same_some said.bounds other_said.bounds (sym whole_test.bounds ∙ b.bounds) in
+    whole_test.test_is ∙ ap (λ (bounds : Bounds). said_in_all config bounds told) bounds ∙ sym b.test_is
 
-body_once : (version : ℕ) (config : Config) (bytes : List ℕ) (t u : TestSaid) → IsTestBody version config bytes t → IsTestBody version config bytes u → t ≡ u
-body_once version config bytes t u a b =
-    let one = one_end (untold version config.mutators) a.lines b.lines a.said b.said ([] ∷ []) ([] ∷ []) a.lead b.lead (sym a.cut ∙ b.cut) (inr (refl, a.whole.whole)) (inr (refl, b.whole.whole)) in
-    said_once config b.said t u (subst (λ (told : Told). IsWholeTest config told t) one.1 a.whole) b.whole
+body_once : (version : ℕ) (config : Config) (bytes : List ℕ) (said other_said : TestSaid) → IsTestBody version config bytes said → IsTestBody version config bytes other_said → said ≡ other_said
+body_once version config bytes said other_said test_body b =
+    let one = one_end (untold version config.mutators) test_body.lines b.lines test_body.said b.said ([] ∷ []) ([] ∷ []) test_body.lead b.lead (sym test_body.cut ∙ b.cut) (inr (refl, test_body.whole.whole)) (inr (refl, b.whole.whole)) in
+    said_once config b.said said other_said (subst (λ (told : Told). IsWholeTest config told said) one.1 test_body.whole) b.whole
 
-pub test_once : (bytes : List ℕ) (t u : TestSaid) → IsTest bytes t → IsTest bytes u → t ≡ u
-test_once bytes t u a b =
-    let same = same_head t.version u.version t.config u.config a.behind b.behind a.known b.known a.narrow b.narrow (sym a.head ∙ b.head) in
-    body_once u.version u.config b.behind t u (of_same (λ v c bs. IsTestBody v c bs t) t.version u.version t.config u.config a.behind b.behind same a.body) b.body
+pub test_once : (bytes : List ℕ) (said other_said : TestSaid) → IsTest bytes said → IsTest bytes other_said → said ≡ other_said
+test_once bytes said other_said test b =
+    let same = same_head said.version other_said.version said.config other_said.config test.behind b.behind test.known b.known test.narrow b.narrow (sym test.head ∙ b.head) in
+    body_once other_said.version other_said.config b.behind said other_said (of_same (λ version config bs. IsTestBody version config bs said) said.version other_said.version said.config other_said.config test.behind b.behind same test.body) b.body
 
 -- ---- never both
 
-body_not_refused : (version : ℕ) (config : Config) (bytes : List ℕ) (t : TestSaid) (n : ℕ) (why : TestWhy) → IsTestBody version config bytes t → StopsBehind (untold version config.mutators) 4 bytes n why → ⊥
-body_not_refused version config bytes t n why a s =
-    let one = one_end (untold version config.mutators) a.lines s.before a.said s.said ([] ∷ []) s.from_it a.lead s.lead (sym a.cut ∙ s.cut) (inr (refl, a.whole.whole)) (inl (why, s.cause)) in
-    never_whole s.said s.from_it why (sym one.2) (ap has_all_threads (sym one.1) ∙ a.whole.whole) s.cause
+body_not_refused : (version : ℕ) (config : Config) (bytes : List ℕ) (said : TestSaid) (n : ℕ) (why : TestWhy) → IsTestBody version config bytes said → StopsBehind (untold version config.mutators) 4 bytes n why → ⊥
+body_not_refused version config bytes said n why test_body stops_behind =
+    let one = one_end (untold version config.mutators) test_body.lines stops_behind.before test_body.said stops_behind.said ([] ∷ []) stops_behind.from_it test_body.lead stops_behind.lead (sym test_body.cut ∙ stops_behind.cut) (inr (refl, test_body.whole.whole)) (inl (why, stops_behind.cause)) in
+    never_whole stops_behind.said stops_behind.from_it why (sym one.2) (ap has_all_threads (sym one.1) ∙ test_body.whole.whole) stops_behind.cause
 
-pub never_both : (bytes : List ℕ) (t : TestSaid) (n : ℕ) (why : TestWhy) → IsTest bytes t → RefusesTest bytes n why → ⊥
-never_both bytes t n why a r = by_part r.stops
+pub never_both : (bytes : List ℕ) (said : TestSaid) (n : ℕ) (why : TestWhy) → IsTest bytes said → RefusesTest bytes n why → ⊥
+never_both bytes said n why test refuses_test = by_part refuses_test.stops
   where
     by_part : StopsInHead bytes n why ⊎ StopsInBody bytes n why → ⊥
-    by_part (inl s) = s.no_head t.version t.config a.behind a.known a.narrow a.head
+    by_part (inl s) = s.no_head said.version said.config test.behind test.known test.narrow test.head
     by_part (inr s) =
-        let same = same_head t.version s.version t.config s.config a.behind s.behind a.known s.known a.narrow s.narrow (sym a.head ∙ s.head) in
-        body_not_refused s.version s.config s.behind t n why (of_same (λ v c bs. IsTestBody v c bs t) t.version s.version t.config s.config a.behind s.behind same a.body) s.stops
+        let same = same_head said.version s.version said.config s.config test.behind s.behind test.known s.known test.narrow s.narrow (sym test.head ∙ s.head) in
+        body_not_refused s.version s.config s.behind said n why (of_same (λ version config bs. IsTestBody version config bs said) said.version s.version said.config s.config test.behind s.behind same test.body) s.stops
 
 -- ---- refused once
 
 body_refused_once : (told : Told) (bytes : List ℕ) (n m : ℕ) (why other : TestWhy) → StopsBehind told 4 bytes n why → StopsBehind told 4 bytes m other → (n ≡ m) × (why ≡ other)
-body_refused_once told bytes n m why other s t =
-    let one = one_end told s.before t.before s.said t.said s.from_it t.from_it s.lead t.lead (sym s.cut ∙ t.cut) (inl (why, s.cause)) (inl (other, t.cause)) in
-    let cause = subst (λ (told : Told). LineStops told t.from_it why) one.1 (subst (λ (ts : List (List ℕ)). LineStops s.said ts why) one.2 s.cause) in
-    (omega (arith, s.number, t.number, one.0), one_cause t.said t.from_it why other cause t.cause)
+body_refused_once told bytes n m why other stops_behind t =
+    let one = one_end told stops_behind.before t.before stops_behind.said t.said stops_behind.from_it t.from_it stops_behind.lead t.lead (sym stops_behind.cut ∙ t.cut) (inl (why, stops_behind.cause)) (inl (other, t.cause)) in
+    let cause = subst (λ (told : Told). LineStops told t.from_it why) one.1 (subst (λ (ts : List (List ℕ)). LineStops stops_behind.said ts why) one.2 stops_behind.cause) in
+    (omega (arith, stops_behind.number, t.number, one.0), one_cause t.said t.from_it why other cause t.cause)
 
 pub refused_once : (bytes : List ℕ) (n m : ℕ) (why other : TestWhy) → RefusesTest bytes n why → RefusesTest bytes m other → (n ≡ m) × (why ≡ other)
-refused_once bytes n m why other r q = by_part r.stops q.stops
+refused_once bytes n m why other refuses_test q = by_part refuses_test.stops q.stops
   where
     by_part : StopsInHead bytes n why ⊎ StopsInBody bytes n why → StopsInHead bytes m other ⊎ StopsInBody bytes m other → (n ≡ m) × (why ≡ other)
     by_part (inl s) (inl t) = let one = trace_once bytes n m s.cause t.cause s.stops t.stops in (one.0, s.why_is ∙ ap whys.Trace one.1 ∙ sym t.why_is)
@@ -94,7 +94,7 @@ refused_once bytes n m why other r q = by_part r.stops q.stops
     by_part (inr s) (inl t) = absurd (t.no_head s.version s.config s.behind s.known s.narrow s.head)
     by_part (inr s) (inr t) =
         let same = same_head t.version s.version t.config s.config t.behind s.behind t.known s.known t.narrow s.narrow (sym t.head ∙ s.head) in
-        let stops = of_same (λ v c bs. StopsBehind (untold v c.mutators) 4 bs m other) t.version s.version t.config s.config t.behind s.behind same t.stops in
+        let stops = of_same (λ version c bs. StopsBehind (untold version c.mutators) 4 bs m other) t.version s.version t.config s.config t.behind s.behind same t.stops in
         body_refused_once (untold s.version s.config.mutators) s.behind n m why other s.stops stops
 
 -- ---- one or the other
@@ -118,7 +118,7 @@ whole_test bytes version config rest said same short known narrow head t version
       narrow = subst IsNarrow two narrow;
       behind = rest;
       head = head ∙ ap (λ (v : ℕ). header v config ++ rest) one ∙ ap (λ (config : Config). header t.version config ++ rest) two;
-      body = of_same (λ v c bs. IsTestBody v c bs t) version t.version config t.config rest rest (one, two, refl) body;
+      body = of_same (λ version config bs. IsTestBody version config bs t) version t.version config t.config rest rest (one, two, refl) body;
       short = short;
     }
 
@@ -131,7 +131,7 @@ whole_said config told whole = by_bounds told.bounds refl
     by_bounds None is = absurd (no_bounds told whole is)
 
 behind_head : (bytes : List ℕ) (version : ℕ) (config : Config) (rest : List ℕ) → length bytes ≤ most_bytes → IsVersion version → IsNarrow config → bytes ≡ header version config ++ rest
-    → ((t : TestSaid) × IsTest bytes t) ⊎ ((n : ℕ) × (why : TestWhy) × RefusesTest bytes n why)
+    → ((said : TestSaid) × IsTest bytes said) ⊎ ((n : ℕ) × (why : TestWhy) × RefusesTest bytes n why)
 behind_head bytes version config rest short known narrow head = by_ends (subst (Ends (untold version config.mutators)) (sym (cut_parts 10 rest)) (all_end (untold version config.mutators) _ _))
   where
     by_ending : (e : Ends (untold version config.mutators) (parts 10 rest)) → IsEnding e.said e.from_it → ((t : TestSaid) × IsTest bytes t) ⊎ ((n : ℕ) × (why : TestWhy) × RefusesTest bytes n why)
@@ -147,7 +147,7 @@ behind_head bytes version config rest short known narrow head = by_ends (subst (
     by_ends e = by_ending e e.ending
 
 -- bytes within the limit are a test or are refused
-pub test_or_refused : (bytes : List ℕ) → length bytes ≤ most_bytes → ((t : TestSaid) × IsTest bytes t) ⊎ ((n : ℕ) × (why : TestWhy) × RefusesTest bytes n why)
+pub test_or_refused : (bytes : List ℕ) → length bytes ≤ most_bytes → ((said : TestSaid) × IsTest bytes said) ⊎ ((n : ℕ) × (why : TestWhy) × RefusesTest bytes n why)
 test_or_refused bytes short = by_head (head_or_none bytes)
   where
     by_trace : HasNoHead bytes → ((v : ℕ) × (config : Config) × (scripts : List (List Command)) × (items : List Item) × Reads bytes v config scripts items) ⊎ ((n : ℕ) × (why : Why) × Refused bytes n why)

@@ -23,14 +23,14 @@ pub record Left : Type 0 where
 -- the references at more places, each of which is a field of the object at an earlier one
 abbrev pub with_places : List Row → List Place → List (Option Reference) → List (Option Reference)
 with_places rows [] found = found
-with_places rows (p ∷ ps) found = with_places rows ps (found ++ follow rows p.field (slice_index_or found p.from None) ∷ [])
+with_places rows (place ∷ rest) found = with_places rows rest (found ++ follow rows place.field (slice_index_or found place.from None) ∷ [])
 
 -- the references at the places: the hub is the first
 abbrev pub places_in : List Row → List Place → List (Option Reference)
 places_in rows places = with_places rows places (Some (Some hub) ∷ [])
 
 abbrev pub same_reply : Reply → Reply → Bool
-same_reply (reply.Ref a) (reply.Ref b) = same_name a b
+same_reply (reply.Ref name) (reply.Ref other_name) = same_name name other_name
 same_reply reply.Null reply.Null = true
 same_reply reply.Ok reply.Ok = true
 same_reply reply.Yes reply.Yes = true
@@ -43,17 +43,17 @@ same_reply _ _ = false
 
 -- there is a reply, and it is such
 abbrev pub is_such : Wanted → Option Reply → Bool
-is_such w None = false
-is_such w (Some r) = fits w r
+is_such wanted None = false
+is_such wanted (Some answer) = fits wanted answer
 
 -- there is a reply, and it is not such
 abbrev pub is_other : Wanted → Option Reply → Bool
-is_other w None = false
-is_other w (Some r) = not (fits w r)
+is_other wanted None = false
+is_other wanted (Some answer) = not (fits wanted answer)
 
 -- there are two replies, which are alike, or are not
 abbrev pub are_alike : Bool → Option Reply → Option Reply → Bool
-are_alike alike (Some r) (Some s) = if same_reply r s then alike else not alike
+are_alike alike (Some answer) (Some other_answer) = if same_reply answer other_answer then alike else not alike
 are_alike alike _ _ = false
 
 -- the reference is there, and null
@@ -72,7 +72,7 @@ has_number rows index value _ = false
 
 -- both references are there, and equal
 abbrev pub are_one : Option Reference → Option Reference → Bool
-are_one (Some r) (Some s) = same_reference r s
+are_one (Some reference) (Some other_reference) = same_reference reference other_reference
 are_one _ _ = false
 
 -- a fact holds

@@ -26,7 +26,7 @@ is_loop _ = false
 -- one of these blocks is a loop
 unfoldable pub has_loop : List Block → Bool
 has_loop [] = false
-has_loop (b ∷ bs) = if is_loop b then true else has_loop bs
+has_loop (open_block ∷ rest) = if is_loop open_block then true else has_loop rest
 
 -- the innermost of the open blocks
 abbrev pub innermost : Told → Option Block
@@ -44,7 +44,7 @@ allows told line.Note = is_some told.bounds
 allows told line.Place = is_some told.bounds
 allows told line.Thread = may_begin_thread told
 allows told line.Root = is_in_thread told && nat_lt (length told.roots) 16
-allows told (line.Command k) = is_in_thread told
+allows told (line.Command kind) = is_in_thread told
 allows told line.Keep = is_in_thread told
 allows told line.Loop = is_in_thread told
 allows told line.If = is_in_thread told

@@ -16,7 +16,7 @@ line_word line.Note = codes "note"
 line_word line.Place = codes "place"
 line_word line.Thread = codes "thread"
 line_word line.Root = codes "root"
-line_word (line.Command k) = word k
+line_word (line.Command kind) = word kind
 line_word line.Keep = codes "keep"
 line_word line.Loop = codes "loop"
 line_word line.Until = codes "until"
@@ -105,4 +105,4 @@ line_kinds version = if nat_lt version 2 then first_line_kinds else first_line_k
 -- the kind among these that has this word
 unfoldable pub kind_of_word : List LineKind → List ℕ → Option LineKind
 kind_of_word [] w = None
-kind_of_word (k ∷ ks) w = if is_same w (line_word k) then Some k else kind_of_word ks w
+kind_of_word (kind ∷ rest) w = if is_same w (line_word kind) then Some kind else kind_of_word rest w

@@ -94,7 +94,7 @@ words_behind told kind ws = if allows told kind then of_kind kind (values_in tol
 
 abbrev pub words_of : Told → Option LineKind → List (List ℕ) → Result (LineKind × List Value) TestWhy
 words_of told None ws = Err why.Line
-words_of told (Some k) ws = words_behind told k ws
+words_of told (Some kind) ws = words_behind told kind ws
 
 -- A line of these words: its kind and what they say, or the first cause for which it is refused. First its kind is looked at,
 -- then whether such a line may stand there, and then the words from left to right.

@@ -15,8 +15,8 @@ use Rattle.find_play.specs.Wanted.{fits}
 
 -- there is a last reply, and it is such
 abbrev pub fits_last : Wanted → Option Reply → Bool
-fits_last w None = false
-fits_last w (Some r) = fits w r
+fits_last wanted None = false
+fits_last wanted (Some reply) = fits wanted reply
 
 abbrev pub one_less : ℕ → Option ℕ
 one_less zero = None
@@ -26,7 +26,7 @@ one_less (suc n) = Some n
 abbrev pub depth_after : Part → ℕ → Statement → Option ℕ
 depth_after part.Loop d statement.Loop = Some (d + 1)
 depth_after part.Loop d (statement.Again first) = one_less d
-depth_after part.If d (statement.If w) = Some (d + 1)
+depth_after part.If d (statement.If wanted) = Some (d + 1)
 depth_after part.If d statement.End = one_less d
 depth_after part.If zero statement.Else = None
 depth_after _ d _ = Some d
@@ -48,11 +48,11 @@ behind p program at = at + 1 + after p 0 (drop (at + 1) program)
 -- what one statement makes a thread do
 abbrev pub move_by : List Statement → Option Reply → ℕ → Option Statement → Move
 move_by program reply at None = Gives Done at
-move_by program reply at (Some (statement.Run c)) = Gives (Command c) (at + 1)
+move_by program reply at (Some (statement.Run command)) = Gives (Command command) (at + 1)
 move_by program reply at (Some (statement.Keep note)) = Gives (Keep note) (at + 1)
 move_by program reply at (Some statement.Loop) = Goes (at + 1)
-move_by program reply at (Some (statement.Until w)) = if fits_last w reply then Goes (behind part.Loop program at) else Goes (at + 1)
-move_by program reply at (Some (statement.If w)) = if fits_last w reply then Goes (at + 1) else Goes (behind part.If program at)
+move_by program reply at (Some (statement.Until wanted)) = if fits_last wanted reply then Goes (behind part.Loop program at) else Goes (at + 1)
+move_by program reply at (Some (statement.If wanted)) = if fits_last wanted reply then Goes (at + 1) else Goes (behind part.If program at)
 move_by program reply at (Some statement.Else) = Goes (behind part.If program at)
 move_by program reply at (Some statement.End) = Goes (at + 1)
 move_by program reply at (Some (statement.Again first)) = Back first

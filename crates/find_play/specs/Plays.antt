@@ -20,7 +20,7 @@ is_keep _ = false
 
 -- A thread, with its last reply, keeps it under some notes, and then does something else.
 pub data KeepsOn (program : List Statement) (reply : Option Reply) : Thread → Notes → Next → Thread → Notes → Type 0 where
-  Acts : (t u : Thread) (notes : Notes) (next : Next) → is_keep next ≡ false → Runs program reply t next u → KeepsOn program reply t notes next u notes
+  Acts : (from to : Thread) (notes : Notes) (next : Next) → is_keep next ≡ false → Runs program reply from next to → KeepsOn program reply from notes next to notes
   Keeps : (t u v : Thread) (note : ℕ) (notes after : Notes) (next : Next) → Runs program reply t (Keep note) u → KeepsOn program reply u (slice_set notes note reply) next v after → KeepsOn program reply t notes next v after
 
 -- where each thread stands, what it does there (a command of it is not answered yet), and what the notes hold
@@ -50,13 +50,13 @@ pub record StepsOn (programs : Programs) (number : ℕ) (reply : Option Reply) (
 -- the first so many threads have begun, in their order
 pub data Begun (programs : Programs) (first : Scene) : ℕ → Scene → Type 0 where
   Nobody : Begun programs first 0 first
-  Another : (n : ℕ) (scene other_scene : Scene) → Begun programs first n scene → StepsOn programs n None scene other_scene → Begun programs first (n + 1) other_scene
+  Another : (number : ℕ) (scene other_scene : Scene) → Begun programs first number scene → StepsOn programs number None scene other_scene → Begun programs first (number + 1) other_scene
 
 -- Each entry of a history is the command that its thread was to give, and with the reply the thread goes on.
 pub data Plays (programs : Programs) (first : Scene) : List Entry → Scene → Type 0 where
   Nothing : Plays programs first [] first
-  Then : (es : List Entry) (entry : Entry) (number : ℕ) (scene other_scene : Scene) → Plays programs first es scene → entry.thread ≡ number + 1 → slice_index_or scene.acts number Done ≡ Command entry.command
-      → StepsOn programs number (Some entry.reply) scene other_scene → Plays programs first (es ++ entry ∷ []) other_scene
+  Then : (entries : List Entry) (entry : Entry) (number : ℕ) (scene other_scene : Scene) → Plays programs first entries scene → entry.thread ≡ number + 1 → slice_index_or scene.acts number Done ≡ Command entry.command
+      → StepsOn programs number (Some entry.reply) scene other_scene → Plays programs first (entries ++ entry ∷ []) other_scene
 
 -- The history is one of these programs, each of whose threads may go back so often, and has so many notes.
 pub record IsPlay (programs : Programs) (returns notes : ℕ) (history : List Entry) (end : Scene) : Type 0 where

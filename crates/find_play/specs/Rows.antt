@@ -7,15 +7,15 @@ use Rattle.shen_graph.specs.GraphText.{Row}
 -- the row of an object
 abbrev pub row_for : List Row → Name → Option Row
 row_for [] name = None
-row_for (r ∷ rs) name = if same_name r.name name then Some r else row_for rs name
+row_for (row ∷ rest) name = if same_name row.name name then Some row else row_for rest name
 
 abbrev pub reference_held_by : Option Row → ℕ → Option Reference
 reference_held_by None field = None
-reference_held_by (Some r) field = slice_get r.refs field
+reference_held_by (Some row) field = slice_get row.refs field
 
 abbrev pub number_held_by : Option Row → ℕ → Option ℕ
 number_held_by None index = None
-number_held_by (Some r) index = slice_get r.nums index
+number_held_by (Some row) index = slice_get row.nums index
 
 -- a reference and a number of an object, if they are there
 abbrev pub reference_held : List Row → Name → ℕ → Option Reference

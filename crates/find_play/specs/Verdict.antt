@@ -12,7 +12,7 @@ use Rattle.find_play.specs.Claims.{Left, places_in, first_broken}
 use Rattle.find_play.specs.Plays.{Programs, Scene, IsPlay, IsNoPlay}
 
 abbrev pub is_command : Next → Bool
-is_command (Command c) = true
+is_command (Command command) = true
 is_command _ = false
 
 abbrev pub is_stuck : Next → Bool

@@ -4,7 +4,7 @@
 
 mod cast;
 mod claim;
-mod claims;
+mod claims_hold;
 mod draft;
 mod fault;
 mod kind;
@@ -24,7 +24,7 @@ mod words;
 
 pub use cast::{Cast, played};
 pub use claim::Claim;
-pub use claims::{broken, places_of};
+pub use claims_hold::{broken, places_of};
 pub use fault::{TestFault, TestWhy};
 pub use kind::LineKind;
 pub use laws::{bytes_are_a_test_or_refused, lines_are_of_their_words, tests_are_read_once};

@@ -3,7 +3,7 @@ ghost use Rattle.std.specs.Prelude.{◌≡◌, ◌<◌, true, false, None, Ok, l
 ghost use Rattle.find_play.specs.Verdict.{is_command, is_stuck, verdict_by, HasCommand, IsVerdictOn, HasNoVerdict};
 
 use crate::cast::{Cast, played};
-use crate::claims::broken;
+use crate::claims_hold::broken;
 use crate::{Next, Test};
 use heap_words::NoMemory;
 use shen_graph::{GraphText, History};

@@ -44,11 +44,11 @@ pub judged : (test : Test) (bytes : List ℕ) (steps version : ℕ) (config : Co
     → ShowsGraph text config.mutators (after (first_graph config) (history_of config scripts items steps))
     → IsVerdictOn test.programs.items test.bounds.returns (length test.notes) test.places.items test.claims.items history text.rows verdict
     → HasVerdict test bytes steps verdict
-judged test bytes steps version config scripts items history text verdict same reads whole is shows on = record {
+judged test bytes steps version config scripts items history text verdict same reads whole is shows verdict_on = record {
   history = history;
   rows = text.rows;
   run = run_of test bytes steps version config scripts items history text same reads whole is shows;
-  verdict_on = on;
+  verdict_on = verdict_on;
 }
 
 -- or none, where the test has none on that history
@@ -62,7 +62,7 @@ no_play test bytes steps version config scripts items history text same reads wh
     IsNoPlay history text.rows (run_of test bytes steps version config scripts items history text same reads whole is shows) none
 
 pub too_long : (test : Test) (bytes : List ℕ) (steps : ℕ) → most_bytes < length bytes → HasNoJudgement test bytes steps
-too_long test bytes steps more = IsLong more
+too_long test bytes steps below = IsLong below
 
 pub no_trace : (test : Test) (bytes : List ℕ) (steps n : ℕ) (why : Why) → Refused bytes n why → HasNoJudgement test bytes steps
 no_trace test bytes steps n why refused = IsNoTrace n why refused

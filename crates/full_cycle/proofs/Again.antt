@@ -23,9 +23,9 @@ use Rattle.image_graph.proofs.Named.{named_things}
 use Rattle.image_graph.proofs.Reached.{reached_is_held}
 use Rattle.image_graph.proofs.Promised.{same_reference-true, old_object}
 use Rattle.image_graph.proofs.ImagesStand.{standing_holds}
-use Rattle.image_graph.proofs.Serving.{full_stands}
+use Rattle.image_graph.proofs.ServingKeeps.{full_stands}
 use Rattle.image_graph.proofs.Still.{full_current, full_share, full_wait, packed_wait}
-use Rattle.image_graph.proofs.Turned.{SamePromise, IsPromisedAsAsked, promise_after}
+use Rattle.image_graph.proofs.PromisesAfterTurns.{SamePromise, IsPromisedAsAsked, promise_after}
 use Rattle.image_graph.specs.Holds.{HoldsBy, HoldsSome}
 use Rattle.full_cycle.specs.Collect.{HoldsWalked}
 use Rattle.full_cycle.proofs.Holding.{parsed}
@@ -47,27 +47,27 @@ module _ (config : Config) (memory : Word → ℕ) (block : Plot) (owner : ℕ �
 
   -- what the graph reaches, the graph with promises reaches
   reach_more : (name : Name) → IsReachable graph name → IsReachable more name
-  reach_more _ (reach.from_root t i name is) =
-      let at = holds.rooted.no_more_roots t i name is in
-      let pinned : Reference = name_in (graph.pin t (i - 17)) in
-      reach.from_root t i name
-      (cond-false (i == 16) (promises.ref t) (cond (nat_le 17 i && nat_lt i 21) pinned (graph.root t i)) (ne_eqb i 16 (λ e. omega (arith, e, at.3)))
-      ∙ cond-false (nat_le 17 i && nat_lt i 21) pinned (graph.root t i) (and_left (nat_le 17 i) (nat_lt i 21) (lt-leb 17 i (omega (arith, at.3)))) ∙ is)
-  reach_more _ (reach.from_pin t i held is) =
-      let at = holds.rooted.no_more_pins t i held is in
-      let index : 17 + i - 17 ≡ i = omega arith in
-      reach.from_root t (17 + i) held.name
-      (cond-false (17 + i == 16) (promises.ref t) (cond (nat_le 17 (17 + i) && nat_lt (17 + i) 21) (name_in (graph.pin t (17 + i - 17))) (graph.root t (17 + i))) (ne_eqb (17 + i) 16 (λ e. omega (arith, e)))
-      ∙ cond-true (nat_le 17 (17 + i) && nat_lt (17 + i) 21) (name_in (graph.pin t (17 + i - 17))) (graph.root t (17 + i))
-      (and_from (nat_le 17 (17 + i)) (nat_lt (17 + i) 21) (le-leb 17 (17 + i) (omega arith)) (lt-ltb (17 + i) 21 (omega (arith, at.3))))
-      ∙ ap (λ k. name_in (graph.pin t k)) index ∙ ap name_in is)
-  reach_more _ (reach.from_field k name field reached is) =
-      reach.from_field k name field (reach_more k reached) (ap (λ (object : Object). slice_get object.refs field) (old_object config.mutators graph promises holds.unreached k reached) ∙ is)
+  reach_more _ (reach.from_root thread root name is) =
+      let at = holds.rooted.no_more_roots thread root name is in
+      let pinned : Reference = name_in (graph.pin thread (root - 17)) in
+      reach.from_root thread root name
+      (cond-false (root == 16) (promises.ref thread) (cond (nat_le 17 root && nat_lt root 21) pinned (graph.root thread root)) (ne_eqb root 16 (λ e. omega (arith, e, at.3)))
+      ∙ cond-false (nat_le 17 root && nat_lt root 21) pinned (graph.root thread root) (and_left (nat_le 17 root) (nat_lt root 21) (lt-leb 17 root (omega (arith, at.3)))) ∙ is)
+  reach_more _ (reach.from_pin thread slot held is) =
+      let at = holds.rooted.no_more_pins thread slot held is in
+      let index : 17 + slot - 17 ≡ slot = omega arith in
+      reach.from_root thread (17 + slot) held.name
+      (cond-false (17 + slot == 16) (promises.ref thread) (cond (nat_le 17 (17 + slot) && nat_lt (17 + slot) 21) (name_in (graph.pin thread (17 + slot - 17))) (graph.root thread (17 + slot))) (ne_eqb (17 + slot) 16 (λ e. omega (arith, e)))
+      ∙ cond-true (nat_le 17 (17 + slot) && nat_lt (17 + slot) 21) (name_in (graph.pin thread (17 + slot - 17))) (graph.root thread (17 + slot))
+      (and_from (nat_le 17 (17 + slot)) (nat_lt (17 + slot) 21) (le-leb 17 (17 + slot) (omega arith)) (lt-ltb (17 + slot) 21 (omega (arith, at.3))))
+      ∙ ap (λ slot. name_in (graph.pin thread slot)) index ∙ ap name_in is)
+  reach_more _ (reach.from_field other_name name field reached is) =
+      reach.from_field other_name name field (reach_more other_name reached) (ap (λ (object : Object). slice_get object.refs field) (old_object config.mutators graph promises holds.unreached other_name reached) ∙ is)
 
   -- so it is an object
-  has_object : (name : Name) → IsReachable graph name → (o : Object) × (graph.object name ≡ Some o)
+  has_object : (name : Name) → IsReachable graph name → (object : Object) × (graph.object name ≡ Some object)
   has_object name reached =
-      let at = reached_is_held config (λ r. memory (Top r)) (λ a. memory (Heap a)) block (now_in memory) (IsAmong (held_words config memory)) more holds.objects name (reach_more name reached) in
+      let at = reached_is_held config (λ region. memory (Top region)) (λ address. memory (Heap address)) block (now_in memory) (IsAmong (held_words config memory)) more holds.objects name (reach_more name reached) in
       let object = holds.objects.each at.0 at.1 at.2 name at.3 at.4 in
       ⊎_elim
       (λ (promised : same_reference (promises.ref name.thread) (Some name) ≡ true). absurd (holds.unreached.fresh name.thread name (same_reference-true (promises.ref name.thread) name promised) reached))
@@ -77,10 +77,10 @@ module _ (config : Config) (memory : Word → ℕ) (block : Plot) (owner : ℕ �
 
   -- and no thread's next one
   not_next : (t : ℕ) → 1 ≤ t → IsReachable graph (fresh graph t) → ⊥
-  not_next t some reached =
+  not_next t positive reached =
       let object = has_object (fresh graph t) reached in
       let given = holds.next.given (fresh graph t) object.0 object.1 in
-      omega (arith, given.by_thread some)
+      omega (arith, given.by_thread positive)
 
   -- what is promised is the next object of its thread
   next_more : (mutator : ℕ) (name : Name) → mutator < config.mutators → (served_promises config after promises config.mutators).ref (mutator + 1) ≡ Some name → name ≡ fresh graph (mutator + 1)
@@ -95,14 +95,14 @@ module _ (config : Config) (memory : Word → ℕ) (block : Plot) (owner : ℕ �
   holds_again : HoldsBy config (full_from config memory) (served_block config after (packed_block config (is_row_pinned config memory) (kept_in config memory) block) config.mutators) (λ r. None) (served_promises config after promises config.mutators) graph
   holds_again =
       let plot : Plot = served_block config after (packed_block config (is_row_pinned config memory) (kept_in config memory) block) config.mutators in
-      let q : Promises = served_promises config after promises config.mutators in
-      let stands : ImageStands config (full_from config memory) plot graph q = full_stands config memory block graph promises holds.objects holds.rooted walk holds.asking in
-      let next : (t : ℕ) (name : Name) → q.ref t ≡ Some name → name ≡ fresh graph t = λ t name named.
+      let other_promises : Promises = served_promises config after promises config.mutators in
+      let stands : ImageStands config (full_from config memory) plot graph other_promises = full_stands config memory block graph promises holds.objects holds.rooted walk holds.asking in
+      let next : (t : ℕ) (name : Name) → other_promises.ref t ≡ Some name → name ≡ fresh graph t = λ t name named.
       let at = stands.rooted.no_more_promised t name named in
-      subst (λ k. name ≡ fresh graph k) (sym at.2) (next_more at.0 name at.1 (ap q.ref (sym at.2) ∙ named))
+      subst (λ k. name ≡ fresh graph k) (sym at.2) (next_more at.0 name at.1 (ap other_promises.ref (sym at.2) ∙ named))
       in
       record {
-        objects = standing_holds config (full_from config memory) plot graph q stands;
+        objects = standing_holds config (full_from config memory) plot graph other_promises stands;
         rooted = stands.rooted;
         moved = λ a refs nums name is forwarded.
             let object = stands.objects.each a refs nums name is in
@@ -113,17 +113,17 @@ module _ (config : Config) (memory : Word → ℕ) (block : Plot) (owner : ℕ �
         shared_one = λ r is. absurd (omega (arith, is, full_share config memory));
         buffers = record {
           each = λ seat some. absurd (some (full_current config memory seat));
-          spares = λ a seat words is. absurd (no_spare plot stands.things a seat words is);
+          spares = λ address seat words is. absurd (no_spare plot stands.things address seat words is);
         };
-        asking = λ t from below some. absurd (some (full_wait config memory t));
+        asking = λ mutator from below some. absurd (some (full_wait config memory mutator));
         next = record {
-          asked = λ t below some. absurd (some (full_wait config memory t));
+          asked = λ mutator below some. absurd (some (full_wait config memory mutator));
           promised = next;
           given = holds.next.given;
         };
         unreached = record {
           own = λ t n is. ap (λ (name : Name). name.thread) (next t n is);
-          few = λ t n is. (let at = stands.rooted.no_more_promised t n is in omega (arith, at.1, at.2));
+          few = λ thread name is. (let at = stands.rooted.no_more_promised thread name is in omega (arith, at.1, at.2));
           fresh = λ t n is reached.
               let at = stands.rooted.no_more_promised t n is in
               not_next t (omega (arith, at.2)) (subst (IsReachable graph) (next t n is) reached);

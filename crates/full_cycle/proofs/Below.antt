@@ -9,8 +9,8 @@ use Rattle.heap_world.proofs.Pieces.{behind}
 use Rattle.image_graph.specs.Full.{made_in, served_in, served, refused, full_from, packed_in}
 use Rattle.image_graph.specs.Serving.{asked_shape, turn_room}
 use Rattle.image_graph.proofs.Made.{outside_fresh}
-use Rattle.image_graph.proofs.Served.{served_first}
-use Rattle.image_graph.proofs.Serving.{finds_room, turn_is}
+use Rattle.image_graph.proofs.TurnWords.{served_first}
+use Rattle.image_graph.proofs.ServingKeeps.{finds_room, turn_is}
 
 module _ (config : Config) (memory : Word → ℕ) (region address : ℕ) (low : base_of config region ≤ address) (high : address < base_of config region + memory (Top region)) (within : memory (Top region) ≤ config.region_words) where
   -- the word is as it was, and still below the top
@@ -30,20 +30,20 @@ module _ (config : Config) (memory : Word → ℕ) (region address : ℕ) (low :
   one_turn : (k : Word → ℕ) (mutator : ℕ) (found : Option ℕ) → turn_room config k mutator ≡ found → Stays k → Stays (served_in config k mutator found)
   unfolding made_in
   one_turn k mutator None is so_far = so_far
-  one_turn k mutator (Some q) is so_far =
-      let room = finds_room config k mutator q is in (
-        outside_fresh (base_of config q + k (Top q)) (asked_shape k mutator) (name_code (mutator + 1) (request_count_in (k (Wait mutator)))) (k (Heap address)) address
-            (apart q (k (Top q)) (object_words (asked_shape k mutator)) room.2 (λ same. omega (arith, ap (λ j. k (Top j)) same, so_far.1)))
+  one_turn k mutator (Some other_region) is so_far =
+      let room = finds_room config k mutator other_region is in (
+        outside_fresh (base_of config other_region + k (Top other_region)) (asked_shape k mutator) (name_code (mutator + 1) (request_count_in (k (Wait mutator)))) (k (Heap address)) address
+            (apart other_region (k (Top other_region)) (object_words (asked_shape k mutator)) room.2 (λ same. omega (arith, ap (λ region. k (Top region)) same, so_far.1)))
             ∙ so_far.0,
-        cond_both (q == region) (k (Top q) + object_words (asked_shape k mutator)) (k (Top region)) (λ top. memory (Top region) ≤ top)
-            (λ same. omega (arith, ap (λ j. k (Top j)) (eqb-true q region same), so_far.1)) (λ _. so_far.1),
+        cond_both (other_region == region) (k (Top other_region) + object_words (asked_shape k mutator)) (k (Top region)) (λ top. memory (Top region) ≤ top)
+            (λ same. omega (arith, ap (λ region. k (Top region)) (eqb-true other_region region same), so_far.1)) (λ _. so_far.1),
       )
 
   all_turns : (n : ℕ) → Stays (served config memory n)
   all_turns zero = (served_first config memory (Heap address), omega (arith, served_first config memory (Top region)))
-  all_turns (suc n) =
-      let next = one_turn (served config memory n) n (turn_room config (served config memory n) n) refl (all_turns n) in
-      (ap (λ f. f (Heap address)) (turn_is config memory n) ∙ next.0, omega (arith, ap (λ f. f (Top region)) (turn_is config memory n), next.1))
+  all_turns (suc mutator) =
+      let next = one_turn (served config memory mutator) mutator (turn_room config (served config memory mutator) mutator) refl (all_turns mutator) in
+      (ap (λ f. f (Heap address)) (turn_is config memory mutator) ∙ next.0, omega (arith, ap (λ f. f (Top region)) (turn_is config memory mutator), next.1))
 
   pub below_stays : (n : ℕ) → served config memory n (Heap address) ≡ memory (Heap address)
   below_stays n = (all_turns n).0

@@ -22,7 +22,7 @@ use Rattle.image_graph.proofs.Reached.{held_is_reached, can_pack, refs_read}
 use Rattle.image_graph.proofs.Origin.{kept_inside, lie_apart}
 use Rattle.image_graph.proofs.HeldFound.{has_at, found_held}
 use Rattle.image_graph.proofs.Walked.{walk_keeps, root_held, field_held}
-use Rattle.image_graph.proofs.Roots.{root_among, answer_among, pin_among}
+use Rattle.image_graph.proofs.HeldRoots.{root_among, answer_among, pin_among}
 use Rattle.image_graph.specs.Holds.{HoldsBy, AreSized}
 use Rattle.full_cycle.specs.Collect.{found_in_turns, LeadsToHeld, CanCollect, HoldsWalked}
 use Rattle.image_graph.proofs.PinnedRows.{row_pinned}
@@ -67,8 +67,8 @@ module _ (config : Config) (memory : Word → ℕ) (block : Plot) (owner : ℕ �
 
   -- a kept object has a plain header
   stays : (address : ℕ) → 0 < kept address → now address ≡ address
-  stays address some =
-      let held = are.only address some in
+  stays address positive =
+      let held = are.only address positive in
       let at = held_is_reached config top heap block now IsRoot more holds.objects address held in
       let object = holds.objects.each address at.1 at.2 at.0 held at.3 in
       cond-false (is_forwarded (heap address)) (forwardee_in (heap address)) address (ap is_forwarded object.2.header)
@@ -87,22 +87,22 @@ module _ (config : Config) (memory : Word → ℕ) (block : Plot) (owner : ℕ �
       (inside.0, inside.1, held_kept (now word) (from_root word root other))
 
   field_leads : (address i : ℕ) → 0 < kept address → i < refs_in (heap (address + 1)) → LeadsToHeld config memory (heap (address + 3 + i))
-  field_leads address i some few other =
-      let held = are.only address some in
+  field_leads address i positive below other =
+      let held = are.only address positive in
       let at = held_is_reached config top heap block now IsRoot more holds.objects address held in
       let object = holds.objects.each address at.1 at.2 at.0 held at.3 in
       let is = object.2 in
       let shape : refs_in (heap (address + 1)) ≡ at.1 = ap refs_in is.shape ∙ refs_read at.1 at.2 is.few_refs is.few_nums in
-      let r : Reference = get_or object.0.refs i None in
-      let there : slice_get object.0.refs i ≡ Some r = slice_get-get_or object.0.refs i None (omega (arith, few, shape, is.refs_are)) in
-      let to = named_if_not_0 config top block holds.objects.plotted (heap (address + 3 + i)) r (is.references i r there) other in
+      let reference : Reference = get_or object.0.refs i None in
+      let there : slice_get object.0.refs i ≡ Some reference = slice_get-get_or object.0.refs i None (omega (arith, below, shape, is.refs_are)) in
+      let to = named_if_not_0 config top block holds.objects.plotted (heap (address + 3 + i)) reference (is.references i reference there) other in
       let inside = named_inside (heap (address + 3 + i)) to.0 to.2 in
-      (inside.0, inside.1, held_kept (now (heap (address + 3 + i))) (from_field address i held few other))
+      (inside.0, inside.1, held_kept (now (heap (address + 3 + i))) (from_field address i held below other))
 
   found_kept : (index a : ℕ) → slice_get (found_in_turns config memory index) index ≡ Some a → 0 < kept a
-  found_kept index a at =
+  found_kept index a found =
       held_kept a (found_held (λ b. copies_of memory (field_words memory b)) (copies_of memory (held_words config memory)) Held
-      (root_held config memory block more holds.objects) (field_held config memory block more holds.objects) index a (has_at (found_in_turns config memory index) index a at))
+      (root_held config memory block more holds.objects) (field_held config memory block more holds.objects) index a (has_at (found_in_turns config memory index) index a found))
 
   -- Pinned regions can be walked, and what is kept there begins where the walk comes.
   pub parsed : AreParsed config (is_row_pinned config memory) top heap block
@@ -126,9 +126,9 @@ module _ (config : Config) (memory : Word → ℕ) (block : Plot) (owner : ℕ �
     inside = λ a some. (kept_inside config top heap block more.object now kept can a some).1;
     current = stays;
     found = found_kept;
-    roots = λ t i inside few. root_leads (memory (Root t i)) (root_among config top memory block graph promises holds.objects.plotted holds.rooted t i inside few);
-    answers = λ t inside some. root_leads (memory (Answer t)) (answer_among config top memory block graph promises holds.objects.plotted holds.rooted t inside some);
-    pins = λ t i inside few. root_leads (memory (Pin t i)) (pin_among config top memory block graph promises holds.objects.plotted holds.rooted t i inside few);
+    roots = λ mutator index inside few. root_leads (memory (Root mutator index)) (root_among config top memory block graph promises holds.objects.plotted holds.rooted mutator index inside few);
+    answers = λ mutator inside some. root_leads (memory (Answer mutator)) (answer_among config top memory block graph promises holds.objects.plotted holds.rooted mutator inside some);
+    pins = λ mutator slot inside few. root_leads (memory (Pin mutator slot)) (pin_among config top memory block graph promises holds.objects.plotted holds.rooted mutator slot inside few);
     fills = fills;
     fields = field_leads;
   }

@@ -15,18 +15,18 @@ use Rattle.image_graph.proofs.Same.{memory_same}
 use Rattle.full_cycle.proofs.Listed.{noted_more}
 
 pub kept_is : (config : Config) (memory : Word → ℕ) (address : ℕ) → 0 < kept_in config memory address → kept_in config memory address ≡ object_words (memory (Heap (address + 1)))
-kept_is config memory address some = ⊎_elim
+kept_is config memory address positive = ⊎_elim
     (λ (yes : has (held_in config memory) address ≡ true). cond-true (has (held_in config memory) address) (object_words (memory (Heap (address + 1)))) 0 yes)
-    (λ (no : has (held_in config memory) address ≡ false). absurd (let none : kept_in config memory address ≡ 0 = cond-false (has (held_in config memory) address) (object_words (memory (Heap (address + 1)))) 0 no in omega (arith, none, some)))
+    (λ (no : has (held_in config memory) address ≡ false). absurd (let none : kept_in config memory address ≡ 0 = cond-false (has (held_in config memory) address) (object_words (memory (Heap (address + 1)))) 0 no in omega (arith, none, positive)))
     (cases_Bool (has (held_in config memory) address))
 
 module _ (config : Config) (memory : Word → ℕ) (can : CanCollect config memory) where
   -- a kept object lies in the heap with its fields
   pub object_inside : (address : ℕ) → 0 < kept_in config memory address → (config.region_words ≤ address) × (address + 3 + refs_in (memory (Heap (address + 1))) ≤ heap_end config)
-  object_inside address some = (can.apart.above address some, omega (arith, can.inside address some, kept_is config memory address some))
+  object_inside address positive = (can.apart.above address positive, omega (arith, can.inside address positive, kept_is config memory address positive))
 
   pub field_word : (address i : ℕ) → 0 < kept_in config memory address → i < 3 + refs_in (memory (Heap (address + 1))) → IsWord config (Heap (address + i))
-  field_word address i some few = let at = object_inside address some in (omega (arith, at.0), omega (arith, at.1, few))
+  field_word address i positive below = let at = object_inside address positive in (omega (arith, at.0), omega (arith, at.1, below))
 
   pub copy_inside : (word : ℕ) → word ≢ 0 → LeadsToHeld config memory word → IsWord config (Heap (now_in memory word))
   copy_inside word other leads =
@@ -42,9 +42,9 @@ pub noted_step : (i j k : Image) (f : ℕ → ℕ) (n word : ℕ) → IsUnchange
     → found_of j ≡ with_addresses (found_of i) (copies_of (memory_of i) (map f (range_with_len 0 n)))
     → word ≡ f n → found_of k ≡ with_address (found_of j) (current_address (memory_of j) word)
     → found_of k ≡ with_addresses (found_of i) (copies_of (memory_of i) (map f (range_with_len 0 (n + 1))))
-noted_step i j k f n word same before is noted =
+noted_step image other_image k f n word same before is noted =
     noted
-    ∙ ap (λ xs. with_address xs (current_address (memory_of j) word)) before
-    ∙ ap (λ (memory : Word → ℕ). with_address (with_addresses (found_of i) (copies_of (memory_of i) (map f (range_with_len 0 n)))) (current_address memory word)) (memory_same i j same)
-    ∙ ap (λ w. with_address (with_addresses (found_of i) (copies_of (memory_of i) (map f (range_with_len 0 n)))) (current_address (memory_of i) w)) is
-    ∙ noted_more (memory_of i) f n (found_of i)
+    ∙ ap (λ xs. with_address xs (current_address (memory_of other_image) word)) before
+    ∙ ap (λ (memory : Word → ℕ). with_address (with_addresses (found_of image) (copies_of (memory_of image) (map f (range_with_len 0 n)))) (current_address memory word)) (memory_same image other_image same)
+    ∙ ap (λ w. with_address (with_addresses (found_of image) (copies_of (memory_of image) (map f (range_with_len 0 n)))) (current_address (memory_of image) w)) is
+    ∙ noted_more (memory_of image) f n (found_of image)

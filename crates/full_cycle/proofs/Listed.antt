@@ -7,7 +7,7 @@ use Rattle.std.proofs.lemmas.List.FromFn.{map-range_with_len_more}
 use Rattle.heap_words.specs.declared.config.Config.{Config}
 use Rattle.heap_words.specs.Words.{Word, Root, Answer, Pin, heap_size}
 use Rattle.heap_world.specs.Walk.{with_address, with_addresses}
-use Rattle.heap_world.proofs.Marks.{with_addresses-push}
+use Rattle.heap_world.proofs.TakenDown.{with_addresses-push}
 use Rattle.image_graph.specs.Full.{copies_of, roots_below, answers_below, root_words, held_words, field_words, held_in}
 use Rattle.image_graph.specs.Pinned.{pins_below}
 use Rattle.image_graph.proofs.FoundInTurn.{noted_both}
@@ -24,11 +24,11 @@ noted_more memory f i order =
 
 -- the roots of one mutator more
 pub roots_more : (memory : Word → ℕ) (mutator : ℕ) (order : List ℕ)
-    → with_addresses (with_addresses order (copies_of memory (roots_below memory mutator))) (copies_of memory (map (λ i. memory (Root mutator i)) (range_with_len 0 16)))
+    → with_addresses (with_addresses order (copies_of memory (roots_below memory mutator))) (copies_of memory (map (λ index. memory (Root mutator index)) (range_with_len 0 16)))
     ≡ with_addresses order (copies_of memory (roots_below memory (mutator + 1)))
 roots_more memory mutator order =
     let next : suc mutator ≡ mutator + 1 = omega arith in
-    let row : List ℕ = map (λ i. memory (Root mutator i)) (range_with_len 0 16) in
+    let row : List ℕ = map (λ index. memory (Root mutator index)) (range_with_len 0 16) in
     noted_both order (copies_of memory (roots_below memory mutator)) (copies_of memory row)
     ∙ ap (with_addresses order) (sym (map-append (current_address memory) (roots_below memory mutator) row))
     ∙ ap (λ n. with_addresses order (copies_of memory (roots_below memory n))) next
@@ -37,9 +37,9 @@ roots_more memory mutator order =
 pub answer_more : (memory : Word → ℕ) (mutator : ℕ) (order : List ℕ) → 1 < memory (Answer mutator)
     → with_address (with_addresses order (copies_of memory (answers_below memory mutator))) (current_address memory (memory (Answer mutator)))
     ≡ with_addresses order (copies_of memory (answers_below memory (mutator + 1)))
-answer_more memory mutator order some =
+answer_more memory mutator order below =
     let next : suc mutator ≡ mutator + 1 = omega arith in
-    let one : cond (nat_le (memory (Answer mutator)) 1) [] (memory (Answer mutator) ∷ []) ≡ memory (Answer mutator) ∷ [] = cond-false (nat_le (memory (Answer mutator)) 1) [] (memory (Answer mutator) ∷ []) (lt-leb (memory (Answer mutator)) 1 some) in
+    let one : cond (nat_le (memory (Answer mutator)) 1) [] (memory (Answer mutator) ∷ []) ≡ memory (Answer mutator) ∷ [] = cond-false (nat_le (memory (Answer mutator)) 1) [] (memory (Answer mutator) ∷ []) (lt-leb (memory (Answer mutator)) 1 below) in
     sym (with_addresses-push order (copies_of memory (answers_below memory mutator)) (current_address memory (memory (Answer mutator))))
     ∙ ap (with_addresses order) (sym (ap (λ xs. copies_of memory (answers_below memory mutator ++ xs)) one ∙ map-append (current_address memory) (answers_below memory mutator) (memory (Answer mutator) ∷ [])))
     ∙ ap (λ n. with_addresses order (copies_of memory (answers_below memory n))) next
@@ -58,11 +58,11 @@ answer_none memory mutator order none =
 
 -- the pin slots of one mutator more
 pub pins_more : (memory : Word → ℕ) (mutator : ℕ) (order : List ℕ)
-    → with_addresses (with_addresses order (copies_of memory (pins_below memory mutator))) (copies_of memory (map (λ i. memory (Pin mutator i)) (range_with_len 0 4)))
+    → with_addresses (with_addresses order (copies_of memory (pins_below memory mutator))) (copies_of memory (map (λ slot. memory (Pin mutator slot)) (range_with_len 0 4)))
     ≡ with_addresses order (copies_of memory (pins_below memory (mutator + 1)))
 pins_more memory mutator order =
     let next : suc mutator ≡ mutator + 1 = omega arith in
-    let row : List ℕ = map (λ i. memory (Pin mutator i)) (range_with_len 0 4) in
+    let row : List ℕ = map (λ slot. memory (Pin mutator slot)) (range_with_len 0 4) in
     noted_both order (copies_of memory (pins_below memory mutator)) (copies_of memory row)
     ∙ ap (with_addresses order) (sym (map-append (current_address memory) (pins_below memory mutator) row))
     ∙ ap (λ n. with_addresses order (copies_of memory (pins_below memory n))) next
@@ -89,4 +89,4 @@ module _ (config : Config) (memory : Word → ℕ) where
   next_turn = turns.next_turn fields (copies_of memory (held_words config memory))
 
   pub last_turn : (n : ℕ) → length (found n) ≤ n → n ≤ heap_size config → found n ≡ held_in config memory
-  last_turn n short few = turns.last_turn fields (copies_of memory (held_words config memory)) n (heap_size config) short few
+  last_turn n short at_most = turns.last_turn fields (copies_of memory (held_words config memory)) n (heap_size config) short at_most

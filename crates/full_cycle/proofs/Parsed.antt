@@ -10,11 +10,11 @@ use Rattle.image_graph.specs.Pinned.{BeginsAt, CanFill}
 use Rattle.image_graph.specs.Plot.{AreParsed}
 use Rattle.image_graph.proofs.WalkedPieces.{begins_piece}
 use Rattle.image_graph.proofs.Rows.{row_is}
-use Rattle.image_graph.proofs.Filling.{begins_yes}
+use Rattle.image_graph.proofs.LeftoversFilled.{begins_yes}
 
 module _ (config : Config) (shut : ℕ → Bool) (memory : Word → ℕ) (block : Plot) (plotted : IsPlotted config (λ region. memory (Top region)) block)
     (parsed : AreParsed config shut (λ region. memory (Top region)) (λ a. memory (Heap a)) block) (region : ℕ) (inside : region < config.regions) (closed : shut (region + 1) ≡ true) where
-  ends_below : (k : ℕ) → k < memory (Top region) → BeginsAt config memory region k → k + stride_at (λ a. memory (Heap a)) (base_of config region + k) ≤ memory (Top region)
+  ends_below : (k : ℕ) → k < memory (Top region) → BeginsAt config memory region k → k + stride_at (λ address. memory (Heap address)) (base_of config region + k) ≤ memory (Top region)
   ends_below k below begun =
       let most = plotted.tops region inside in
       let row : shut ((base_of config region + k) / config.region_words) ≡ true = ap shut (row_is config.region_words region (base_of config region + k) (omega arith) (omega (arith, below, most))) ∙ closed in
@@ -27,7 +27,7 @@ module _ (config : Config) (shut : ℕ → Bool) (memory : Word → ℕ) (block 
       (λ (within : (base_of config region ≤ base_of config region + k) × (base_of config region + k + words_of piece.0 ≤ base_of config region + memory (Top region))). omega (arith, within.1, size))
       (λ (behind : base_of config region + config.region_words ≤ base_of config region + k). absurd (omega (arith, behind, below, most)))
       rest)
-      (beside config (λ q. memory (Top q)) block plotted region (base_of config region + k) piece.0 piece.1)
+      (beside config (λ region. memory (Top region)) block plotted region (base_of config region + k) piece.0 piece.1)
 
   pub parsed_fills : CanFill config memory region
   parsed_fills = record { within = plotted.tops region inside; ends = ends_below }

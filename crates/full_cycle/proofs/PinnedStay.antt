@@ -21,7 +21,7 @@ use Rattle.image_graph.specs.Promised.{Promises}
 use Rattle.image_graph.proofs.Still.{full_still}
 use Rattle.image_graph.specs.Buffers.{HasNoMoreSeats}
 use Rattle.image_graph.specs.Holds.{HoldsBy, HoldsSized}
-use Rattle.image_graph.proofs.Loosening.LettingGo.{HasLetGo, has_let_go}
+use Rattle.image_graph.proofs.Loosening.AllLetGo.{HasLetGo, has_let_go}
 use Rattle.full_cycle.specs.Collect.{CanCollect, HoldsWalked}
 use Rattle.full_cycle.specs.Result.{PinnedStay}
 use Rattle.full_cycle.proofs.Kept.{kept_is}
@@ -30,7 +30,8 @@ use Rattle.image_graph.proofs.PinnedRows.{row_pinned}
 use Rattle.image_graph.proofs.Rows.{row_is}
 use Rattle.full_cycle.proofs.Holding.{can_collect_some, kept_begin_some}
 use Rattle.full_cycle.proofs.Result.{reachable_kept}
-use Rattle.full_cycle.proofs.Stays.{BeginsThere, KeptBegin, moved, own_region, owner, kept_size, kept_header, kept_shape, kept_name}
+use Rattle.image_graph.proofs.SameRegion.{own_region}
+use Rattle.full_cycle.proofs.Stays.{BeginsThere, KeptBegin, moved, owner, kept_size, kept_header, kept_shape, kept_name}
 use Rattle.full_cycle.proofs.Below.{full_below}
 
 module _ (config : Config) (memory : Word → ℕ) (can : CanCollect config memory) (begin : KeptBegin config memory) (region : ℕ) (inside : region < config.regions) (pinned : is_pinned config memory region ≡ true) where
@@ -51,32 +52,32 @@ module _ (config : Config) (memory : Word → ℕ) (can : CanCollect config memo
 
     -- each of its words is one of it
     object_is : (i : ℕ) → i < kept address → address + i < base + config.region_words → object_of config memory (address + i) ≡ address
-    object_is i few near =
+    object_is i below near =
         let here : region_with config (address + i) ≡ region = regions_tile.of_no_other config region (address + i) (record { from = omega (arith, low); before = near }) in
-        let start = owner config memory can begin region inside pinned address (address + i) low high some (omega arith) (omega (arith, few)) in
-        ap (λ q. base_of config q + start_of (λ x. memory (Heap x)) (base_of config q) (address + i - base_of config q)) here ∙ ap (λ k. base + k) start ∙ back low
+        let start = owner config memory can begin region inside pinned address (address + i) low high some (omega arith) (omega (arith, below)) in
+        ap (λ q. base_of config q + start_of (λ address. memory (Heap address)) (base_of config q) (address + i - base_of config q)) here ∙ ap (λ k. base + k) start ∙ back low
       where
         back : base ≤ address → base + (address - base) ≡ address
         back from_base = omega (arith, from_base)
 
     -- so none of them is made to fill
     not_left : (i : ℕ) → i < kept address → address + i < base + config.region_words → (begins config memory (address + i) && is_unkept kept memory (address + i)) ≡ false
-    not_left i few near = ⊎_elim
+    not_left i below near = ⊎_elim
         (λ (first : i ≡ 0).
         let at : address + i ≡ address = omega (arith, first) in
         and_right (begins config memory (address + i)) (is_unkept kept memory (address + i))
         (and_right (not (is_filler (memory (Heap (address + i))))) (kept (address + i) == 0) (ne_eqb (kept (address + i)) 0 (λ none. omega (arith, none, ap kept at, some)))))
         (λ (later : i ≢ 0).
         and_left (begins config memory (address + i)) (is_unkept kept memory (address + i))
-        (and_right (is_in_use config memory (address + i)) (object_of config memory (address + i) == address + i) (ne_eqb (object_of config memory (address + i)) (address + i) (λ same. omega (arith, same, object_is i few near, later)))))
+        (and_right (is_in_use config memory (address + i)) (object_of config memory (address + i) == address + i) (ne_eqb (object_of config memory (address + i)) (address + i) (λ same. omega (arith, same, object_is i below near, later)))))
         (cases_eq i 0)
 
     packed_word : (i : ℕ) → i < kept address → address + i < base + config.region_words → packed_in config memory (Heap (address + i)) ≡ moved config memory can begin (Heap (address + i))
     unfolding packed
-    packed_word i few near =
+    packed_word i below near =
         cond-false (is_row_pinned config memory (region_with config (address + i) + 1) && (begins config memory (address + i) && is_unkept kept memory (address + i))) (filler_header (object_words (memory (Heap (address + i + 1)))))
         (moved config memory can begin (Heap (address + i)))
-        (and_right (is_row_pinned config memory (region_with config (address + i) + 1)) (begins config memory (address + i) && is_unkept kept memory (address + i)) (not_left i few near))
+        (and_right (is_row_pinned config memory (region_with config (address + i) + 1)) (begins config memory (address + i) && is_unkept kept memory (address + i)) (not_left i below near))
 
     near_end : address + kept address ≤ base + memory (Top region)
     near_end =
@@ -86,11 +87,11 @@ module _ (config : Config) (memory : Word → ℕ) (can : CanCollect config memo
         omega (arith, ends, size, low)
 
     word_stays : (i : ℕ) → i < kept address → full_from config memory (Heap (address + i)) ≡ moved config memory can begin (Heap (address + i))
-    word_stays i few =
+    word_stays i below =
         let end = near_end in
         let within = (can.fills region inside pinned).within in
         let top = top_stays in
-        full_below config memory region (address + i) (omega (arith, low)) (omega (arith, end, few, top)) (omega (arith, within, top)) ∙ packed_word i few (omega (arith, end, few, within))
+        full_below config memory region (address + i) (omega (arith, low)) (omega (arith, end, below, top)) (omega (arith, within, top)) ∙ packed_word i below (omega (arith, end, below, within))
 
     three : 3 ≤ kept address
     three = let size = kept_is config memory address some in omega (arith, size)
@@ -98,7 +99,7 @@ module _ (config : Config) (memory : Word → ℕ) (can : CanCollect config memo
     pub header_stays : full_from config memory (Heap address) ≡ plain_header
     header_stays =
         let at : address + 0 ≡ address = omega arith in
-        ap (λ x. full_from config memory (Heap x)) (sym at) ∙ word_stays 0 some ∙ ap (λ x. moved config memory can begin (Heap x)) at
+        ap (λ address. full_from config memory (Heap address)) (sym at) ∙ word_stays 0 some ∙ ap (λ address. moved config memory can begin (Heap address)) at
         ∙ kept_header config memory can begin region inside pinned address low high some
 
     pub shape_stays : full_from config memory (Heap (address + 1)) ≡ memory (Heap (address + 1))
@@ -130,23 +131,23 @@ module _ (config : Config) (memory after : Word → ℕ) (walked : HoldsWalked c
   Stays address = (after (Heap address) ≡ plain_header) × (after (Heap (address + 1)) ≡ memory (Heap (address + 1))) × (after (Heap (address + 2)) ≡ memory (Heap (address + 2)))
 
   object_stays : (address : ℕ) → 0 < kept_in config gone address → is_row_pinned config gone (address / config.region_words) ≡ true → Stays address
-  object_stays address some shut_row =
+  object_stays address positive shut_row =
       let region = region_with config address in
-      let own = own_region config address (can.apart.above address some) in
+      let own = own_region config address (can.apart.above address positive) in
       let closed : is_row_pinned config gone (region + 1) ≡ true = ap (is_row_pinned config gone) (sym (row_is config.region_words region address own.0 own.1)) ∙ shut_row in
       let at = shut_pinned config gone region closed in
-      let object = (reachable_kept config gone left.plot owner promises graph left.left.holds).only address some in
+      let object = (reachable_kept config gone left.plot owner promises graph left.left.holds).only address positive in
       let here : block address ≡ Some (thing object.0 object.1 object.2) = left.left.loosened.same.came address (thing object.0 object.1 object.2) refl object.3 in
       let word : (k : ℕ) → k < 3 → gone (Heap (address + k)) ≡ memory (Heap (address + k)) =
       λ k few. left.left.loosened.words address k (thing object.0 object.1 object.2) refl here (omega (arith, few)) in (
-        ap (λ k. k (Heap address)) is ∙ header_stays config gone can begin region at.0 at.1 address own.0 own.1 some,
-        ap (λ k. k (Heap (address + 1))) is ∙ shape_stays config gone can begin region at.0 at.1 address own.0 own.1 some ∙ word 1 (omega arith),
-        ap (λ k. k (Heap (address + 2))) is ∙ name_stays config gone can begin region at.0 at.1 address own.0 own.1 some ∙ word 2 (omega arith),
+        ap (λ k. k (Heap address)) is ∙ header_stays config gone can begin region at.0 at.1 address own.0 own.1 positive,
+        ap (λ k. k (Heap (address + 1))) is ∙ shape_stays config gone can begin region at.0 at.1 address own.0 own.1 positive ∙ word 1 (omega arith),
+        ap (λ k. k (Heap (address + 2))) is ∙ name_stays config gone can begin region at.0 at.1 address own.0 own.1 positive ∙ word 2 (omega arith),
       )
 
   pinned_stay : PinnedStay config memory after
   pinned_stay = record {
-    pins = λ t i. ap (λ k. k (Pin t i)) is ∙ pin_stays config gone t i ∙ let_go_same (Pin t i) (λ of. of) config memory (seat_count config.mutators config.helpers);
+    pins = λ mutator slot. ap (λ k. k (Pin mutator slot)) is ∙ pin_stays config gone mutator slot ∙ let_go_same (Pin mutator slot) (λ of. of) config memory (seat_count config.mutators config.helpers);
     shapes = object_stays;
     tops = λ r inside pinned. top_stays config gone can begin r inside pinned;
   }

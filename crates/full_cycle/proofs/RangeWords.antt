@@ -13,25 +13,25 @@ changed_to f g t u change before after from to is =
     subst (λ k. IsChanged k u change before after) from (subst (λ k. IsChanged f k change before after) to is)
 
 -- what holds of all roots holds of the words of their row
-pub roots_row : (config : Config) (words : List ℕ) (P : ℕ → Type 0) → ((mutator i : ℕ) → mutator < config.mutators → i < 16 → P (view config words (Root mutator i)))
-    → (k : ℕ) → word_at config (Root 0 0) ≤ k → k < word_at config (Count 0) → P (get_or words k 0)
+pub roots_row : (config : Config) (words : List ℕ) (P : ℕ → Type 0) → ((mutator index : ℕ) → mutator < config.mutators → index < 16 → P (view config words (Root mutator index)))
+    → (other_index : ℕ) → word_at config (Root 0 0) ≤ other_index → other_index < word_at config (Count 0) → P (get_or words other_index 0)
 roots_row config words P each k low high =
     let x : ℕ = k - word_at config (Root 0 0) in
     let x_is : word_at config (Root 0 0) + x ≡ k = omega (arith, low) in
     let few : x / 16 < config.mutators = omega (arith, high, x_is) in
     let index : x % 16 < 16 = omega arith in
     let at : word_at config (Root (x / 16) (x % 16)) ≡ k = omega (arith, x_is) in
-    subst P (view_word config words (Root (x / 16) (x % 16)) (few, index) ∙ ap (λ j. get_or words j 0) at) (each (x / 16) (x % 16) few index)
+    subst P (view_word config words (Root (x / 16) (x % 16)) (few, index) ∙ ap (λ index. get_or words index 0) at) (each (x / 16) (x % 16) few index)
 
 -- and of all answers
 pub answers_row : (config : Config) (words : List ℕ) (P : ℕ → Type 0) → ((mutator : ℕ) → mutator < config.mutators → P (view config words (Answer mutator)))
     → (index : ℕ) → word_at config (Answer 0) ≤ index → index < word_at config (Grey 0) → P (get_or words index 0)
 answers_row config words P each index low high =
-    let x : ℕ = index - word_at config (Answer 0) in
-    let x_is : word_at config (Answer 0) + x ≡ index = omega (arith, low) in
-    let few : x < config.mutators = omega (arith, high, x_is) in
-    let at : word_at config (Answer x) ≡ index = omega (arith, x_is) in
-    subst P (view_word config words (Answer x) few ∙ ap (λ j. get_or words j 0) at) (each x few)
+    let other_mutator : ℕ = index - word_at config (Answer 0) in
+    let x_is : word_at config (Answer 0) + other_mutator ≡ index = omega (arith, low) in
+    let few : other_mutator < config.mutators = omega (arith, high, x_is) in
+    let at : word_at config (Answer other_mutator) ≡ index = omega (arith, x_is) in
+    subst P (view_word config words (Answer other_mutator) few ∙ ap (λ index. get_or words index 0) at) (each other_mutator few)
 
 -- no word behind a range is changed
 pub behind_range : (from to index : ℕ) (change : ℕ → ℕ) (before after : List ℕ) → IsChanged from to change before after → to ≤ index → get_or after index 0 ≡ get_or before index 0

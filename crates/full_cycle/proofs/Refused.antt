@@ -15,8 +15,8 @@ idle_wait : (t u wait : ℕ) → (t ≡ u → wait ≡ 0) → cond (nat_lt u t) 
 idle_wait t u wait none = grind (arith, nat_tests, none)
 
 idle_at : (memory : Word → ℕ) (mutator : ℕ) → memory (Wait mutator) ≡ 0 → (word : Word) → refused_below mutator memory word ≡ refused_below (mutator + 1) memory word
-idle_at memory mutator none (Answer u) = idle_one mutator u (memory (Wait u)) (memory (Answer u)) (λ same. ap (λ v. memory (Wait v)) (sym same) ∙ none)
-idle_at memory mutator none (Wait u) = idle_wait mutator u (memory (Wait u)) (λ same. ap (λ v. memory (Wait v)) (sym same) ∙ none)
+idle_at memory mutator none (Answer other_mutator) = idle_one mutator other_mutator (memory (Wait other_mutator)) (memory (Answer other_mutator)) (λ same. ap (λ mutator. memory (Wait mutator)) (sym same) ∙ none)
+idle_at memory mutator none (Wait other_mutator) = idle_wait mutator other_mutator (memory (Wait other_mutator)) (λ same. ap (λ mutator. memory (Wait mutator)) (sym same) ∙ none)
 idle_at memory mutator none _ = refl
 
 -- a thread that does
@@ -27,9 +27,9 @@ left_wait : (t u wait : ℕ) → cond (t == u) 0 (cond (nat_lt u t) 0 wait) ≡ 
 left_wait t u wait = grind (arith, nat_tests)
 
 left_at : (memory : Word → ℕ) (mutator : ℕ) → memory (Wait mutator) ≢ 0 → (word : Word) → write (write (refused_below mutator memory) (Answer mutator) 1) (Wait mutator) 0 word ≡ refused_below (mutator + 1) memory word
-left_at memory mutator some (Answer u) = left_one mutator u (memory (Wait u)) (memory (Answer u)) (λ same is_zero. some (ap (λ v. memory (Wait v)) same ∙ is_zero))
-left_at memory mutator some (Wait u) = left_wait mutator u (memory (Wait u))
-left_at memory mutator some _ = refl
+left_at memory mutator positive (Answer other_mutator) = left_one mutator other_mutator (memory (Wait other_mutator)) (memory (Answer other_mutator)) (λ same is_zero. positive (ap (λ mutator. memory (Wait mutator)) same ∙ is_zero))
+left_at memory mutator positive (Wait other_mutator) = left_wait mutator other_mutator (memory (Wait other_mutator))
+left_at memory mutator positive _ = refl
 
 wait_here : (memory : Word → ℕ) (mutator : ℕ) → refused_below mutator memory (Wait mutator) ≡ memory (Wait mutator)
 wait_here memory mutator = grind (arith, nat_tests)

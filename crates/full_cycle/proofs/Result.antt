@@ -16,11 +16,11 @@ use Rattle.image_graph.specs.Plot.{packed_block}
 use Rattle.image_graph.specs.Promised.{Promises, with_promised}
 use Rattle.image_graph.specs.Image.{ImageStands}
 use Rattle.image_graph.specs.Serving.{served_block, served_promises}
-use Rattle.image_graph.specs.Served.{tops_at_turn}
+use Rattle.image_graph.specs.RequestsServed.{tops_at_turn}
 use Rattle.image_graph.proofs.Reached.{held_are_reachable}
 use Rattle.image_graph.proofs.Walked.{walk_keeps}
-use Rattle.image_graph.proofs.Served.{requests_are_answered}
-use Rattle.image_graph.proofs.Serving.{full_stands}
+use Rattle.image_graph.proofs.TurnWords.{requests_are_answered}
+use Rattle.image_graph.proofs.ServingKeeps.{full_stands}
 use Rattle.image_graph.proofs.Still.{packed_wait}
 use Rattle.image_graph.specs.Holds.{HoldsBy, HoldsSized}
 use Rattle.image_graph.specs.Buffers.{LettingGoHolds}
@@ -33,7 +33,7 @@ use Rattle.full_cycle.proofs.Holding.{parsed}
 pub reachable_kept : (config : Config) (memory : Word → ℕ) (block : Plot) (owner : ℕ → Option ℕ) (promises : Promises) (graph : Graph) → HoldsBy config memory block owner promises graph → KeptAreReachable config memory block (with_promised graph promises)
 reachable_kept config memory block owner promises graph holds =
     let are = walk_keeps config memory block (with_promised graph promises) holds.objects in
-    let reached = held_are_reachable config (λ r. memory (Top r)) (λ a. memory (Heap a)) block (now_in memory) (IsAmong (held_words config memory)) (with_promised graph promises) holds.objects in
+    let reached = held_are_reachable config (λ region. memory (Top region)) (λ address. memory (Heap address)) block (now_in memory) (IsAmong (held_words config memory)) (with_promised graph promises) holds.objects in
     record {
       only = λ a some. reached.only a (are.only a some);
       all = λ name is.

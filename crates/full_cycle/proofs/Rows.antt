@@ -8,7 +8,7 @@ use Rattle.full_cycle.specs.Steps.{IsChanged}
 
 module _ (config : Config) (from to : ℕ) (change : ℕ → ℕ) (before after : List ℕ) (is : IsChanged from to change before after) where
   -- words of the range are changed
-  pub hit : (w : Word) → change 0 ≡ 0 → (IsWord config w → (from ≤ word_at config w) × (word_at config w < to)) → view config after w ≡ change (view config before w)
+  pub hit : (word : Word) → change 0 ≡ 0 → (IsWord config word → (from ≤ word_at config word) × (word_at config word < to)) → view config after word ≡ change (view config before word)
   hit w none inside = ⊎_elim
       (λ (yes : is_word config w ≡ true).
       let word = is_word_true config w yes in
@@ -20,7 +20,7 @@ module _ (config : Config) (from to : ℕ) (change : ℕ → ℕ) (before after 
       (cases_Bool (is_word config w))
 
   -- and no others
-  pub miss : (w : Word) → (IsWord config w → from ≤ word_at config w → word_at config w < to → ⊥) → view config after w ≡ view config before w
+  pub miss : (word : Word) → (IsWord config word → from ≤ word_at config word → word_at config word < to → ⊥) → view config after word ≡ view config before word
   miss w outside = ⊎_elim
       (λ (yes : is_word config w ≡ true).
       let word = is_word_true config w yes in

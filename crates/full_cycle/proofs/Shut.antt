@@ -22,14 +22,14 @@ module _ (config : Config) (memory : Word → ℕ) where
       (cases_lt region config.regions) in
       (inside, set_is (is_pinned config memory) config.regions region inside bit)
 
-  pub row_is_pinned : (r : ℕ) → is_row_pinned config memory (r + 1) ≡ (nat_lt r config.regions && is_pinned config memory r)
-  row_is_pinned r = ⊎_elim
-      (λ (both : (nat_lt r config.regions && is_pinned config memory r) ≡ true).
-      let parts = and_parts (nat_lt r config.regions) (is_pinned config memory r) both in
-      row_pinned config memory r (ltb-true r config.regions parts.0) parts.1 ∙ sym both)
-      (λ (none : (nat_lt r config.regions && is_pinned config memory r) ≡ false).
-      false_from_ne_true (is_row_pinned config memory (r + 1)) (λ closed.
-      let is = shut_pinned r closed in
-      true≢false (sym (and_from (nat_lt r config.regions) (is_pinned config memory r) (lt-ltb r config.regions is.0) is.1) ∙ none))
+  pub row_is_pinned : (region : ℕ) → is_row_pinned config memory (region + 1) ≡ (nat_lt region config.regions && is_pinned config memory region)
+  row_is_pinned region = ⊎_elim
+      (λ (both : (nat_lt region config.regions && is_pinned config memory region) ≡ true).
+      let parts = and_parts (nat_lt region config.regions) (is_pinned config memory region) both in
+      row_pinned config memory region (ltb-true region config.regions parts.0) parts.1 ∙ sym both)
+      (λ (none : (nat_lt region config.regions && is_pinned config memory region) ≡ false).
+      false_from_ne_true (is_row_pinned config memory (region + 1)) (λ closed.
+      let is = shut_pinned region closed in
+      true≢false (sym (and_from (nat_lt region config.regions) (is_pinned config memory region) (lt-ltb region config.regions is.0) is.1) ∙ none))
       ∙ sym none)
-      (cases_Bool (nat_lt r config.regions && is_pinned config memory r))
+      (cases_Bool (nat_lt region config.regions && is_pinned config memory region))

@@ -22,9 +22,9 @@ use Rattle.regions.proofs.Slid.{slid_word-same, slid_next, slid_none, slid_only,
 use Rattle.regions.proofs.Flags.{kept_marked, kept_unmarked, kept_below}
 use Rattle.image_graph.specs.Plot.{heap_end, packed_top}
 use Rattle.image_graph.specs.Full.{now_in, held_in, kept_in, place_in, top_then, moved_heap}
-use Rattle.image_graph.specs.Pack.{IsPacked}
+use Rattle.image_graph.specs.PackedTable.{IsPacked}
 use Rattle.image_graph.proofs.Packed.{heap_part}
-use Rattle.image_graph.proofs.Read.{heap_length}
+use Rattle.image_graph.proofs.HeapParts.{heap_length}
 use Rattle.full_cycle.specs.Collect.{CanCollect, LeadsToHeld}
 use Rattle.full_cycle.specs.Steps.{moved_in, IsRenewedAs}
 
@@ -37,7 +37,7 @@ heap_word config words whole address above =
     ap (λ xs. get_or xs (address - config.region_words) 0) (heap_part config words)
     ∙ get_or-take (heap_size config) (drop (heap_start config) words) (address - config.region_words) 0 (omega (arith, below, above))
     ∙ get_or-drop (heap_start config) words (address - config.region_words) 0
-    ∙ ap (λ k. get_or words k 0) at ∙ sym (view_word config words (Heap address) (above, below)))
+    ∙ ap (λ index. get_or words index 0) at ∙ sym (view_word config words (Heap address) (above, below)))
     (λ (past : heap_end config ≤ address).
     get_or_past (heap_in config words) (address - config.region_words) 0 (omega (arith, heap_length config words whole, past, above)) ∙ sym (view_none config words (Heap address) (grind (arith, nat_tests))))
     (cases_lt address (heap_end config))
@@ -48,95 +48,95 @@ no_heap_word config words address below = view_none config words (Heap address) 
 
 -- one word of the heap after the kept objects were moved
 moved_is : (config : Config) (shut : ℕ → Bool) (now kept : ℕ → ℕ) (memory : Word → ℕ) (a : ℕ)
-    → slid (place_in config shut kept) kept (renewed (place_in config shut kept) now) (λ x. memory (Heap x)) (heap_end config) a ≡ moved_heap config shut now kept memory a
+    → slid (place_in config shut kept) kept (renewed (place_in config shut kept) now) (λ address. memory (Heap address)) (heap_end config) a ≡ moved_heap config shut now kept memory a
 unfolding moved_heap
 moved_is config shut now kept memory a = refl
 
 -- addresses of the heap lie in its first rows
 pub in_first_rows : (config : Config) (a n : ℕ) → 0 < n → a + n ≤ heap_end config → a < 65 * config.region_words
-in_first_rows config a n some inside =
+in_first_rows config a n positive inside =
     let rows = mul-le (config.regions + 1) config.region_words 65 config.region_words (omega (arith, config.in_range.most_regions)) (omega arith) in
-    omega (arith, rows, inside, some)
+    omega (arith, rows, inside, positive)
 
 module _ (config : Config) (shut : ℕ → Bool) (words : List ℕ) (marks : List Bool) (found : List ℕ) (whole : length words ≡ table_words config) (flags : length marks ≡ heap_size config)
     (marked : IsMarked config.region_words marks found) (held : found ≡ held_in config (view config words)) (can : CanCollect config (view config words)) where
-  abbrev w : ℕ
-  w = config.region_words
+  abbrev region_words : ℕ
+  region_words = config.region_words
 
-  abbrev m : Word → ℕ
-  m = view config words
+  abbrev now : Word → ℕ
+  now = view config words
 
   abbrev heap : List ℕ
   heap = heap_in config words
 
   abbrev kept : ℕ → ℕ
-  kept = kept_in config m
+  kept = kept_in config now
 
   not_held : (address : ℕ) → has found address ≡ false → kept address ≡ 0
-  not_held address none = cond-false (has (held_in config m) address) (object_words (m (Heap (address + 1)))) 0 (ap (λ xs. has xs address) (sym held) ∙ none)
+  not_held address none = cond-false (has (held_in config now) address) (object_words (now (Heap (address + 1)))) 0 (ap (λ xs. has xs address) (sym held) ∙ none)
 
-  is_held : (address : ℕ) → has found address ≡ true → kept address ≡ object_words (m (Heap (address + 1)))
-  is_held address there = cond-true (has (held_in config m) address) (object_words (m (Heap (address + 1)))) 0 (ap (λ xs. has xs address) (sym held) ∙ there)
+  is_held : (address : ℕ) → has found address ≡ true → kept address ≡ object_words (now (Heap (address + 1)))
+  is_held address there = cond-true (has (held_in config now) address) (object_words (now (Heap (address + 1)))) 0 (ap (λ xs. has xs address) (sym held) ∙ there)
 
   -- the flags say what is kept
-  kept_at : (k : ℕ) → kept_of w heap marks (w + k) ≡ kept (w + k)
+  kept_at : (index : ℕ) → kept_of region_words heap marks (region_words + index) ≡ kept (region_words + index)
   kept_at k = ⊎_elim
-      (λ (yes : has found (w + k) ≡ true).
-      let inside = (marked.among (w + k) yes).1 in
+      (λ (yes : has found (region_words + k) ≡ true).
+      let inside = (marked.among (region_words + k) yes).1 in
       let flag = marked.flags k (omega (arith, inside)) ∙ yes in
-      let index : w + k + 1 - w ≡ k + 1 = omega arith in
-      kept_marked w heap marks k flag
-      ∙ ap object_words (ap (λ j. get_or heap j 0) (sym index) ∙ heap_word config words whole (w + k + 1) (omega arith))
-      ∙ sym (is_held (w + k) yes))
-      (λ (no : has found (w + k) ≡ false). kept_unmarked w heap marks k (unset no) ∙ sym (not_held (w + k) no))
-      (cases_Bool (has found (w + k)))
+      let index : region_words + k + 1 - region_words ≡ k + 1 = omega arith in
+      kept_marked region_words heap marks k flag
+      ∙ ap object_words (ap (λ index. get_or heap index 0) (sym index) ∙ heap_word config words whole (region_words + k + 1) (omega arith))
+      ∙ sym (is_held (region_words + k) yes))
+      (λ (no : has found (region_words + k) ≡ false). kept_unmarked region_words heap marks k (unset no) ∙ sym (not_held (region_words + k) no))
+      (cases_Bool (has found (region_words + k)))
     where
-      unset : has found (w + k) ≡ false → get_or marks k false ≡ false
+      unset : has found (region_words + k) ≡ false → get_or marks k false ≡ false
       unset none = ⊎_elim
           (λ (below : k < length marks). marked.flags k below ∙ none)
           (λ (past : length marks ≤ k). get_or_past marks k false past)
           (cases_lt k (length marks))
 
-  kept_same_at : (a : ℕ) → kept_of w heap marks a ≡ kept a
-  kept_same_at a = ⊎_elim
-      (λ (below : a < w). kept_below w heap marks a below ∙ sym (not_held a (⊎_elim
-      (λ (yes : has found a ≡ true). absurd (let above = (marked.among a yes).0 in omega (arith, above, below)))
-      (λ (no : has found a ≡ false). no)
-      (cases_Bool (has found a)))))
-      (λ (above : w ≤ a). let sum : w + (a - w) ≡ a = omega (arith, above) in subst (λ b. kept_of w heap marks b ≡ kept b) sum (kept_at (a - w)))
-      (cases_lt a w)
+  kept_same_at : (address : ℕ) → kept_of region_words heap marks address ≡ kept address
+  kept_same_at address = ⊎_elim
+      (λ (below : address < region_words). kept_below region_words heap marks address below ∙ sym (not_held address (⊎_elim
+      (λ (yes : has found address ≡ true). absurd (let above = (marked.among address yes).0 in omega (arith, above, below)))
+      (λ (no : has found address ≡ false). no)
+      (cases_Bool (has found address)))))
+      (λ (above : region_words ≤ address). let sum : region_words + (address - region_words) ≡ address = omega (arith, above) in subst (λ b. kept_of region_words heap marks b ≡ kept b) sum (kept_at (address - region_words)))
+      (cases_lt address region_words)
 
-  kept_same : kept_of w heap marks ≡ kept
+  kept_same : kept_of region_words heap marks ≡ kept
   kept_same = fun_ext kept_same_at
 
-  now_same : (address : ℕ) → w ≤ address → now_of w heap address ≡ now_in m address
+  now_same : (address : ℕ) → region_words ≤ address → now_of region_words heap address ≡ now_in now address
   now_same address above = ap (λ h. cond (is_forwarded h) (forwardee_in h) address) (heap_word config words whole address above)
 
   -- what leads to what is kept
-  leads_to : (word : ℕ) → LeadsToHeld config m word → LeadsToKept w heap marks word
+  leads_to : (word : ℕ) → LeadsToHeld config now word → LeadsToKept region_words heap marks word
   leads_to word leads other =
       let to = leads other in
-      let copy : 0 < kept_of w heap marks (now_of w heap word) =
-      subst (λ a. 0 < kept_of w heap marks a) (sym (now_same word to.0)) (omega (arith, to.2, kept_same_at (now_in m word))) in
+      let copy : 0 < kept_of region_words heap marks (now_of region_words heap word) =
+      subst (λ a. 0 < kept_of region_words heap marks a) (sym (now_same word to.0)) (omega (arith, to.2, kept_same_at (now_in now word))) in
       (to.0, omega (arith, to.1, heap_length config words whole), copy)
 
-  pub can_compact : CanCompact w heap marks
+  pub can_compact : CanCompact region_words heap marks
   can_compact = record {
     marked = record {
-      apart = subst (LieApart w) (sym kept_same) can.apart;
+      apart = subst (LieApart region_words) (sym kept_same) can.apart;
       flags = flags ∙ sym (heap_length config words whole);
-      inside = λ a some. (let some_kept : 0 < kept a = omega (arith, some, kept_same_at a) in let end = can.inside a some_kept in omega (arith, end, kept_same_at a, heap_length config words whole));
+      inside = λ address some. (let some_kept : 0 < kept address = omega (arith, some, kept_same_at address) in let end = can.inside address some_kept in omega (arith, end, kept_same_at address, heap_length config words whole));
       small = omega (arith, heap_length config words whole, heap_size_le config, config.in_range.most_words);
     };
-    current = λ a some. (let some_kept : 0 < kept a = omega (arith, some, kept_same_at a) in now_same a (can.apart.above a some_kept) ∙ can.current a some_kept);
+    current = λ address some. (let some_kept : 0 < kept address = omega (arith, some, kept_same_at address) in now_same address (can.apart.above address some_kept) ∙ can.current address some_kept);
     closed = λ a i some few.
         let some_kept : 0 < kept a = omega (arith, some, kept_same_at a) in
         let above = can.apart.above a some_kept in
         let shape = heap_word config words whole (a + 1) (omega (arith, above)) in
         let index : a + 3 + i ≡ a + (3 + i) = omega arith in
-        let few_fields : i < refs_in (m (Heap (a + 1))) = subst (λ x. i < refs_in x) shape few in
-        let field : m (Heap (a + 3 + i)) ≡ word_of w heap (a + (3 + i)) = ap (λ x. m (Heap x)) index ∙ sym (heap_word config words whole (a + (3 + i)) (omega (arith, above))) in
-        subst (LeadsToKept w heap marks) field (leads_to (m (Heap (a + 3 + i))) (can.fields a i some_kept few_fields));
+        let few_fields : i < refs_in (now (Heap (a + 1))) = subst (λ x. i < refs_in x) shape few in
+        let field : now (Heap (a + 3 + i)) ≡ word_of region_words heap (a + (3 + i)) = ap (λ address. now (Heap address)) index ∙ sym (heap_word config words whole (a + (3 + i)) (omega (arith, above))) in
+        subst (LeadsToKept region_words heap marks) field (leads_to (now (Heap (a + 3 + i))) (can.fields a i some_kept few_fields));
   }
 
   abbrev pub place : ℕ → ℕ
@@ -144,108 +144,108 @@ module _ (config : Config) (shut : ℕ → Bool) (words : List ℕ) (marks : Lis
 
   -- no two kept objects have places that share a word
   apart_places : PlacesApart place kept
-  apart_places = places_apart w shut kept can.apart (λ a some. in_first_rows config a (kept a) some (can.inside a some))
+  apart_places = places_apart region_words shut kept can.apart (λ a some. in_first_rows config a (kept a) some (can.inside a some))
 
   -- which way a word is renewed
-  renewed_same : (word : ℕ) → LeadsToHeld config m word → renewed (place_of w shut heap marks) (now_of w heap) word ≡ renewed place (now_in m) word
+  renewed_same : (word : ℕ) → LeadsToHeld config now word → renewed (place_of region_words shut heap marks) (now_of region_words heap) word ≡ renewed place (now_in now) word
   renewed_same word leads = ⊎_elim
       (λ (null : word ≡ 0).
-      cond-true (word == 0) 0 (place_of w shut heap marks (now_of w heap word)) (eq-eqb word 0 null)
-      ∙ sym (cond-true (word == 0) 0 (place (now_in m word)) (eq-eqb word 0 null)))
+      cond-true (word == 0) 0 (place_of region_words shut heap marks (now_of region_words heap word)) (eq-eqb word 0 null)
+      ∙ sym (cond-true (word == 0) 0 (place (now_in now word)) (eq-eqb word 0 null)))
       (λ (some : word ≢ 0).
-      cond-false (word == 0) 0 (place_of w shut heap marks (now_of w heap word)) (ne_eqb word 0 some)
-      ∙ ap (λ (k : ℕ → ℕ). new_place w shut k (now_of w heap word)) kept_same
+      cond-false (word == 0) 0 (place_of region_words shut heap marks (now_of region_words heap word)) (ne_eqb word 0 some)
+      ∙ ap (λ (k : ℕ → ℕ). new_place region_words shut k (now_of region_words heap word)) kept_same
       ∙ ap place (now_same word (leads some).0)
-      ∙ sym (cond-false (word == 0) 0 (place (now_in m word)) (ne_eqb word 0 some)))
+      ∙ sym (cond-false (word == 0) 0 (place (now_in now word)) (ne_eqb word 0 some)))
       (cases_eq word 0)
 
   module _ (after places : List ℕ) (long : length after ≡ table_words config) (packed : IsPacked config shut marks words after places) where
     abbrev renew : ℕ → ℕ
-    renew = renewed place (now_in m)
+    renew = renewed place (now_in now)
 
     abbrev old_heap : ℕ → ℕ
-    old_heap address = m (Heap address)
+    old_heap address = now (Heap address)
 
     abbrev new_heap : ℕ → ℕ
     new_heap address = view config after (Heap address)
 
     -- the slide, over the heap as a slice, ..
-    slid_slice : IsSlidTo (heap_end config) w place kept renew (word_of w heap) (word_of w (heap_in config after))
+    slid_slice : IsSlidTo (heap_end config) region_words place kept renew (word_of region_words heap) (word_of region_words (heap_in config after))
     slid_slice =
-        let end : w + heap_size config ≡ heap_end config = omega arith in
-        let by_kept : IsSlidTo (heap_end config) w place kept (renewed (place_of w shut heap marks) (now_of w heap)) (word_of w heap) (word_of w (heap_in config after)) =
-        subst (λ (k : ℕ → ℕ). IsSlidTo (heap_end config) w (new_place w shut k) k (renewed (place_of w shut heap marks) (now_of w heap)) (word_of w heap) (word_of w (heap_in config after))) kept_same
-        (subst (λ e. IsSlidTo e w (place_of w shut heap marks) (kept_of w heap marks) (renewed (place_of w shut heap marks) (now_of w heap)) (word_of w heap) (word_of w (heap_in config after))) end packed.slid) in
-        renewed_alike place kept (renewed (place_of w shut heap marks) (now_of w heap)) (word_of w heap) renew w (heap_end config) (word_of w (heap_in config after))
+        let end : region_words + heap_size config ≡ heap_end config = omega arith in
+        let by_kept : IsSlidTo (heap_end config) region_words place kept (renewed (place_of region_words shut heap marks) (now_of region_words heap)) (word_of region_words heap) (word_of region_words (heap_in config after)) =
+        subst (λ (k : ℕ → ℕ). IsSlidTo (heap_end config) region_words (new_place region_words shut k) k (renewed (place_of region_words shut heap marks) (now_of region_words heap)) (word_of region_words heap) (word_of region_words (heap_in config after))) kept_same
+        (subst (λ end. IsSlidTo end region_words (place_of region_words shut heap marks) (kept_of region_words heap marks) (renewed (place_of region_words shut heap marks) (now_of region_words heap)) (word_of region_words heap) (word_of region_words (heap_in config after))) end packed.slid) in
+        renewed_alike place kept (renewed (place_of region_words shut heap marks) (now_of region_words heap)) (word_of region_words heap) renew region_words (heap_end config) (word_of region_words (heap_in config after))
         (λ a i some few.
         let above = can.apart.above a some in
         let shape = heap_word config words whole (a + 1) (omega (arith, above)) in
         let index : a + 3 + i ≡ a + (3 + i) = omega arith in
-        let field : m (Heap (a + 3 + i)) ≡ word_of w heap (a + (3 + i)) = ap (λ x. m (Heap x)) index ∙ sym (heap_word config words whole (a + (3 + i)) (omega (arith, above))) in
-        renewed_same (word_of w heap (a + (3 + i))) (subst (LeadsToHeld config m) field (can.fields a i some (subst (λ x. i < refs_in x) shape few))))
+        let field : now (Heap (a + 3 + i)) ≡ word_of region_words heap (a + (3 + i)) = ap (λ address. now (Heap address)) index ∙ sym (heap_word config words whole (a + (3 + i)) (omega (arith, above))) in
+        renewed_same (word_of region_words heap (a + (3 + i))) (subst (LeadsToHeld config now) field (can.fields a i some (subst (λ x. i < refs_in x) shape few))))
         by_kept
 
     -- .. and by names
-    slid_named : IsSlidTo (heap_end config) w place kept renew old_heap new_heap
+    slid_named : IsSlidTo (heap_end config) region_words place kept renew old_heap new_heap
     slid_named = record {
       moved = λ a i below inside.
           let some : 0 < kept a = omega (arith, inside) in
           let above = can.apart.above a some in
-          let at = stays_above w shut kept can.apart a some in
+          let at = stays_above region_words shut kept can.apart a some in
           sym (heap_word config after long (place a + i) (omega (arith, at)))
           ∙ slid_slice.moved a i below inside
-          ∙ slid_word-same renew (word_of w heap) old_heap a a i (heap_word config words whole (a + 1) (omega (arith, above))) (heap_word config words whole (a + i) (omega (arith, above)));
+          ∙ slid_word-same renew (word_of region_words heap) old_heap a a i (heap_word config words whole (a + 1) (omega (arith, above))) (heap_word config words whole (a + i) (omega (arith, above)));
       others = λ x above none.
           sym (heap_word config after long x above) ∙ slid_slice.others x above none ∙ heap_word config words whole x above;
     }
 
     -- below the heap nothing was slid
-    not_below : (a x : ℕ) → x < w → is_covered place kept a x ≡ false
+    not_below : (a x : ℕ) → x < region_words → is_covered place kept a x ≡ false
     not_below a x below = false_from_ne_true (is_covered place kept a x) (λ met.
         let is = covering place kept a x met in
-        let at = stays_above w shut kept can.apart a is.2 in
+        let at = stays_above region_words shut kept can.apart a is.2 in
         omega (arith, is.0, at, below))
 
-    slid_below : (e x : ℕ) → x < w → slid place kept renew old_heap e x ≡ old_heap x
+    slid_below : (e x : ℕ) → x < region_words → slid place kept renew old_heap e x ≡ old_heap x
     slid_below zero x below = slid_none place kept renew old_heap x
-    slid_below (suc e) x below =
-        slid_next place kept renew old_heap e x
-        ∙ cond-false (is_covered place kept e x) (slid_word renew old_heap e (x - place e)) (slid place kept renew old_heap e x) (not_below e x below)
-        ∙ slid_below e x below
+    slid_below (suc address) x below =
+        slid_next place kept renew old_heap address x
+        ∙ cond-false (is_covered place kept address x) (slid_word renew old_heap address (x - place address)) (slid place kept renew old_heap address x) (not_below address x below)
+        ∙ slid_below address x below
 
-    heap_moved : (x : ℕ) → new_heap x ≡ moved_heap config shut (now_in m) kept m x
-    heap_moved x = ⊎_elim
-        (λ (below : x < w). no_heap_word config after x below ∙ sym (no_heap_word config words x below) ∙ sym (slid_below (heap_end config) x below))
-        (λ (above : w ≤ x). slid_only place kept renew old_heap apart_places w (heap_end config) new_heap slid_named x above)
-        (cases_lt x w)
-        ∙ moved_is config shut (now_in m) kept m x
+    heap_moved : (address : ℕ) → new_heap address ≡ moved_heap config shut (now_in now) kept now address
+    heap_moved address = ⊎_elim
+        (λ (below : address < region_words). no_heap_word config after address below ∙ sym (no_heap_word config words address below) ∙ sym (slid_below (heap_end config) address below))
+        (λ (above : region_words ≤ address). slid_only place kept renew old_heap apart_places region_words (heap_end config) new_heap slid_named address above)
+        (cases_lt address region_words)
+        ∙ moved_is config shut (now_in now) kept now address
 
     -- the tops
-    no_top : (r : ℕ) → config.regions ≤ r → packed_top config shut kept r ≡ 0
-    no_top r past = sum_of_none (words_in w shut kept r) (heap_end config) (λ a below. ⊎_elim
-        (λ (none : words_in w shut kept r a ≡ 0). none)
-        (λ (there : (0 < open_kept w shut kept a) × (new_place w shut kept a / w ≡ r + 1)).
-        absurd (let few = place_in_range w shut kept can.apart config.regions a (is_open w shut kept a there.0).0 below in let here = there.1 in omega (arith, few, here, past)))
-        (added w shut kept can.apart r a))
+    no_top : (region : ℕ) → config.regions ≤ region → packed_top config shut kept region ≡ 0
+    no_top region past = sum_of_none (words_in region_words shut kept region) (heap_end config) (λ a below. ⊎_elim
+        (λ (none : words_in region_words shut kept region a ≡ 0). none)
+        (λ (there : (0 < open_kept region_words shut kept a) × (new_place region_words shut kept a / region_words ≡ region + 1)).
+        absurd (let few = place_in_range region_words shut kept can.apart config.regions a (is_open region_words shut kept a there.0).0 below in let here = there.1 in omega (arith, few, here, past)))
+        (added region_words shut kept can.apart region a))
 
     abbrev placed_top : ℕ → (ℕ → ℕ) → ℕ → ℕ
-    placed_top region k e = if shut (region + 1) then m (Top region) else top_before w shut k region e
+    placed_top region kept e = if shut (region + 1) then now (Top region) else top_before region_words shut kept region e
 
-    top_moved : (region : ℕ) → view config after (Top region) ≡ top_then config shut kept m region
+    top_moved : (region : ℕ) → view config after (Top region) ≡ top_then config shut kept now region
     top_moved region = ⊎_elim
         (λ (inside : region < config.regions).
-        let end : w + heap_size config ≡ heap_end config = omega arith in
+        let end : region_words + heap_size config ≡ heap_end config = omega arith in
         view_word config after (Top region) inside ∙ packed.tops region inside
-        ∙ ap (λ (y : ℕ). if shut (region + 1) then y else top_before w shut (kept_of w heap marks) region (w + heap_size config)) (sym (view_word config words (Top region) inside))
-        ∙ ap (λ (k : ℕ → ℕ). placed_top region k (w + heap_size config)) kept_same ∙ ap (placed_top region kept) end)
+        ∙ ap (λ (y : ℕ). if shut (region + 1) then y else top_before region_words shut (kept_of region_words heap marks) region (region_words + heap_size config)) (sym (view_word config words (Top region) inside))
+        ∙ ap (λ (k : ℕ → ℕ). placed_top region k (region_words + heap_size config)) kept_same ∙ ap (placed_top region kept) end)
         (λ (past : config.regions ≤ region).
-        let none : m (Top region) ≡ 0 = view_none config words (Top region) (grind (arith, nat_tests)) in
+        let none : now (Top region) ≡ 0 = view_none config words (Top region) (grind (arith, nat_tests)) in
         view_none config after (Top region) (grind (arith, nat_tests))
-        ∙ sym (cond_both (shut (region + 1)) (m (Top region)) (packed_top config shut kept region) (λ k. k ≡ 0) (λ _. none) (λ _. no_top region past)))
+        ∙ sym (cond_both (shut (region + 1)) (now (Top region)) (packed_top config shut kept region) (λ k. k ≡ 0) (λ _. none) (λ _. no_top region past)))
         (cases_lt region config.regions)
 
     -- and no other word
-    other_word : (word : Word) → (IsWord config word → (word_at config word < heap_start config) × ((word_at config word < word_at config (Top 0)) ⊎ (word_at config (Top 0) + config.regions ≤ word_at config word))) → view config after word ≡ m word
+    other_word : (word : Word) → (IsWord config word → (word_at config word < heap_start config) × ((word_at config word < word_at config (Top 0)) ⊎ (word_at config (Top 0) + config.regions ≤ word_at config word))) → view config after word ≡ now word
     other_word word place = ⊎_elim
         (λ (yes : is_word config word ≡ true).
         let is = is_word_true config word yes in
@@ -254,7 +254,7 @@ module _ (config : Config) (shut : ℕ → Bool) (words : List ℕ) (marks : Lis
         (λ (no : is_word config word ≡ false). view_none config after word no ∙ sym (view_none config words word no))
         (cases_Bool (is_word config word))
 
-    behind_word : (word : Word) → (IsWord config word → heap_start config + heap_size config ≤ word_at config word) → view config after word ≡ m word
+    behind_word : (word : Word) → (IsWord config word → heap_start config + heap_size config ≤ word_at config word) → view config after word ≡ now word
     behind_word word place = ⊎_elim
         (λ (yes : is_word config word ≡ true).
         let is = is_word_true config word yes in
@@ -262,37 +262,37 @@ module _ (config : Config) (shut : ℕ → Bool) (words : List ℕ) (marks : Lis
         (λ (no : is_word config word ≡ false). view_none config after word no ∙ sym (view_none config words word no))
         (cases_Bool (is_word config word))
 
-    moved_at : (word : Word) → view config after word ≡ moved_in config shut (now_in m) kept m word
-    moved_at (Heap a) = heap_moved a
-    moved_at (Top r) = top_moved r
+    moved_at : (word : Word) → view config after word ≡ moved_in config shut (now_in now) kept now word
+    moved_at (Heap address) = heap_moved address
+    moved_at (Top region) = top_moved region
     moved_at Share = behind_word Share (λ is. omega arith)
-    moved_at (Pin t i) = behind_word (Pin t i) (λ is. omega (arith, is))
+    moved_at (Pin mutator slot) = behind_word (Pin mutator slot) (λ is. omega (arith, is))
     moved_at Pause = other_word Pause (λ is. (omega (arith, is), inl (omega (arith, is))))
     moved_at Left = other_word Left (λ is. (omega (arith, is), inl (omega (arith, is))))
     moved_at End = other_word End (λ is. (omega (arith, is), inl (omega (arith, is))))
-    moved_at (State s) = other_word (State s) (λ is. (omega (arith, is), inl (omega (arith, is))))
+    moved_at (State seat) = other_word (State seat) (λ is. (omega (arith, is), inl (omega (arith, is))))
     moved_at Phase = other_word Phase (λ is. (omega (arith, is), inl (omega (arith, is))))
     moved_at Cset = other_word Cset (λ is. (omega (arith, is), inl (omega (arith, is))))
     moved_at Free = other_word Free (λ is. (omega (arith, is), inl (omega (arith, is))))
     moved_at Evac = other_word Evac (λ is. (omega (arith, is), inl (omega (arith, is))))
     moved_at Claim = other_word Claim (λ is. (omega (arith, is), inl (omega (arith, is))))
     moved_at Ask = other_word Ask (λ is. (omega (arith, is), inl (omega (arith, is))))
-    moved_at (Tams r) = other_word (Tams r) (λ is. (omega (arith, is), inr (omega (arith, is))))
-    moved_at (Limit r) = other_word (Limit r) (λ is. (omega (arith, is), inr (omega (arith, is))))
-    moved_at (Current s) = other_word (Current s) (λ is. (omega (arith, is), inr (omega (arith, is))))
-    moved_at (Root t i) = other_word (Root t i) (λ is. (omega (arith, is), inr (omega (arith, is))))
-    moved_at (Count t) = other_word (Count t) (λ is. (omega (arith, is), inr (omega (arith, is))))
-    moved_at (Buffer t i) = other_word (Buffer t i) (λ is. (omega (arith, is), inr (omega (arith, is))))
-    moved_at (Wait t) = other_word (Wait t) (λ is. (omega (arith, is), inr (omega (arith, is))))
-    moved_at (Answer t) = other_word (Answer t) (λ is. (omega (arith, is), inr (omega (arith, is))))
-    moved_at (Grey n) = other_word (Grey n) (λ is. (omega (arith, is), inr (omega (arith, is))))
-    moved_at (Black n) = other_word (Black n) (λ is. (omega (arith, is), inr (omega (arith, is))))
+    moved_at (Tams region) = other_word (Tams region) (λ is. (omega (arith, is), inr (omega (arith, is))))
+    moved_at (Limit region) = other_word (Limit region) (λ is. (omega (arith, is), inr (omega (arith, is))))
+    moved_at (Current seat) = other_word (Current seat) (λ is. (omega (arith, is), inr (omega (arith, is))))
+    moved_at (Root mutator index) = other_word (Root mutator index) (λ is. (omega (arith, is), inr (omega (arith, is))))
+    moved_at (Count mutator) = other_word (Count mutator) (λ is. (omega (arith, is), inr (omega (arith, is))))
+    moved_at (Buffer mutator entry) = other_word (Buffer mutator entry) (λ is. (omega (arith, is), inr (omega (arith, is))))
+    moved_at (Wait mutator) = other_word (Wait mutator) (λ is. (omega (arith, is), inr (omega (arith, is))))
+    moved_at (Answer mutator) = other_word (Answer mutator) (λ is. (omega (arith, is), inr (omega (arith, is))))
+    moved_at (Grey number) = other_word (Grey number) (λ is. (omega (arith, is), inr (omega (arith, is))))
+    moved_at (Black number) = other_word (Black number) (λ is. (omega (arith, is), inr (omega (arith, is))))
 
-    pub moved : view config after ≡ moved_in config shut (now_in m) kept m
+    pub moved : view config after ≡ moved_in config shut (now_in now) kept now
     moved = fun_ext moved_at
 
     -- each word that led to a kept object can be renewed
-    pub renews : (word : ℕ) → LeadsToHeld config m word → IsRenewedAs w place (now_in m) places word
+    pub renews : (word : ℕ) → LeadsToHeld config now word → IsRenewedAs region_words place (now_in now) places word
     renews word leads =
         let by = packed.renews word (leads_to word leads) in
         record { in_table = by.in_table; renewed_as = by.renewed_as ∙ renewed_same word leads }

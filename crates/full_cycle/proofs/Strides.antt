@@ -13,13 +13,13 @@ pub filler_fills : (words : ℕ) → is_filler (filler_header words) ≡ true
 filler_fills words = eq-eqb _ 2 (omega arith)
 
 module _ (memory : Word → ℕ) (block : Plot) (sized : AreSized memory block) (none : HasNoRoom block) where
-  fills : (address words : ℕ) → block address ≡ Some (filler words) → stride_at (λ y. memory (Heap y)) address ≡ words
+  fills : (address words : ℕ) → block address ≡ Some (filler words) → stride_at (λ address. memory (Heap address)) address ≡ words
   fills address words here =
       let header = sized.fillers address words here in
       let quarter : filler_header words / 4 ≡ words = omega arith in
       cond-true (is_filler (memory (Heap address))) (memory (Heap address) / 4) (object_words (memory (Heap (address + 1)))) (ap is_filler header ∙ filler_fills words) ∙ ap (λ k. k / 4) header ∙ quarter
 
-  pub strides : (address : ℕ) (piece : Block) → block address ≡ Some piece → stride_at (λ y. memory (Heap y)) address ≡ words_of piece
+  pub strides : (address : ℕ) (piece : Block) → block address ≡ Some piece → stride_at (λ address. memory (Heap address)) address ≡ words_of piece
   strides address piece here = ⊎_elim
       (λ (fixed : is_loose piece ≡ false).
       cond-false (is_filler (memory (Heap address))) (memory (Heap address) / 4) (object_words (memory (Heap (address + 1)))) (sized.headers address piece here fixed) ∙ sized.objects address piece here fixed)

@@ -12,34 +12,34 @@ module _ (config : Config) (old first_done second_done third_done fourth_done al
     (third_cleared : IsChanged (word_at config (Tams 0)) (word_at config (Root 0 0)) (λ word. 0) second_done third_done)
     (fourth_cleared : IsChanged (word_at config (Count 0)) (word_at config (Buffer 0 0)) (λ word. 0) third_done fourth_done)
     (fifth_cleared : IsChanged (word_at config (Grey 0)) (heap_start config) (λ word. 0) fourth_done all_done) where
-  phase_hit : (w : Word) → (IsWord config w → (word_at config Phase ≤ word_at config w) × (word_at config w < word_at config Free)) → view config first_done w ≡ 0
+  phase_hit : (word : Word) → (IsWord config word → (word_at config Phase ≤ word_at config word) × (word_at config word < word_at config Free)) → view config first_done word ≡ 0
   phase_hit w inside = hit config (word_at config Phase) (word_at config Free) (λ word. 0) old first_done first_cleared w refl inside
 
-  phase_miss : (w : Word) → (IsWord config w → word_at config Phase ≤ word_at config w → word_at config w < word_at config Free → ⊥) → view config first_done w ≡ view config old w
+  phase_miss : (word : Word) → (IsWord config word → word_at config Phase ≤ word_at config word → word_at config word < word_at config Free → ⊥) → view config first_done word ≡ view config old word
   phase_miss w outside = miss config (word_at config Phase) (word_at config Free) (λ word. 0) old first_done first_cleared w outside
 
-  evac_hit : (w : Word) → (IsWord config w → (word_at config Evac ≤ word_at config w) × (word_at config w < word_at config (Top 0))) → view config second_done w ≡ 0
+  evac_hit : (word : Word) → (IsWord config word → (word_at config Evac ≤ word_at config word) × (word_at config word < word_at config (Top 0))) → view config second_done word ≡ 0
   evac_hit w inside = hit config (word_at config Evac) (word_at config (Top 0)) (λ word. 0) first_done second_done second_cleared w refl inside
 
-  evac_miss : (w : Word) → (IsWord config w → word_at config Evac ≤ word_at config w → word_at config w < word_at config (Top 0) → ⊥) → view config second_done w ≡ view config first_done w
+  evac_miss : (word : Word) → (IsWord config word → word_at config Evac ≤ word_at config word → word_at config word < word_at config (Top 0) → ⊥) → view config second_done word ≡ view config first_done word
   evac_miss w outside = miss config (word_at config Evac) (word_at config (Top 0)) (λ word. 0) first_done second_done second_cleared w outside
 
-  tams_hit : (w : Word) → (IsWord config w → (word_at config (Tams 0) ≤ word_at config w) × (word_at config w < word_at config (Root 0 0))) → view config third_done w ≡ 0
+  tams_hit : (word : Word) → (IsWord config word → (word_at config (Tams 0) ≤ word_at config word) × (word_at config word < word_at config (Root 0 0))) → view config third_done word ≡ 0
   tams_hit w inside = hit config (word_at config (Tams 0)) (word_at config (Root 0 0)) (λ word. 0) second_done third_done third_cleared w refl inside
 
-  tams_miss : (w : Word) → (IsWord config w → word_at config (Tams 0) ≤ word_at config w → word_at config w < word_at config (Root 0 0) → ⊥) → view config third_done w ≡ view config second_done w
+  tams_miss : (word : Word) → (IsWord config word → word_at config (Tams 0) ≤ word_at config word → word_at config word < word_at config (Root 0 0) → ⊥) → view config third_done word ≡ view config second_done word
   tams_miss w outside = miss config (word_at config (Tams 0)) (word_at config (Root 0 0)) (λ word. 0) second_done third_done third_cleared w outside
 
-  count_hit : (w : Word) → (IsWord config w → (word_at config (Count 0) ≤ word_at config w) × (word_at config w < word_at config (Buffer 0 0))) → view config fourth_done w ≡ 0
+  count_hit : (word : Word) → (IsWord config word → (word_at config (Count 0) ≤ word_at config word) × (word_at config word < word_at config (Buffer 0 0))) → view config fourth_done word ≡ 0
   count_hit w inside = hit config (word_at config (Count 0)) (word_at config (Buffer 0 0)) (λ word. 0) third_done fourth_done fourth_cleared w refl inside
 
-  count_miss : (w : Word) → (IsWord config w → word_at config (Count 0) ≤ word_at config w → word_at config w < word_at config (Buffer 0 0) → ⊥) → view config fourth_done w ≡ view config third_done w
+  count_miss : (word : Word) → (IsWord config word → word_at config (Count 0) ≤ word_at config word → word_at config word < word_at config (Buffer 0 0) → ⊥) → view config fourth_done word ≡ view config third_done word
   count_miss w outside = miss config (word_at config (Count 0)) (word_at config (Buffer 0 0)) (λ word. 0) third_done fourth_done fourth_cleared w outside
 
-  bits_hit : (w : Word) → (IsWord config w → (word_at config (Grey 0) ≤ word_at config w) × (word_at config w < heap_start config)) → view config all_done w ≡ 0
+  bits_hit : (word : Word) → (IsWord config word → (word_at config (Grey 0) ≤ word_at config word) × (word_at config word < heap_start config)) → view config all_done word ≡ 0
   bits_hit w inside = hit config (word_at config (Grey 0)) (heap_start config) (λ word. 0) fourth_done all_done fifth_cleared w refl inside
 
-  bits_miss : (w : Word) → (IsWord config w → word_at config (Grey 0) ≤ word_at config w → word_at config w < heap_start config → ⊥) → view config all_done w ≡ view config fourth_done w
+  bits_miss : (word : Word) → (IsWord config word → word_at config (Grey 0) ≤ word_at config word → word_at config word < heap_start config → ⊥) → view config all_done word ≡ view config fourth_done word
   bits_miss w outside = miss config (word_at config (Grey 0)) (heap_start config) (λ word. 0) fourth_done all_done fifth_cleared w outside
 
   calm_at : (word : Word) → write (view config all_done) Share 0 word ≡ calm (view config old) word
@@ -47,26 +47,26 @@ module _ (config : Config) (old first_done second_done third_done fourth_done al
   calm_at Pause = bits_miss Pause (λ is low high. omega (arith, is, low, high)) ∙ count_miss Pause (λ is low high. omega (arith, is, low, high)) ∙ tams_miss Pause (λ is low high. omega (arith, is, low, high)) ∙ evac_miss Pause (λ is low high. omega (arith, is, low, high)) ∙ phase_miss Pause (λ is low high. omega (arith, is, low, high))
   calm_at Left = bits_miss Left (λ is low high. omega (arith, is, low, high)) ∙ count_miss Left (λ is low high. omega (arith, is, low, high)) ∙ tams_miss Left (λ is low high. omega (arith, is, low, high)) ∙ evac_miss Left (λ is low high. omega (arith, is, low, high)) ∙ phase_miss Left (λ is low high. omega (arith, is, low, high))
   calm_at End = bits_miss End (λ is low high. omega (arith, is, low, high)) ∙ count_miss End (λ is low high. omega (arith, is, low, high)) ∙ tams_miss End (λ is low high. omega (arith, is, low, high)) ∙ evac_miss End (λ is low high. omega (arith, is, low, high)) ∙ phase_miss End (λ is low high. omega (arith, is, low, high))
-  calm_at (State s) = bits_miss (State s) (λ is low high. omega (arith, is, low, high)) ∙ count_miss (State s) (λ is low high. omega (arith, is, low, high)) ∙ tams_miss (State s) (λ is low high. omega (arith, is, low, high)) ∙ evac_miss (State s) (λ is low high. omega (arith, is, low, high)) ∙ phase_miss (State s) (λ is low high. omega (arith, is, low, high))
+  calm_at (State seat) = bits_miss (State seat) (λ is low high. omega (arith, is, low, high)) ∙ count_miss (State seat) (λ is low high. omega (arith, is, low, high)) ∙ tams_miss (State seat) (λ is low high. omega (arith, is, low, high)) ∙ evac_miss (State seat) (λ is low high. omega (arith, is, low, high)) ∙ phase_miss (State seat) (λ is low high. omega (arith, is, low, high))
   calm_at Phase = bits_miss Phase (λ is low high. omega (arith, is, low, high)) ∙ count_miss Phase (λ is low high. omega (arith, is, low, high)) ∙ tams_miss Phase (λ is low high. omega (arith, is, low, high)) ∙ evac_miss Phase (λ is low high. omega (arith, is, low, high)) ∙ phase_hit Phase (λ is. (omega (arith, is), omega (arith, is)))
   calm_at Cset = bits_miss Cset (λ is low high. omega (arith, is, low, high)) ∙ count_miss Cset (λ is low high. omega (arith, is, low, high)) ∙ tams_miss Cset (λ is low high. omega (arith, is, low, high)) ∙ evac_miss Cset (λ is low high. omega (arith, is, low, high)) ∙ phase_hit Cset (λ is. (omega (arith, is), omega (arith, is)))
   calm_at Free = bits_miss Free (λ is low high. omega (arith, is, low, high)) ∙ count_miss Free (λ is low high. omega (arith, is, low, high)) ∙ tams_miss Free (λ is low high. omega (arith, is, low, high)) ∙ evac_miss Free (λ is low high. omega (arith, is, low, high)) ∙ phase_miss Free (λ is low high. omega (arith, is, low, high))
   calm_at Evac = bits_miss Evac (λ is low high. omega (arith, is, low, high)) ∙ count_miss Evac (λ is low high. omega (arith, is, low, high)) ∙ tams_miss Evac (λ is low high. omega (arith, is, low, high)) ∙ evac_hit Evac (λ is. (omega (arith, is), omega (arith, is)))
   calm_at Claim = bits_miss Claim (λ is low high. omega (arith, is, low, high)) ∙ count_miss Claim (λ is low high. omega (arith, is, low, high)) ∙ tams_miss Claim (λ is low high. omega (arith, is, low, high)) ∙ evac_hit Claim (λ is. (omega (arith, is), omega (arith, is)))
   calm_at Ask = bits_miss Ask (λ is low high. omega (arith, is, low, high)) ∙ count_miss Ask (λ is low high. omega (arith, is, low, high)) ∙ tams_miss Ask (λ is low high. omega (arith, is, low, high)) ∙ evac_hit Ask (λ is. (omega (arith, is), omega (arith, is)))
-  calm_at (Top r) = bits_miss (Top r) (λ is low high. omega (arith, is, low, high)) ∙ count_miss (Top r) (λ is low high. omega (arith, is, low, high)) ∙ tams_miss (Top r) (λ is low high. omega (arith, is, low, high)) ∙ evac_miss (Top r) (λ is low high. omega (arith, is, low, high)) ∙ phase_miss (Top r) (λ is low high. omega (arith, is, low, high))
-  calm_at (Tams r) = bits_miss (Tams r) (λ is low high. omega (arith, is, low, high)) ∙ count_miss (Tams r) (λ is low high. omega (arith, is, low, high)) ∙ tams_hit (Tams r) (λ is. (omega (arith, is), omega (arith, is)))
-  calm_at (Limit r) = bits_miss (Limit r) (λ is low high. omega (arith, is, low, high)) ∙ count_miss (Limit r) (λ is low high. omega (arith, is, low, high)) ∙ tams_hit (Limit r) (λ is. (omega (arith, is), omega (arith, is)))
-  calm_at (Current s) = bits_miss (Current s) (λ is low high. omega (arith, is, low, high)) ∙ count_miss (Current s) (λ is low high. omega (arith, is, low, high)) ∙ tams_hit (Current s) (λ is. (omega (arith, is), omega (arith, is)))
-  calm_at (Root t i) = bits_miss (Root t i) (λ is low high. omega (arith, is, low, high)) ∙ count_miss (Root t i) (λ is low high. omega (arith, is, low, high)) ∙ tams_miss (Root t i) (λ is low high. omega (arith, is, low, high)) ∙ evac_miss (Root t i) (λ is low high. omega (arith, is, low, high)) ∙ phase_miss (Root t i) (λ is low high. omega (arith, is, low, high))
-  calm_at (Count t) = bits_miss (Count t) (λ is low high. omega (arith, is, low, high)) ∙ count_hit (Count t) (λ is. (omega (arith, is), omega (arith, is)))
-  calm_at (Buffer t i) = bits_miss (Buffer t i) (λ is low high. omega (arith, is, low, high)) ∙ count_miss (Buffer t i) (λ is low high. omega (arith, is, low, high)) ∙ tams_miss (Buffer t i) (λ is low high. omega (arith, is, low, high)) ∙ evac_miss (Buffer t i) (λ is low high. omega (arith, is, low, high)) ∙ phase_miss (Buffer t i) (λ is low high. omega (arith, is, low, high))
-  calm_at (Wait t) = bits_miss (Wait t) (λ is low high. omega (arith, is, low, high)) ∙ count_miss (Wait t) (λ is low high. omega (arith, is, low, high)) ∙ tams_miss (Wait t) (λ is low high. omega (arith, is, low, high)) ∙ evac_miss (Wait t) (λ is low high. omega (arith, is, low, high)) ∙ phase_miss (Wait t) (λ is low high. omega (arith, is, low, high))
-  calm_at (Answer t) = bits_miss (Answer t) (λ is low high. omega (arith, is, low, high)) ∙ count_miss (Answer t) (λ is low high. omega (arith, is, low, high)) ∙ tams_miss (Answer t) (λ is low high. omega (arith, is, low, high)) ∙ evac_miss (Answer t) (λ is low high. omega (arith, is, low, high)) ∙ phase_miss (Answer t) (λ is low high. omega (arith, is, low, high))
-  calm_at (Grey n) = bits_hit (Grey n) (λ is. (omega (arith, is), omega (arith, is)))
-  calm_at (Black n) = bits_hit (Black n) (λ is. (omega (arith, is), omega (arith, is)))
-  calm_at (Heap a) = bits_miss (Heap a) (λ is low high. omega (arith, is, low, high)) ∙ count_miss (Heap a) (λ is low high. omega (arith, is, low, high)) ∙ tams_miss (Heap a) (λ is low high. omega (arith, is, low, high)) ∙ evac_miss (Heap a) (λ is low high. omega (arith, is, low, high)) ∙ phase_miss (Heap a) (λ is low high. omega (arith, is, low, high))
-  calm_at (Pin t i) = bits_miss (Pin t i) (λ is low high. omega (arith, is, low, high)) ∙ count_miss (Pin t i) (λ is low high. omega (arith, is, low, high)) ∙ tams_miss (Pin t i) (λ is low high. omega (arith, is, low, high)) ∙ evac_miss (Pin t i) (λ is low high. omega (arith, is, low, high)) ∙ phase_miss (Pin t i) (λ is low high. omega (arith, is, low, high))
+  calm_at (Top region) = bits_miss (Top region) (λ is low high. omega (arith, is, low, high)) ∙ count_miss (Top region) (λ is low high. omega (arith, is, low, high)) ∙ tams_miss (Top region) (λ is low high. omega (arith, is, low, high)) ∙ evac_miss (Top region) (λ is low high. omega (arith, is, low, high)) ∙ phase_miss (Top region) (λ is low high. omega (arith, is, low, high))
+  calm_at (Tams region) = bits_miss (Tams region) (λ is low high. omega (arith, is, low, high)) ∙ count_miss (Tams region) (λ is low high. omega (arith, is, low, high)) ∙ tams_hit (Tams region) (λ is. (omega (arith, is), omega (arith, is)))
+  calm_at (Limit region) = bits_miss (Limit region) (λ is low high. omega (arith, is, low, high)) ∙ count_miss (Limit region) (λ is low high. omega (arith, is, low, high)) ∙ tams_hit (Limit region) (λ is. (omega (arith, is), omega (arith, is)))
+  calm_at (Current seat) = bits_miss (Current seat) (λ is low high. omega (arith, is, low, high)) ∙ count_miss (Current seat) (λ is low high. omega (arith, is, low, high)) ∙ tams_hit (Current seat) (λ is. (omega (arith, is), omega (arith, is)))
+  calm_at (Root mutator index) = bits_miss (Root mutator index) (λ is low high. omega (arith, is, low, high)) ∙ count_miss (Root mutator index) (λ is low high. omega (arith, is, low, high)) ∙ tams_miss (Root mutator index) (λ is low high. omega (arith, is, low, high)) ∙ evac_miss (Root mutator index) (λ is low high. omega (arith, is, low, high)) ∙ phase_miss (Root mutator index) (λ is low high. omega (arith, is, low, high))
+  calm_at (Count mutator) = bits_miss (Count mutator) (λ is low high. omega (arith, is, low, high)) ∙ count_hit (Count mutator) (λ is. (omega (arith, is), omega (arith, is)))
+  calm_at (Buffer mutator entry) = bits_miss (Buffer mutator entry) (λ is low high. omega (arith, is, low, high)) ∙ count_miss (Buffer mutator entry) (λ is low high. omega (arith, is, low, high)) ∙ tams_miss (Buffer mutator entry) (λ is low high. omega (arith, is, low, high)) ∙ evac_miss (Buffer mutator entry) (λ is low high. omega (arith, is, low, high)) ∙ phase_miss (Buffer mutator entry) (λ is low high. omega (arith, is, low, high))
+  calm_at (Wait mutator) = bits_miss (Wait mutator) (λ is low high. omega (arith, is, low, high)) ∙ count_miss (Wait mutator) (λ is low high. omega (arith, is, low, high)) ∙ tams_miss (Wait mutator) (λ is low high. omega (arith, is, low, high)) ∙ evac_miss (Wait mutator) (λ is low high. omega (arith, is, low, high)) ∙ phase_miss (Wait mutator) (λ is low high. omega (arith, is, low, high))
+  calm_at (Answer mutator) = bits_miss (Answer mutator) (λ is low high. omega (arith, is, low, high)) ∙ count_miss (Answer mutator) (λ is low high. omega (arith, is, low, high)) ∙ tams_miss (Answer mutator) (λ is low high. omega (arith, is, low, high)) ∙ evac_miss (Answer mutator) (λ is low high. omega (arith, is, low, high)) ∙ phase_miss (Answer mutator) (λ is low high. omega (arith, is, low, high))
+  calm_at (Grey number) = bits_hit (Grey number) (λ is. (omega (arith, is), omega (arith, is)))
+  calm_at (Black number) = bits_hit (Black number) (λ is. (omega (arith, is), omega (arith, is)))
+  calm_at (Heap address) = bits_miss (Heap address) (λ is low high. omega (arith, is, low, high)) ∙ count_miss (Heap address) (λ is low high. omega (arith, is, low, high)) ∙ tams_miss (Heap address) (λ is low high. omega (arith, is, low, high)) ∙ evac_miss (Heap address) (λ is low high. omega (arith, is, low, high)) ∙ phase_miss (Heap address) (λ is low high. omega (arith, is, low, high))
+  calm_at (Pin mutator slot) = bits_miss (Pin mutator slot) (λ is low high. omega (arith, is, low, high)) ∙ count_miss (Pin mutator slot) (λ is low high. omega (arith, is, low, high)) ∙ tams_miss (Pin mutator slot) (λ is low high. omega (arith, is, low, high)) ∙ evac_miss (Pin mutator slot) (λ is low high. omega (arith, is, low, high)) ∙ phase_miss (Pin mutator slot) (λ is low high. omega (arith, is, low, high))
 
   -- once five ranges are cleared, and no region is shared, nothing is left of a collection in progress
   pub calmed : write (view config all_done) Share 0 ≡ calm (view config old)
@@ -92,26 +92,26 @@ module _ (config : Config) (places old first_done second_done : List ℕ)
   renewed_at Pause = answer_miss Pause (λ is low high. omega (arith, is, low, high)) ∙ root_miss Pause (λ is low high. omega (arith, is, low, high))
   renewed_at Left = answer_miss Left (λ is low high. omega (arith, is, low, high)) ∙ root_miss Left (λ is low high. omega (arith, is, low, high))
   renewed_at End = answer_miss End (λ is low high. omega (arith, is, low, high)) ∙ root_miss End (λ is low high. omega (arith, is, low, high))
-  renewed_at (State s) = answer_miss (State s) (λ is low high. omega (arith, is, low, high)) ∙ root_miss (State s) (λ is low high. omega (arith, is, low, high))
+  renewed_at (State seat) = answer_miss (State seat) (λ is low high. omega (arith, is, low, high)) ∙ root_miss (State seat) (λ is low high. omega (arith, is, low, high))
   renewed_at Phase = answer_miss Phase (λ is low high. omega (arith, is, low, high)) ∙ root_miss Phase (λ is low high. omega (arith, is, low, high))
   renewed_at Cset = answer_miss Cset (λ is low high. omega (arith, is, low, high)) ∙ root_miss Cset (λ is low high. omega (arith, is, low, high))
   renewed_at Free = answer_miss Free (λ is low high. omega (arith, is, low, high)) ∙ root_miss Free (λ is low high. omega (arith, is, low, high))
   renewed_at Evac = answer_miss Evac (λ is low high. omega (arith, is, low, high)) ∙ root_miss Evac (λ is low high. omega (arith, is, low, high))
   renewed_at Claim = answer_miss Claim (λ is low high. omega (arith, is, low, high)) ∙ root_miss Claim (λ is low high. omega (arith, is, low, high))
   renewed_at Ask = answer_miss Ask (λ is low high. omega (arith, is, low, high)) ∙ root_miss Ask (λ is low high. omega (arith, is, low, high))
-  renewed_at (Top r) = answer_miss (Top r) (λ is low high. omega (arith, is, low, high)) ∙ root_miss (Top r) (λ is low high. omega (arith, is, low, high))
-  renewed_at (Tams r) = answer_miss (Tams r) (λ is low high. omega (arith, is, low, high)) ∙ root_miss (Tams r) (λ is low high. omega (arith, is, low, high))
-  renewed_at (Limit r) = answer_miss (Limit r) (λ is low high. omega (arith, is, low, high)) ∙ root_miss (Limit r) (λ is low high. omega (arith, is, low, high))
-  renewed_at (Current s) = answer_miss (Current s) (λ is low high. omega (arith, is, low, high)) ∙ root_miss (Current s) (λ is low high. omega (arith, is, low, high))
-  renewed_at (Root t i) = answer_miss (Root t i) (λ is low high. omega (arith, is, low, high)) ∙ root_hit (Root t i) (λ is. (omega (arith, is), omega (arith, is)))
-  renewed_at (Count t) = answer_miss (Count t) (λ is low high. omega (arith, is, low, high)) ∙ root_miss (Count t) (λ is low high. omega (arith, is, low, high))
-  renewed_at (Buffer t i) = answer_miss (Buffer t i) (λ is low high. omega (arith, is, low, high)) ∙ root_miss (Buffer t i) (λ is low high. omega (arith, is, low, high))
-  renewed_at (Wait t) = answer_miss (Wait t) (λ is low high. omega (arith, is, low, high)) ∙ root_miss (Wait t) (λ is low high. omega (arith, is, low, high))
-  renewed_at (Answer t) = answer_hit (Answer t) (λ is. (omega (arith, is), omega (arith, is))) ∙ ap (renewed_by config.region_words places) (root_miss (Answer t) (λ is low high. omega (arith, is, low, high)))
-  renewed_at (Grey n) = answer_miss (Grey n) (λ is low high. omega (arith, is, low, high)) ∙ root_miss (Grey n) (λ is low high. omega (arith, is, low, high))
-  renewed_at (Black n) = answer_miss (Black n) (λ is low high. omega (arith, is, low, high)) ∙ root_miss (Black n) (λ is low high. omega (arith, is, low, high))
-  renewed_at (Heap a) = answer_miss (Heap a) (λ is low high. omega (arith, is, low, high)) ∙ root_miss (Heap a) (λ is low high. omega (arith, is, low, high))
-  renewed_at (Pin t i) = answer_miss (Pin t i) (λ is low high. omega (arith, is, low, high)) ∙ root_miss (Pin t i) (λ is low high. omega (arith, is, low, high))
+  renewed_at (Top region) = answer_miss (Top region) (λ is low high. omega (arith, is, low, high)) ∙ root_miss (Top region) (λ is low high. omega (arith, is, low, high))
+  renewed_at (Tams region) = answer_miss (Tams region) (λ is low high. omega (arith, is, low, high)) ∙ root_miss (Tams region) (λ is low high. omega (arith, is, low, high))
+  renewed_at (Limit region) = answer_miss (Limit region) (λ is low high. omega (arith, is, low, high)) ∙ root_miss (Limit region) (λ is low high. omega (arith, is, low, high))
+  renewed_at (Current seat) = answer_miss (Current seat) (λ is low high. omega (arith, is, low, high)) ∙ root_miss (Current seat) (λ is low high. omega (arith, is, low, high))
+  renewed_at (Root mutator index) = answer_miss (Root mutator index) (λ is low high. omega (arith, is, low, high)) ∙ root_hit (Root mutator index) (λ is. (omega (arith, is), omega (arith, is)))
+  renewed_at (Count mutator) = answer_miss (Count mutator) (λ is low high. omega (arith, is, low, high)) ∙ root_miss (Count mutator) (λ is low high. omega (arith, is, low, high))
+  renewed_at (Buffer mutator entry) = answer_miss (Buffer mutator entry) (λ is low high. omega (arith, is, low, high)) ∙ root_miss (Buffer mutator entry) (λ is low high. omega (arith, is, low, high))
+  renewed_at (Wait mutator) = answer_miss (Wait mutator) (λ is low high. omega (arith, is, low, high)) ∙ root_miss (Wait mutator) (λ is low high. omega (arith, is, low, high))
+  renewed_at (Answer mutator) = answer_hit (Answer mutator) (λ is. (omega (arith, is), omega (arith, is))) ∙ ap (renewed_by config.region_words places) (root_miss (Answer mutator) (λ is low high. omega (arith, is, low, high)))
+  renewed_at (Grey number) = answer_miss (Grey number) (λ is low high. omega (arith, is, low, high)) ∙ root_miss (Grey number) (λ is low high. omega (arith, is, low, high))
+  renewed_at (Black number) = answer_miss (Black number) (λ is low high. omega (arith, is, low, high)) ∙ root_miss (Black number) (λ is low high. omega (arith, is, low, high))
+  renewed_at (Heap address) = answer_miss (Heap address) (λ is low high. omega (arith, is, low, high)) ∙ root_miss (Heap address) (λ is low high. omega (arith, is, low, high))
+  renewed_at (Pin mutator slot) = answer_miss (Pin mutator slot) (λ is low high. omega (arith, is, low, high)) ∙ root_miss (Pin mutator slot) (λ is low high. omega (arith, is, low, high))
 
   -- once two ranges are renewed, roots and answers are
   pub roots_are_renewed : view config second_done ≡ roots_renewed config places (view config old)

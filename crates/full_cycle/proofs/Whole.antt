@@ -30,50 +30,50 @@ module _ (old one two : Image) (can : CanCollect (config_of old) (memory_of old)
   abbrev g : Config
   g = config_of old
 
-  abbrev m : Word → ℕ
-  m = memory_of old
+  abbrev memory_then : Word → ℕ
+  memory_then = memory_of old
 
   abbrev now : ℕ → ℕ
-  now = now_in m
+  now = now_in memory_then
 
   abbrev kept : ℕ → ℕ
-  kept = kept_in g m
+  kept = kept_in g memory_then
 
   pub two_config : config_of two ≡ g
   two_config = config ∙ same.config
 
   abbrev place : ℕ → ℕ
-  place = place_in g (is_row_pinned g m) kept
+  place = place_in g (is_row_pinned g memory_then) kept
 
   abbrev moved : Word → ℕ
-  moved = moved_in g (is_row_pinned g m) now kept m
+  moved = moved_in g (is_row_pinned g memory_then) now kept memory_then
 
   pub two_words : memory_of two ≡ moved
   two_words =
       words
       ∙ ap (λ (memory : Word → ℕ). moved_in (config_of one) (is_row_pinned (config_of one) memory) (now_in memory) (kept_in (config_of one) memory) memory) (memory_same old one same)
-      ∙ ap (λ (config : Config). moved_in config (is_row_pinned config m) now (kept_in config m) m) same.config
+      ∙ ap (λ (config : Config). moved_in config (is_row_pinned config memory_then) now (kept_in config memory_then) memory_then) same.config
 
-  renewed_as : (word : ℕ) → LeadsToHeld g m word → IsRenewedAs g.region_words place now (places_of two) word
+  renewed_as : (word : ℕ) → LeadsToHeld g memory_then word → IsRenewedAs g.region_words place now (places_of two) word
   renewed_as word leads =
-      subst (λ (config : Config). IsRenewedAs config.region_words (place_in config (is_row_pinned config m) (kept_in config m)) now (places_of two) word) same.config
+      subst (λ (config : Config). IsRenewedAs config.region_words (place_in config (is_row_pinned config memory_then) (kept_in config memory_then)) now (places_of two) word) same.config
       (subst (λ (memory : Word → ℕ). IsRenewedAs (config_of one).region_words (place_in (config_of one) (is_row_pinned (config_of one) memory) (kept_in (config_of one) memory)) (now_in memory) (places_of two) word) (memory_same old one same)
       (renews word (carried (λ k n. LeadsToHeld k n word) old one same leads)))
 
   -- pinned regions can be filled then
-  pub can_fill_still : KeptBegin g m → (r : ℕ) → r < (config_of two).regions → is_pinned (config_of two) (memory_of two) r ≡ true → CanFill (config_of two) (memory_of two) r
-  can_fill_still begin r inside pinned =
-      let still : is_pinned g moved r ≡ true =
-      sym (ap (λ (memory : Word → ℕ). is_pinned g memory r) two_words) ∙ sym (ap (λ (config : Config). is_pinned config (memory_of two) r) two_config) ∙ pinned in
-      subst (λ (config : Config). CanFill config (memory_of two) r) (sym two_config)
-      (subst (λ (memory : Word → ℕ). CanFill g memory r) (sym two_words) (can_fill g m can begin r (subst (λ (config : Config). r < config.regions) two_config inside) still))
+  pub can_fill_still : KeptBegin g memory_then → (region : ℕ) → region < (config_of two).regions → is_pinned (config_of two) (memory_of two) region ≡ true → CanFill (config_of two) (memory_of two) region
+  can_fill_still begin region inside pinned =
+      let still : is_pinned g moved region ≡ true =
+      sym (ap (λ (memory : Word → ℕ). is_pinned g memory region) two_words) ∙ sym (ap (λ (config : Config). is_pinned config (memory_of two) region) two_config) ∙ pinned in
+      subst (λ (config : Config). CanFill config (memory_of two) region) (sym two_config)
+      (subst (λ (memory : Word → ℕ). CanFill g memory region) (sym two_words) (can_fill g memory_then can begin region (subst (λ (config : Config). region < config.regions) two_config inside) still))
 
   -- what a word that leads to a kept object becomes
-  renewed_some : (word : ℕ) → 1 < word → LeadsToHeld g m word → renewed_by g.region_words (places_of two) word ≡ renewed place now word
-  renewed_some word some leads =
-      cond-false (nat_le word 1) word (from_table g.region_words (places_of two) word) (lt-leb word 1 some) ∙ (renewed_as word leads).renewed_as
+  renewed_some : (word : ℕ) → 1 < word → LeadsToHeld g memory_then word → renewed_by g.region_words (places_of two) word ≡ renewed place now word
+  renewed_some word below leads =
+      cond-false (nat_le word 1) word (from_table g.region_words (places_of two) word) (lt-leb word 1 below) ∙ (renewed_as word leads).renewed_as
 
-  root_word : (word : ℕ) → LeadsToHeld g m word → renewed_by g.region_words (places_of two) word ≡ renewed place now word
+  root_word : (word : ℕ) → LeadsToHeld g memory_then word → renewed_by g.region_words (places_of two) word ≡ renewed place now word
   root_word word leads = ⊎_elim
       (λ (some : 1 < word). renewed_some word some leads)
       (λ (few : word ≤ 1). ⊎_elim
@@ -82,7 +82,7 @@ module _ (old one two : Image) (can : CanCollect (config_of old) (memory_of old)
       (cases_eq word 0))
       (cases_lt 1 word)
 
-  answer_word : (word : ℕ) → (1 < word → LeadsToHeld g m word) → renewed_by g.region_words (places_of two) word ≡ renewed_answer place now word
+  answer_word : (word : ℕ) → (1 < word → LeadsToHeld g memory_then word) → renewed_by g.region_words (places_of two) word ≡ renewed_answer place now word
   answer_word word leads = ⊎_elim
       (λ (some : 1 < word).
       let other : word ≢ 0 = omega (arith, some) in
@@ -95,10 +95,10 @@ module _ (old one two : Image) (can : CanCollect (config_of old) (memory_of old)
       (cases_lt 1 word)
 
   -- The words after what is left over was filled.
-  module _ (three : Image) (found : found_of two ≡ held_in g m) (three_same : config_of three ≡ config_of two) (three_places : places_of three ≡ places_of two)
+  module _ (three : Image) (found : found_of two ≡ held_in g memory_then) (three_same : config_of three ≡ config_of two) (three_places : places_of three ≡ places_of two)
       (three_is : memory_of three ≡ filled_in (config_of two) (is_pinned_below (config_of two) (memory_of two) (config_of two).regions) (is_left_over (memory_of two) (found_of two) NotFound) (memory_of two)) where
     abbrev filled : Word → ℕ
-    filled = filled_in g (is_pinned_below g moved g.regions) (is_left_over moved (held_in g m) NotFound) moved
+    filled = filled_in g (is_pinned_below g moved g.regions) (is_left_over moved (held_in g memory_then) NotFound) moved
 
     pub three_config : config_of three ≡ g
     three_config = three_same ∙ two_config
@@ -110,65 +110,65 @@ module _ (old one two : Image) (can : CanCollect (config_of old) (memory_of old)
         ∙ ap (λ (memory : Word → ℕ). filled_in g (is_pinned_below g memory g.regions) (is_left_over memory (found_of two) NotFound) memory) two_words
         ∙ ap (λ (xs : List ℕ). filled_in g (is_pinned_below g moved g.regions) (is_left_over moved xs NotFound) moved) found
 
-    in_table : (word : Word) → memory_of three word ≡ m word → LeadsToHeld g m (m word) → IsInTable (config_of three).region_words (places_of three) (memory_of three word)
+    in_table : (word : Word) → memory_of three word ≡ memory_then word → LeadsToHeld g memory_then (memory_then word) → IsInTable (config_of three).region_words (places_of three) (memory_of three word)
     in_table word is leads =
         subst (λ (config : Config). IsInTable config.region_words (places_of three) (memory_of three word)) (sym three_config)
         (subst (λ (ps : List ℕ). IsInTable g.region_words ps (memory_of three word)) (sym three_places)
-        (subst (IsInTable g.region_words (places_of two)) (sym is) (renewed_as (m word) leads).in_table))
+        (subst (IsInTable g.region_words (places_of two)) (sym is) (renewed_as (memory_then word) leads).in_table))
 
     pub roots_in_table : (mutator index : ℕ) → mutator < (config_of three).mutators → index < 16 → IsInTable (config_of three).region_words (places_of three) (memory_of three (Root mutator index))
-    roots_in_table mutator index inside few =
-        in_table (Root mutator index) (ap (λ k. k (Root mutator index)) three_words) (can.roots mutator index (subst (λ (config : Config). mutator < config.mutators) three_config inside) few)
+    roots_in_table mutator index inside below =
+        in_table (Root mutator index) (ap (λ k. k (Root mutator index)) three_words) (can.roots mutator index (subst (λ (config : Config). mutator < config.mutators) three_config inside) below)
 
     pub answers_in_table : (mutator : ℕ) → mutator < (config_of three).mutators → 1 < memory_of three (Answer mutator) → IsInTable (config_of three).region_words (places_of three) (memory_of three (Answer mutator))
-    answers_in_table mutator inside some =
-        let is : memory_of three (Answer mutator) ≡ m (Answer mutator) = ap (λ k. k (Answer mutator)) three_words in
-        in_table (Answer mutator) is (can.answers mutator (subst (λ (config : Config). mutator < config.mutators) three_config inside) (subst (λ n. 1 < n) is some))
+    answers_in_table mutator inside below =
+        let is : memory_of three (Answer mutator) ≡ memory_then (Answer mutator) = ap (λ k. k (Answer mutator)) three_words in
+        in_table (Answer mutator) is (can.answers mutator (subst (λ (config : Config). mutator < config.mutators) three_config inside) (subst (λ n. 1 < n) is below))
 
     -- the words after roots were renewed, collections ended, and empty regions freed
-    module _ (begin : KeptBegin g m) where
+    module _ (begin : KeptBegin g memory_then) where
       abbrev ended : Word → ℕ
       ended = calm (roots_renewed g (places_of two) filled)
 
       abbrev freed : Word → ℕ
-      freed = write ended Free (empty_regions (λ r. ended (Top r)) g.regions)
+      freed = write ended Free (empty_regions (λ region. ended (Top region)) g.regions)
 
-      freed_at : (word : Word) → freed word ≡ packed g (is_row_pinned g m) now kept m word
+      freed_at : (word : Word) → freed word ≡ packed g (is_row_pinned g memory_then) now kept memory_then word
       unfolding packed
-      freed_at (Root t i) = ⊎_elim
-          (λ (yes : is_word g (Root t i) ≡ true). let at = is_word_true g (Root t i) yes in root_word (m (Root t i)) (can.roots t i at.0 at.1))
-          (λ (no : is_word g (Root t i) ≡ false).
-          let null : m (Root t i) ≡ 0 = view_none g (words_of old) (Root t i) no in
+      freed_at (Root mutator index) = ⊎_elim
+          (λ (yes : is_word g (Root mutator index) ≡ true). let at = is_word_true g (Root mutator index) yes in root_word (memory_then (Root mutator index)) (can.roots mutator index at.0 at.1))
+          (λ (no : is_word g (Root mutator index) ≡ false).
+          let null : memory_then (Root mutator index) ≡ 0 = view_none g (words_of old) (Root mutator index) no in
           ap (renewed_by g.region_words (places_of two)) null ∙ sym (ap (renewed place now) null))
-          (cases_Bool (is_word g (Root t i)))
-      freed_at (Answer t) = ⊎_elim
-          (λ (yes : is_word g (Answer t) ≡ true). answer_word (m (Answer t)) (can.answers t (is_word_true g (Answer t) yes)))
-          (λ (no : is_word g (Answer t) ≡ false).
-          let null : m (Answer t) ≡ 0 = view_none g (words_of old) (Answer t) no in
+          (cases_Bool (is_word g (Root mutator index)))
+      freed_at (Answer mutator) = ⊎_elim
+          (λ (yes : is_word g (Answer mutator) ≡ true). answer_word (memory_then (Answer mutator)) (can.answers mutator (is_word_true g (Answer mutator) yes)))
+          (λ (no : is_word g (Answer mutator) ≡ false).
+          let null : memory_then (Answer mutator) ≡ 0 = view_none g (words_of old) (Answer mutator) no in
           ap (renewed_by g.region_words (places_of two)) null ∙ sym (ap (renewed_answer place now) null))
-          (cases_Bool (is_word g (Answer t)))
-      freed_at (Pin t i) = refl
+          (cases_Bool (is_word g (Answer mutator)))
+      freed_at (Pin mutator slot) = refl
       freed_at Share = refl
       freed_at Pause = refl
       freed_at Left = refl
       freed_at End = refl
-      freed_at (State s) = refl
+      freed_at (State seat) = refl
       freed_at Phase = refl
       freed_at Cset = refl
       freed_at Free = refl
       freed_at Evac = refl
       freed_at Claim = refl
       freed_at Ask = refl
-      freed_at (Top r) = refl
-      freed_at (Tams r) = refl
-      freed_at (Limit r) = refl
-      freed_at (Current s) = refl
-      freed_at (Count t) = refl
-      freed_at (Buffer t i) = refl
-      freed_at (Wait t) = refl
-      freed_at (Grey n) = refl
-      freed_at (Black n) = refl
-      freed_at (Heap a) = filled_is g m can begin a
+      freed_at (Top region) = refl
+      freed_at (Tams region) = refl
+      freed_at (Limit region) = refl
+      freed_at (Current seat) = refl
+      freed_at (Count mutator) = refl
+      freed_at (Buffer mutator entry) = refl
+      freed_at (Wait mutator) = refl
+      freed_at (Grey number) = refl
+      freed_at (Black number) = refl
+      freed_at (Heap address) = filled_is g memory_then can begin address
 
       module _ (four five six : Image) (four_same : config_of four ≡ config_of three) (five_same : config_of five ≡ config_of four) (six_same : config_of six ≡ config_of five)
           (four_renewed : memory_of four ≡ roots_renewed (config_of three) (places_of three) (memory_of three)) (five_calm : memory_of five ≡ calm (memory_of four))
@@ -176,7 +176,7 @@ module _ (old one two : Image) (can : CanCollect (config_of old) (memory_of old)
         pub six_config : config_of six ≡ g
         six_config = six_same ∙ five_same ∙ four_same ∙ three_config
 
-        pub six_words : memory_of six ≡ packed g (is_row_pinned g m) now kept m
+        pub six_words : memory_of six ≡ packed g (is_row_pinned g memory_then) now kept memory_then
         six_words =
             let four_is : memory_of four ≡ roots_renewed g (places_of two) filled =
             four_renewed ∙ ap (λ (config : Config). roots_renewed config (places_of three) (memory_of three)) three_config
@@ -184,16 +184,16 @@ module _ (old one two : Image) (can : CanCollect (config_of old) (memory_of old)
             let five_is : memory_of five ≡ ended = five_calm ∙ ap calm four_is in
             let five_config : config_of five ≡ g = five_same ∙ four_same ∙ three_config in
             six_freed
-            ∙ ap (λ (config : Config). write (memory_of five) Free (empty_regions (λ r. memory_of five (Top r)) config.regions)) five_config
-            ∙ ap (λ (memory : Word → ℕ). write memory Free (empty_regions (λ r. memory (Top r)) g.regions)) five_is
+            ∙ ap (λ (config : Config). write (memory_of five) Free (empty_regions (λ region. memory_of five (Top region)) config.regions)) five_config
+            ∙ ap (λ (memory : Word → ℕ). write memory Free (empty_regions (λ region. memory (Top region)) g.regions)) five_is
             ∙ fun_ext freed_at
 
-        packed_within : AreWithin g (packed g (is_row_pinned g m) now kept m)
+        packed_within : AreWithin g (packed g (is_row_pinned g memory_then) now kept memory_then)
         unfolding packed
         packed_within r inside =
-            cond_both (is_row_pinned g m (r + 1)) (m (Top r)) (packed_top g (is_row_pinned g m) kept r) (λ k. k ≤ g.region_words)
-            (λ closed. (let is = shut_pinned g m r closed in (can.fills r is.0 is.1).within))
-            (λ _. top_within g.region_words (is_row_pinned g m) kept can.apart r (heap_end g))
+            cond_both (is_row_pinned g memory_then (r + 1)) (memory_then (Top r)) (packed_top g (is_row_pinned g memory_then) kept r) (λ k. k ≤ g.region_words)
+            (λ closed. (let is = shut_pinned g memory_then r closed in (can.fills r is.0 is.1).within))
+            (λ _. top_within g.region_words (is_row_pinned g memory_then) kept can.apart r (heap_end g))
 
         pub six_within : AreWithin (config_of six) (memory_of six)
         six_within = subst (λ (config : Config). AreWithin config (memory_of six)) (sym six_config) (subst (AreWithin g) (sym six_words) packed_within)

@@ -9,8 +9,8 @@ use Rattle.image_graph.specs.Full.{moved_heap, top_then}
 
 -- the words after the kept objects were packed: the heap and the tops
 abbrev pub moved_in : Config → (shut : ℕ → Bool) (now kept : ℕ → ℕ) → (Word → ℕ) → Word → ℕ
-moved_in config shut now kept memory (Heap a) = moved_heap config shut now kept memory a
-moved_in config shut now kept memory (Top r) = top_then config shut kept memory r
+moved_in config shut now kept memory (Heap address) = moved_heap config shut now kept memory address
+moved_in config shut now kept memory (Top region) = top_then config shut kept memory region
 moved_in config shut now kept memory word = memory word
 
 -- a word is renewed by the table of new places as it should be
@@ -24,8 +24,8 @@ renewed_by first places word = if nat_le word 1 then word else from_table first 
 
 -- the words after roots and answers were renewed
 abbrev pub roots_renewed : Config → List ℕ → (Word → ℕ) → Word → ℕ
-roots_renewed config places memory (Root t i) = renewed_by config.region_words places (memory (Root t i))
-roots_renewed config places memory (Answer t) = renewed_by config.region_words places (memory (Answer t))
+roots_renewed config places memory (Root mutator index) = renewed_by config.region_words places (memory (Root mutator index))
+roots_renewed config places memory (Answer mutator) = renewed_by config.region_words places (memory (Answer mutator))
 roots_renewed config places memory word = memory word
 
 -- the words when nothing is left of a collection in progress
@@ -35,19 +35,19 @@ calm memory Cset = 0
 calm memory Evac = 0
 calm memory Claim = 0
 calm memory Ask = 0
-calm memory (Tams r) = 0
-calm memory (Limit r) = 0
+calm memory (Tams region) = 0
+calm memory (Limit region) = 0
 calm memory (Current seat) = 0
 calm memory Share = 0
-calm memory (Count t) = 0
-calm memory (Grey n) = 0
-calm memory (Black n) = 0
+calm memory (Count mutator) = 0
+calm memory (Grey number) = 0
+calm memory (Black number) = 0
 calm memory word = memory word
 
 -- the words after each request of so many threads that was left was refused
 abbrev pub refused_below : ℕ → (Word → ℕ) → Word → ℕ
-refused_below n memory (Answer t) = if nat_lt t n then (if memory (Wait t) == 0 then memory (Answer t) else 1) else memory (Answer t)
-refused_below n memory (Wait t) = if nat_lt t n then 0 else memory (Wait t)
+refused_below n memory (Answer mutator) = if nat_lt mutator n then (if memory (Wait mutator) == 0 then memory (Answer mutator) else 1) else memory (Answer mutator)
+refused_below n memory (Wait mutator) = if nat_lt mutator n then 0 else memory (Wait mutator)
 refused_below n memory word = memory word
 
 -- a list after each number of a range of places was changed

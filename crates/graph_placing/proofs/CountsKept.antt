@@ -14,69 +14,69 @@ use Rattle.graph_placing.proofs.NamesCounted.{none_earlier, earlier_is, names_by
 abbrev pub one_where : Bool → ℕ
 one_where holds = cond holds 1 0
 
-module _ (threads : ℕ) (ns : List Name) (are : AreOfThreads threads ns) where
+module _ (threads : ℕ) (names : List Name) (are : AreOfThreads threads names) where
   -- nothing is before the hub
-  pub hub_first : (name : Name) → name.thread ≡ 0 → Contains ns name → earlier_names ns name ≡ 0
+  pub hub_first : (name : Name) → name.thread ≡ 0 → Contains names name → earlier_names names name ≡ 0
   hub_first name hub_thread there =
-      none_earlier ns name (λ a in_names same less.
+      none_earlier names name (λ a in_names same less.
       let one : a.count ≡ 1 = ap (λ (name : Name). name.count) (are.hub_alone a in_names (same ∙ hub_thread)) in
       let two : name.count ≡ 1 = ap (λ (name : Name). name.count) (are.hub_alone name there hub_thread) in
       omega (arith, less, one, two))
 
-  module _ (index : ℕ) (below : index < length ns) (old : List ℕ) (counted : AreCountsOf (take index ns) threads old) (name : Name) (is : get_or ns index hub ≡ name) where
-    pub name_there : Contains ns name
-    name_there = subst (Contains ns) is (Contains-get_or ns index hub below)
+  module _ (index : ℕ) (below : index < length names) (old : List ℕ) (counted : AreCountsOf (take index names) threads old) (name : Name) (is : get_or names index hub ≡ name) where
+    pub name_there : Contains names name
+    name_there = subst (Contains names) is (Contains-get_or names index hub below)
 
     pub thread_within : name.thread ≤ length old
     thread_within = omega (arith, are.within name name_there, counted.long)
 
     -- the count of a thread
-    kept : 1 ≤ name.thread → get_or old (name.thread - 1) 0 ≡ names_by (take index ns) name.thread
-    kept some =
-        let back : name.thread - 1 + 1 ≡ name.thread = omega (arith, some) in
-        counted.each (name.thread - 1) (omega (arith, some, are.within name name_there)) ∙ ap (names_by (take index ns)) back
+    kept : 1 ≤ name.thread → get_or old (name.thread - 1) 0 ≡ names_by (take index names) name.thread
+    kept positive =
+        let back : name.thread - 1 + 1 ≡ name.thread = omega (arith, positive) in
+        counted.each (name.thread - 1) (omega (arith, positive, are.within name name_there)) ∙ ap (names_by (take index names)) back
 
     pub count_is_few : 1 ≤ name.thread → get_or old (name.thread - 1) 0 ≤ index
-    count_is_few some = omega (arith, kept some, thread_at_most (take index ns) name.thread, length-take-le index ns (omega (arith, below)))
+    count_is_few positive = omega (arith, kept positive, thread_at_most (take index names) name.thread, length-take-le index names (omega (arith, below)))
 
     -- one object more is the next of its thread
-    pub next_is : InOrder ns → (count : ℕ) → (name.thread ≡ 0 → count ≡ 1) → (1 ≤ name.thread → count ≡ get_or old (name.thread - 1) 0 + 1) → count ≡ earlier_names ns name + 1
+    pub next_is : InOrder names → (count : ℕ) → (name.thread ≡ 0 → count ≡ 1) → (1 ≤ name.thread → count ≡ get_or old (name.thread - 1) 0 + 1) → count ≡ earlier_names names name + 1
     next_is order count of_hub of_thread = ⊎_elim
         (λ (none : name.thread < 1). let is_zero : name.thread ≡ 0 = omega (arith, none) in omega (arith, of_hub is_zero, hub_first name is_zero name_there))
         (λ (some : 1 ≤ name.thread).
-        let before : earlier_names ns name ≡ names_by (take index ns) name.thread = subst (λ (name : Name). earlier_names ns name ≡ names_by (take index ns) name.thread) is (earlier_is ns order index hub below) in
+        let before : earlier_names names name ≡ names_by (take index names) name.thread = subst (λ (name : Name). earlier_names names name ≡ names_by (take index names) name.thread) is (earlier_is names order index hub below) in
         omega (arith, of_thread some, kept some, before))
         (cases_lt name.thread 1)
 
-    one_more : (m : ℕ) → names_by (take (index + 1) ns) (m + 1) ≡ names_by (take index ns) (m + 1) + one_where (name.thread == m + 1)
+    one_more : (m : ℕ) → names_by (take (index + 1) names) (m + 1) ≡ names_by (take index names) (m + 1) + one_where (name.thread == m + 1)
     one_more m =
         let next : index + 1 ≡ suc index = omega arith in
-        ap (λ i. names_by (take i ns) (m + 1)) next ∙ names_by_next ns index (m + 1) hub below
-        ∙ ap (λ (name : Name). names_by (take index ns) (m + 1) + one_where (name.thread == m + 1)) is
+        ap (λ i. names_by (take i names) (m + 1)) next ∙ names_by_next names index (m + 1) hub below
+        ∙ ap (λ (name : Name). names_by (take index names) (m + 1) + one_where (name.thread == m + 1)) is
 
-    pub counted_next : (new : List ℕ) → (name.thread ≡ 0 → new ≡ old) → (1 ≤ name.thread → new ≡ set old (name.thread - 1) (get_or old (name.thread - 1) 0 + 1)) → AreCountsOf (take (index + 1) ns) threads new
+    pub counted_next : (new : List ℕ) → (name.thread ≡ 0 → new ≡ old) → (1 ≤ name.thread → new ≡ set old (name.thread - 1) (get_or old (name.thread - 1) 0 + 1)) → AreCountsOf (take (index + 1) names) threads new
     counted_next new of_hub of_thread = record {
       long = ⊎_elim
           (λ (none : name.thread < 1). ap length (of_hub (omega (arith, none))) ∙ counted.long)
           (λ (some : 1 ≤ name.thread). ap length (of_thread some) ∙ length-set old (name.thread - 1) (get_or old (name.thread - 1) 0 + 1) ∙ counted.long)
           (cases_lt name.thread 1);
-      each = λ m inside. ⊎_elim
+      each = λ index inside. ⊎_elim
           (λ (none : name.thread < 1).
-          let other : one_where (name.thread == m + 1) ≡ 0 = cond-false (name.thread == m + 1) 1 0 (ne_eqb _ _ (λ same. omega (arith, same, none))) in
-          ap (λ (xs : List ℕ). get_or xs m 0) (of_hub (omega (arith, none))) ∙ omega (arith, counted.each m inside, one_more m, other))
+          let other : one_where (name.thread == index + 1) ≡ 0 = cond-false (name.thread == index + 1) 1 0 (ne_eqb _ _ (λ same. omega (arith, same, none))) in
+          ap (λ (xs : List ℕ). get_or xs index 0) (of_hub (omega (arith, none))) ∙ omega (arith, counted.each index inside, one_more index, other))
           (λ (some : 1 ≤ name.thread).
-          let set_is = ap (λ (xs : List ℕ). get_or xs m 0) (of_thread some) in
+          let set_is = ap (λ (xs : List ℕ). get_or xs index 0) (of_thread some) in
           ⊎_elim
-          (λ (here : name.thread ≡ m + 1).
-          let one : one_where (name.thread == m + 1) ≡ 1 = cond-true (name.thread == m + 1) 1 0 (eq-eqb _ _ here) in
-          let place : name.thread - 1 ≡ m = omega (arith, here) in
-          let value : get_or (set old m (get_or old m 0 + 1)) m 0 ≡ get_or old m 0 + 1 = get_or-set_same old m (get_or old m 0 + 1) 0 (omega (arith, inside, counted.long)) in
-          set_is ∙ ap (λ i. get_or (set old i (get_or old i 0 + 1)) m 0) place ∙ omega (arith, value, counted.each m inside, one_more m, one))
-          (λ (elsewhere : name.thread ≢ m + 1).
-          let none : one_where (name.thread == m + 1) ≡ 0 = cond-false (name.thread == m + 1) 1 0 (ne_eqb _ _ elsewhere) in
-          let apart : m ≢ name.thread - 1 = omega (arith, elsewhere, some) in
-          let value = get_or-set_other old (name.thread - 1) m (get_or old (name.thread - 1) 0 + 1) 0 apart in
-          set_is ∙ value ∙ omega (arith, counted.each m inside, one_more m, none))
-          (cases_eq name.thread (m + 1)))
+          (λ (here : name.thread ≡ index + 1).
+          let one : one_where (name.thread == index + 1) ≡ 1 = cond-true (name.thread == index + 1) 1 0 (eq-eqb _ _ here) in
+          let place : name.thread - 1 ≡ index = omega (arith, here) in
+          let value : get_or (set old index (get_or old index 0 + 1)) index 0 ≡ get_or old index 0 + 1 = get_or-set_same old index (get_or old index 0 + 1) 0 (omega (arith, inside, counted.long)) in
+          set_is ∙ ap (λ other_index. get_or (set old other_index (get_or old other_index 0 + 1)) index 0) place ∙ omega (arith, value, counted.each index inside, one_more index, one))
+          (λ (elsewhere : name.thread ≢ index + 1).
+          let none : one_where (name.thread == index + 1) ≡ 0 = cond-false (name.thread == index + 1) 1 0 (ne_eqb _ _ elsewhere) in
+          let apart : index ≢ name.thread - 1 = omega (arith, elsewhere, some) in
+          let value = get_or-set_other old (name.thread - 1) index (get_or old (name.thread - 1) 0 + 1) 0 apart in
+          set_is ∙ value ∙ omega (arith, counted.each index inside, one_more index, none))
+          (cases_eq name.thread (index + 1)))
           (cases_lt name.thread 1);
     }

@@ -24,11 +24,11 @@ use Rattle.graph_placing.proofs.ObjectWords.{reference_word, number_word}
 use Rattle.graph_placing.proofs.Plotted.{piece, plot, plot_from, plot_at, plotted, filled}
 
 module _ (config : Config) (text : Text) (whole : IsPlaceable config text) (fits : Fits config text) (memory : Word → ℕ) (placed : IsPlaced config text memory) where
-  abbrev n : ℕ
-  n = length text.rows
+  abbrev row_count : ℕ
+  row_count = length text.rows
 
   abbrev block : Plot
-  block = plot config text n
+  block = plot config text row_count
 
   abbrev heap : ℕ → ℕ
   heap address = memory (Heap address)
@@ -39,16 +39,16 @@ module _ (config : Config) (text : Text) (whole : IsPlaceable config text) (fits
   leads (Some name) there =
       let found = stands_there (names_of text) name name (there name refl) in
       let k = place_among (names_of text) name in
-      let below : k < n = omega (arith, found.0, names_count text) in
-      ap name_at (plot_at config text whole n k below) ∙ ap (λ (name : Name). Some name) (sym (name_of_row text k name below) ∙ found.1)
+      let below : k < row_count = omega (arith, found.0, names_count text) in
+      ap name_at (plot_at config text whole row_count k below) ∙ ap (λ (name : Name). Some name) (sym (name_of_row text k name below) ∙ found.1)
 
   -- The words of each object.
 
-  word_at_start : (k : ℕ) → k < n → heap (address_of config text k) ≡ 1
+  word_at_start : (k : ℕ) → k < row_count → heap (address_of config text k) ≡ 1
   word_at_start k below =
       ap heap (sym (add-zero (address_of config text k))) ∙ placed.objects k 0 below (omega arith)
 
-  is_thing : (k : ℕ) → k < n → IsThing heap block (address_of config text k) (length (row_of text k).refs) (length (row_of text k).nums) (row_of text k).name (row_object (row_of text k))
+  is_thing : (k : ℕ) → k < row_count → IsThing heap block (address_of config text k) (length (row_of text k).refs) (length (row_of text k).nums) (row_of text k).name (row_object (row_of text k))
   is_thing k below = record {
     header = word_at_start k below;
     shape = placed.objects k 1 below (omega arith);
@@ -75,22 +75,22 @@ module _ (config : Config) (text : Text) (whole : IsPlaceable config text) (fits
   -- Only objects are pieces.
 
   no_moved : (address refs nums to : ℕ) (name : Name) → block address ≡ Some (moved name refs nums to) → ⊥
-  no_moved address refs nums to name is = let no = (plot_from config text n address (moved name refs nums to) is).3 in cc
+  no_moved address refs nums to name is = let no = (plot_from config text row_count address (moved name refs nums to) is).3 in cc
 
   no_spent : (address words to : ℕ) → block address ≡ Some (spent words to) → ⊥
-  no_spent address words to is = let no = (plot_from config text n address (spent words to) is).3 in cc
+  no_spent address words to is = let no = (plot_from config text row_count address (spent words to) is).3 in cc
 
   no_room : HasNoRoom block
-  no_room a seat x is room = none-some seat (ap room_of (plot_from config text n a x is).3 ∙ room)
+  no_room a seat x is room = none-some seat (ap room_of (plot_from config text row_count a x is).3 ∙ room)
 
   no_promised : (address seat words : ℕ) → block address ≡ Some (promised seat words) → ⊥
-  no_promised address seat words is = let no = (plot_from config text n address (promised seat words) is).3 in cc
+  no_promised address seat words is = let no = (plot_from config text row_count address (promised seat words) is).3 in cc
 
   no_dead : (address words : ℕ) → block address ≡ Some (dead words) → ⊥
-  no_dead address words is = let no = (plot_from config text n address (dead words) is).3 in cc
+  no_dead address words is = let no = (plot_from config text row_count address (dead words) is).3 in cc
 
   no_filler : (address words : ℕ) → block address ≡ Some (filler words) → ⊥
-  no_filler address words is = let no = (plot_from config text n address (filler words) is).3 in cc
+  no_filler address words is = let no = (plot_from config text row_count address (filler words) is).3 in cc
 
   module _ (counts : List ℕ) (graph : Graph) (is : IsGraphOf config text counts graph) where
     -- a piece is an object of the graph
@@ -100,21 +100,21 @@ module _ (config : Config) (text : Text) (whole : IsPlaceable config text) (fits
 
     held : (address : ℕ) (b : Block) → block address ≡ Some b → IsHeld address b
     held address b there =
-        let from = plot_from config text n address b there in
+        let from = plot_from config text row_count address b there in
         subst (IsHeld address) from.3 (subst (λ (x : ℕ). IsHeld x (piece text from.0)) from.2 (row_object (row_of text from.0), is.objects from.0 from.1, is_thing from.0 from.1))
 
-    one_name : (j k : ℕ) → j < n → k < n → (row_of text j).name ≡ (row_of text k).name → j ≡ k
-    one_name j k below_j below_k same =
+    one_name : (index other_index : ℕ) → index < row_count → other_index < row_count → (row_of text index).name ≡ (row_of text other_index).name → index ≡ other_index
+    one_name index other_index below_j below_k same =
         let long = names_count text in
-        one_place (names_of text) whole.in_order j k hub (omega (arith, long, below_j)) (omega (arith, long, below_k))
-        (name_of_row text j hub below_j ∙ same ∙ sym (name_of_row text k hub below_k))
+        one_place (names_of text) whole.in_order index other_index hub (omega (arith, long, below_j)) (omega (arith, long, below_k))
+        (name_of_row text index hub below_j ∙ same ∙ sym (name_of_row text other_index hub below_k))
 
     objects : AreObjects heap block graph.object
     objects = record {
-      each = λ a refs nums name there. held a (thing name refs nums) there;
+      each = λ address refs nums name there. held address (thing name refs nums) there;
       once = λ a b refs nums more_refs more_nums name is_a is_b.
-          let one = plot_from config text n a (thing name refs nums) is_a in
-          let two = plot_from config text n b (thing name more_refs more_nums) is_b in
+          let one = plot_from config text row_count a (thing name refs nums) is_a in
+          let two = plot_from config text row_count b (thing name more_refs more_nums) is_b in
           let first = one.3 in
           let second = two.3 in
           let named : (row_of text one.0).name ≡ name = cc in
@@ -135,26 +135,26 @@ module _ (config : Config) (text : Text) (whole : IsPlaceable config text) (fits
     copiers : memory Evac ≡ 0
     copiers = placed.others Evac refl
 
-    evacuated : IsEvacuating config (memory Phase) (memory Cset) (memory Evac) (memory Claim) (memory Free) (λ r. memory (Top r)) (λ r. memory (Tams r)) heap (λ m. memory (Black m)) block (λ r. None) (λ seat. false) (λ seat. None)
+    evacuated : IsEvacuating config (memory Phase) (memory Cset) (memory Evac) (memory Claim) (memory Free) (λ region. memory (Top region)) (λ region. memory (Tams region)) heap (λ number. memory (Black number)) block (λ r. None) (λ seat. false) (λ seat. None)
     evacuated =
-        subst (λ (s : ℕ). IsEvacuating config (memory Phase) s (memory Evac) (memory Claim) (memory Free) (λ r. memory (Top r)) (λ r. memory (Tams r)) heap (λ m. memory (Black m)) block (λ r. None) (λ seat. false) (λ seat. None)) (sym set)
-        (subst (λ (e : ℕ). IsEvacuating config (memory Phase) 0 e (memory Claim) (memory Free) (λ r. memory (Top r)) (λ r. memory (Tams r)) heap (λ m. memory (Black m)) block (λ r. None) (λ seat. false) (λ seat. None)) (sym copiers)
-        (none_evacuated config (memory Phase) (memory Claim) (memory Free) (λ r. memory (Top r)) (λ r. memory (Tams r)) heap (λ m. memory (Black m)) block (λ r. None) (λ seat. false) (λ seat. None)
+        subst (λ (cset : ℕ). IsEvacuating config (memory Phase) cset (memory Evac) (memory Claim) (memory Free) (λ region. memory (Top region)) (λ region. memory (Tams region)) heap (λ number. memory (Black number)) block (λ r. None) (λ seat. false) (λ seat. None)) (sym set)
+        (subst (λ (evac : ℕ). IsEvacuating config (memory Phase) 0 evac (memory Claim) (memory Free) (λ region. memory (Top region)) (λ region. memory (Tams region)) heap (λ number. memory (Black number)) block (λ r. None) (λ seat. false) (λ seat. None)) (sym copiers)
+        (none_evacuated config (memory Phase) (memory Claim) (memory Free) (λ region. memory (Top region)) (λ region. memory (Tams region)) heap (λ number. memory (Black number)) block (λ r. None) (λ seat. false) (λ seat. None)
         (λ late. omega (arith, phase, late)) no_moved no_spent (λ seat below. refl)))
 
     shared : Shared config world
     shared = record {
       parsable = record {
-        plotted = plotted config text whole fits (λ r. memory (Top r)) placed.tops;
-        filled = filled config text whole fits (λ r. memory (Top r)) placed.tops;
-        promises = λ a seat words there. absurd (no_promised a seat words there);
-        deads = λ a words there. absurd (no_dead a words there);
-        spents = λ a words to there. absurd (no_spent a words to there);
-        fillers = λ a words there. absurd (no_filler a words there);
+        plotted = plotted config text whole fits (λ region. memory (Top region)) placed.tops;
+        filled = filled config text whole fits (λ region. memory (Top region)) placed.tops;
+        promises = λ address seat words there. absurd (no_promised address seat words there);
+        deads = λ address words there. absurd (no_dead address words there);
+        spents = λ address words to there. absurd (no_spent address words to there);
+        fillers = λ address words there. absurd (no_filler address words there);
       };
       contents = record { objects = objects; given = is.given };
       owned = record {
-        free_word = subst (λ (free : ℕ). IsFreeWord config free (λ r. memory (Top r)) (λ r. None)) (sym placed.free) (free_again config (λ r. memory (Top r)));
+        free_word = subst (λ (free : ℕ). IsFreeWord config free (λ region. memory (Top region)) (λ r. None)) (sym placed.free) (free_again config (λ region. memory (Top region)));
         shared_one = λ r at. absurd (omega (arith, placed.others Share refl, at));
         rooms = rooms_none config block no_room;
         buffers = record {
@@ -165,15 +165,15 @@ module _ (config : Config) (text : Text) (whole : IsPlaceable config text) (fits
       };
       phased = record { phase_is = omega (arith, phase); cset_is = λ other. set; evac_is = λ other. copiers };
       unwritten = record {
-        blanks = λ a seat words there. absurd (no_promised a seat words there);
-        headers = λ a words there. absurd (no_dead a words there);
-        lengths = λ a words there. absurd (no_dead a words there);
-        fillers = λ a words there. absurd (no_filler a words there);
+        blanks = λ address seat words there. absurd (no_promised address seat words there);
+        headers = λ address words there. absurd (no_dead address words there);
+        lengths = λ address words there. absurd (no_dead address words there);
+        fillers = λ address words there. absurd (no_filler address words there);
       };
-      marked = none_marked config (memory Phase) (λ m. memory (Grey m)) (λ m. memory (Black m)) (λ m. memory (Count m)) (λ m k. memory (Buffer m k)) (λ r. memory (Top r)) (λ r. memory (Tams r)) heap block (λ seat. None) (λ seat. None) phase;
+      marked = none_marked config (memory Phase) (λ number. memory (Grey number)) (λ number. memory (Black number)) (λ mutator. memory (Count mutator)) (λ mutator entry. memory (Buffer mutator entry)) (λ region. memory (Top region)) (λ region. memory (Tams region)) heap block (λ seat. None) (λ seat. None) phase;
       evacuated = evacuated;
       updated = λ on. absurd (omega (arith, phase, on));
-      pinned = λ m i below small. subst (PinStands config (memory Cset) (memory Evac) block (memory (Pin m i))) (sym (is.no_pins (m + 1) i)) (placed.others (Pin m i) refl);
+      pinned = λ mutator slot below small. subst (PinStands config (memory Cset) (memory Evac) block (memory (Pin mutator slot))) (sym (is.no_pins (mutator + 1) slot)) (placed.others (Pin mutator slot) refl);
     }
 
     roots : (mutator index : ℕ) → mutator < config.mutators → index < 16 → Points block (memory (Root mutator index)) (graph.root (mutator + 1) index)
@@ -189,12 +189,12 @@ module _ (config : Config) (text : Text) (whole : IsPlaceable config text) (fits
       shared = shared;
       roots = roots;
       usable = λ m i below small.
-          subst (λ (s : ℕ). IsUsable config s (memory Evac) block (memory (Root m i))) (sym set) (usable_now config (memory Evac) block no_moved (memory (Root m i)) (graph.root (m + 1) i) (roots m i below small));
+          subst (λ (cset : ℕ). IsUsable config cset (memory Evac) block (memory (Root m i))) (sym set) (usable_now config (memory Evac) block no_moved (memory (Root m i)) (graph.root (m + 1) i) (roots m i below small));
       none = λ a seat words there. no_room a seat (hand seat words) there refl;
-      uncarved = λ a seat words there. no_room a seat (carved seat words) there refl;
-      asked = λ m below. (placed.others (Wait m) refl, placed.others (Answer m) refl, λ a words there. no_promised a m words there);
+      uncarved = λ address seat words there. no_room address seat (carved seat words) there refl;
+      asked = λ m below. (placed.others (Wait m) refl, placed.others (Answer m) refl, λ address words there. no_promised address m words there);
       heard = λ m refs nums below asks_it. absurd (cc);
-      promised_to = λ a seat words there. absurd (no_promised a seat words there);
+      promised_to = λ address seat words there. absurd (no_promised address seat words there);
       unmarking = record { records_none = λ seat below. refl; scans_none = λ seat below. refl };
       uncopying = record { copies_none = λ seat below. refl; works_none = λ seat below. refl };
       no_more = is.no_more;

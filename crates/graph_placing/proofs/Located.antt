@@ -17,8 +17,8 @@ use Rattle.graph_placing.specs.PlaceableText.{IsPlaceable}
 use Rattle.graph_placing.proofs.Behind as behind
 
 module _ (config : Config) (text : Text) (whole : IsPlaceable config text) where
-  abbrev n : ℕ
-  n = length text.rows
+  abbrev row_count : ℕ
+  row_count = length text.rows
 
   abbrev w : ℕ
   w = config.region_words
@@ -26,9 +26,9 @@ module _ (config : Config) (text : Text) (whole : IsPlaceable config text) where
   -- each object has few words; a row that is not there counts as one without fields
   pub few_words : (k : ℕ) → words_of_row text k ≤ 35
   few_words k = ⊎_elim
-      (λ (below : k < n). let short = whole.short k below in omega (arith, short.refs, short.nums))
-      (λ (past : n ≤ k). let none : row_of text k ≡ bare hub = get_or_past text.rows k (bare hub) past in let bare_words : words_of_row text k ≡ 3 = ap (λ (row : Row). 3 + length row.refs + length row.nums) none in omega (arith, bare_words))
-      (cases_lt k n)
+      (λ (below : k < row_count). let short = whole.short k below in omega (arith, short.refs, short.nums))
+      (λ (past : row_count ≤ k). let none : row_of text k ≡ bare hub = get_or_past text.rows k (bare hub) past in let bare_words : words_of_row text k ≡ 3 = ap (λ (row : Row). 3 + length row.refs + length row.nums) none in omega (arith, bare_words))
+      (cases_lt k row_count)
 
   pub some_words : (k : ℕ) → 3 ≤ words_of_row text k
   some_words k = omega arith
@@ -99,7 +99,7 @@ module _ (config : Config) (text : Text) (whole : IsPlaceable config text) where
 
   -- an address between base and end of a region is of it
   pub region_is : (region address : ℕ) → base_of config region ≤ address → address < base_of config region + w → region_with config address ≡ region
-  region_is region address from before = regions_tile.of_no_other config region address (record { from = from; before = before })
+  region_is region address at_most before = regions_tile.of_no_other config region address (record { from = at_most; before = before })
 
   -- The words of a region that are used.
 
@@ -157,9 +157,9 @@ module _ (config : Config) (text : Text) (whole : IsPlaceable config text) where
       (cases_lt (used_words config text k region) 1)
 
   -- An address that is a whole number of regions is the base of its region.
-  based : (address q : ℕ) → address ≡ (q + 1) * w → address ≡ base_of config (region_with config address)
-  based address q is =
-      let of : region_with config address ≡ q = region_is q address (omega (arith, is)) (omega (arith, is, some)) in
+  based : (address region : ℕ) → address ≡ (region + 1) * w → address ≡ base_of config (region_with config address)
+  based address region is =
+      let of : region_with config address ≡ region = region_is region address (omega (arith, is)) (omega (arith, is, some)) in
       is ∙ ap (base_of config) (sym of)
 
   placed_how : (k : ℕ) → (address_of config text k ≡ end_behind config text k) ⊎ (address_of config text k ≡ (end_behind config text k / w + 1) * w)
@@ -193,20 +193,20 @@ module _ (config : Config) (text : Text) (whole : IsPlaceable config text) where
 
   -- the base of the next region is not below that of this one and a region's words
   next_base : (region e : ℕ) → base_of config region ≤ e → base_of config region + w ≤ (e / w + 1) * w
-  next_base region e from =
+  next_base region e at_most =
       let rows : e / w * w + e % w ≡ e = div-add-mod' e w in
       ⊎_elim
       (λ (less : e / w < region + 1).
       let most : e / w * w ≤ region * w = mul-le (e / w) w region w (omega (arith, less)) (omega arith) in
-      absurd (omega (arith, most, rows, mod_below e w some, from)))
+      absurd (omega (arith, most, rows, mod_below e w some, at_most)))
       (λ (least : region + 1 ≤ e / w). let most : (region + 1) * w ≤ e / w * w = mul-le (region + 1) w (e / w) w least (omega arith) in omega (arith, most))
       (cases_lt (e / w) (region + 1))
 
   -- behind an object that does not end at the top of the region another one stands
-  pub another_behind : (region j : ℕ) → j < n → base_of config region ≤ address_of config text j → address_of config text j + words_of_row text j < base_of config region + used_words config text n region
-      → (suc j < n) × (address_of config text (suc j) ≡ address_of config text j + words_of_row text j)
-  another_behind region j below from before =
-      let last = last_ends_at_top n region (omega (arith, from, before)) in
+  pub another_behind : (region j : ℕ) → j < row_count → base_of config region ≤ address_of config text j → address_of config text j + words_of_row text j < base_of config region + used_words config text row_count region
+      → (suc j < row_count) × (address_of config text (suc j) ≡ address_of config text j + words_of_row text j)
+  another_behind region j below at_most before =
+      let last = last_ends_at_top row_count region (omega (arith, at_most, before)) in
       let l = last.0 in
       let more : j < l = (⊎_elim
       (λ (less : j < l). less)
@@ -219,7 +219,7 @@ module _ (config : Config) (text : Text) (whole : IsPlaceable config text) where
         ⊎_elim
             (λ (at_end : address_of config text (suc j) ≡ end_behind config text (suc j)). at_end ∙ end_is j)
             (λ (at_base : address_of config text (suc j) ≡ (end_behind config text (suc j) / w + 1) * w).
-            let far = next_base region (end_behind config text (suc j)) (omega (arith, end_is j, from)) in
+            let far = next_base region (end_behind config text (suc j)) (omega (arith, end_is j, at_most)) in
             let behind_it : address_of config text (suc j) ≤ address_of config text l = (⊎_elim
             (λ (same : suc j ≡ l). let one : address_of config text (suc j) ≡ address_of config text l = ap (address_of config text) same in omega (arith, one))
             (λ (differs : suc j ≡ l → ⊥). omega (arith, stand_apart (suc j) l (omega (arith, more, differs))))
@@ -234,7 +234,7 @@ module _ (config : Config) (text : Text) (whole : IsPlaceable config text) where
   pub next_place : (words_of_region end words place k : ℕ) → words_of_region ≡ w → end ≡ end_behind config text k → words ≡ words_of_row text k → place ≡ place_behind words_of_region end words
       → place ≡ address_of config text k
   next_place words_of_region end words place k same is long at =
-      at ∙ ap (λ v. place_behind v end words) same ∙ ap (λ e. place_behind w e words) is ∙ ap (place_behind w (end_behind config text k)) long
+      at ∙ ap (λ region_words. place_behind region_words end words) same ∙ ap (λ e. place_behind w e words) is ∙ ap (place_behind w (end_behind config text k)) long
       ∙ behind.around_nothing w (end_behind config text k) (words_of_row text k) (positive k)
 
   pub next_end : (words place k : ℕ) → words ≡ words_of_row text k → place ≡ address_of config text k → place + words ≡ end_behind config text (k + 1)
@@ -247,13 +247,13 @@ module _ (config : Config) (text : Text) (whole : IsPlaceable config text) where
 
   module _ (fits : Fits config text) where
     -- each lies in the heap
-    pub in_heap : (k : ℕ) → k < n → address_of config text k + words_of_row text k ≤ heap_end config
-    in_heap k below = omega (arith, ends_rise (suc k) n (omega (arith, below)), end_is k, fits)
+    pub in_heap : (k : ℕ) → k < row_count → address_of config text k + words_of_row text k ≤ heap_end config
+    in_heap k below = omega (arith, ends_rise (suc k) row_count (omega (arith, below)), end_is k, fits)
 
     -- so its words are words of the heap
-    pub is_word : (k i : ℕ) → k < n → i < words_of_row text k → IsWord config (Heap (address_of config text k + i))
+    pub is_word : (k i : ℕ) → k < row_count → i < words_of_row text k → IsWord config (Heap (address_of config text k + i))
     is_word k i below inside = (omega (arith, from_first k), omega (arith, in_heap k below, inside))
 
     -- and its region is one of the heap's
-    pub region_within : (k : ℕ) → k < n → region_at k < config.regions
+    pub region_within : (k : ℕ) → k < row_count → region_at k < config.regions
     region_within k below = regions_tile.in_range config (address_of config text k) (omega (arith, from_first k), omega (arith, in_heap k below, some_words k))

@@ -8,7 +8,7 @@ use Rattle.graph_placing.specs.PlacedHeap.{words_of_object}
 
 -- the words behind header, shape and name
 behind : (a b d : ℕ) (xs : List ℕ) (index other_index : ℕ) → other_index ≡ 3 + index → get_or (a ∷ b ∷ d ∷ xs) other_index 0 ≡ get_or xs index 0
-behind a b d xs index other_index is = let later : other_index ≡ suc (suc (suc index)) = omega (arith, is) in ap (λ k. get_or (a ∷ b ∷ d ∷ xs) k 0) later
+behind a b d xs index other_index is = let later : other_index ≡ suc (suc (suc index)) = omega (arith, is) in ap (λ index. get_or (a ∷ b ∷ d ∷ xs) index 0) later
 
 -- a reference
 pub reference_word : (word : Reference → ℕ) (row : Row) (index other_index : ℕ) → other_index ≡ 3 + index → index < length row.refs → get_or (words_of_object word row) other_index 0 ≡ word (get_or row.refs index None)

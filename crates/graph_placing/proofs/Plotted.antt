@@ -22,7 +22,7 @@ plot config text (suc k) a = if address_of config text k == a then Some (piece t
 
 -- a piece is that of a row
 pub plot_from : (config : Config) (text : Text) (k a : ℕ) (b : Block) → plot config text k a ≡ Some b → (j : ℕ) × (j < k) × (address_of config text j ≡ a) × (piece text j ≡ b)
-plot_from config text zero a b is = absurd (none-some b is)
+plot_from config text zero a piece is = absurd (none-some piece is)
 plot_from config text (suc k) a b is = ⊎_elim
     (λ (here : address_of config text k ≡ a).
     let found : Some (piece text k) ≡ Some b = sym (cond-true (address_of config text k == a) (Some (piece text k)) (plot config text k a) (eq-eqb _ _ here)) ∙ is in
@@ -45,42 +45,42 @@ module _ (config : Config) (text : Text) (whole : IsPlaceable config text) where
       (cases_eq k j)
 
   module _ (fits : Fits config text) (top : ℕ → ℕ) (tops : (r : ℕ) → top r ≡ used_words config text (length text.rows) r) where
-    abbrev n : ℕ
-    n = length text.rows
+    abbrev row_count : ℕ
+    row_count = length text.rows
 
-    in_use : (k : ℕ) → k < n → IsInUse config top (address_of config text k) (words_of_row text k)
+    in_use : (k : ℕ) → k < row_count → IsInUse config top (address_of config text k) (words_of_row text k)
     in_use k below = record {
       region = located.region_at config text whole k;
       within = located.region_within config text whole fits k below;
       from_base = (located.in_region config text whole k).0;
-      to_top = omega (arith, located.ends_below_top config text whole n k below, tops (located.region_at config text whole k));
+      to_top = omega (arith, located.ends_below_top config text whole row_count k below, tops (located.region_at config text whole k));
     }
 
-    pub plotted : IsPlotted config top (plot config text n)
+    pub plotted : IsPlotted config top (plot config text row_count)
     plotted = record {
-      tops = λ r within. omega (arith, tops r, located.top_within config text whole n r);
+      tops = λ r within. omega (arith, tops r, located.top_within config text whole row_count r);
       in_use = λ a b is.
-          let from = plot_from config text n a b is in
-          subst (λ (piece : Block). IsInUse config top a (words_of piece)) from.3 (subst (λ x. IsInUse config top x (words_of_row text from.0)) from.2 (in_use from.0 from.1));
+          let from = plot_from config text row_count a b is in
+          subst (λ (piece : Block). IsInUse config top a (words_of piece)) from.3 (subst (λ address. IsInUse config top address (words_of_row text from.0)) from.2 (in_use from.0 from.1));
       apart = λ a b x y is_x is_y before.
-          let one = plot_from config text n a x is_x in
-          let two = plot_from config text n b y is_y in
+          let one = plot_from config text row_count a x is_x in
+          let two = plot_from config text row_count b y is_y in
           let long : words_of_row text one.0 ≡ words_of x = ap words_of one.3 in
           let later = located.later_row config text whole one.0 two.0 (omega (arith, one.2, two.2, before)) in
           omega (arith, located.stand_apart config text whole one.0 two.0 later, one.2, two.2, long);
     }
 
-    pub filled : IsFilled config top (plot config text n)
+    pub filled : IsFilled config top (plot config text row_count)
     filled = record {
       first = λ r within used.
-          let last = located.last_ends_at_top config text whole n r (omega (arith, used, tops r)) in
+          let last = located.last_ends_at_top config text whole row_count r (omega (arith, used, tops r)) in
           let one = located.one_at_base config text whole last.0 in
-          let below : one.0 < n = omega (arith, one.1, last.1) in
-          (piece text one.0, ap (plot config text n) (sym (one.2 ∙ ap (base_of config) last.2)) ∙ plot_at n one.0 below);
+          let below : one.0 < row_count = omega (arith, one.1, last.1) in
+          (piece text one.0, ap (plot config text row_count) (sym (one.2 ∙ ap (base_of config) last.2)) ∙ plot_at row_count one.0 below);
       next = λ r a x within from is before.
-          let one = plot_from config text n a x is in
+          let one = plot_from config text row_count a x is in
           let long : words_of_row text one.0 ≡ words_of x = ap words_of one.3 in
           let more = located.another_behind config text whole r one.0 one.1 (omega (arith, from, one.2)) (omega (arith, before, tops r, one.2, long)) in
           let there : address_of config text (suc one.0) ≡ a + words_of x = omega (arith, more.1, one.2, long) in
-          (piece text (suc one.0), ap (plot config text n) (sym there) ∙ plot_at n (suc one.0) more.0);
+          (piece text (suc one.0), ap (plot config text row_count) (sym there) ∙ plot_at row_count (suc one.0) more.0);
     }

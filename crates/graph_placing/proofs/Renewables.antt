@@ -1,9 +1,10 @@
 -- The graph of a legal history can be named anew, and so can one that was.
 use Rattle.std.proofs.Common.{◌≡◌, inl, inr, ℕ, ◌≤◌, ◌&&◌, Bool, true, false, cond, eqb, List, [], ◌∷◌, Option, Some, None, refl, sym, ap, subst, arith, All}
-use Rattle.std.specs.Prelude.{slice_get, slice_set, unwrap_or, is_some}
+use Rattle.std.specs.Prelude.{slice_set, unwrap_or, is_some}
 use Rattle.std.proofs.lemmas.List.{length-replicate, length-set}
 use Rattle.std.proofs.lemmas.List.Elements.{All-nil, All-replicate, All-set, All-head, All-tail}
-use Rattle.std.proofs.lemmas.Option.{slice_get_within, get_or_from_slice_get, same_Some}
+use Rattle.std.proofs.lemmas.Option.{same_Some}
+use Rattle.shen_graph.proofs.Lists.{element_of_all}
 use Rattle.shen_graph.specs.declared.name.Name.{Name}
 use Rattle.shen_graph.specs.declared.command.Command.{Command}
 use Rattle.shen_graph.specs.declared.command.Command.TheVariants.{New, Get, Set, Cas, Xchg, Rd, Wr, Copy, Drop, Same, Gc, Pin, Unpin}
@@ -30,14 +31,11 @@ refs_named : (threads : ℕ) (graph : Graph) (reference : Reference) → IsRenew
 refs_named threads graph None can = All-nil (IsOfThreads threads)
 refs_named threads graph (Some n) can = (named_short threads graph n can).refs
 
-element : {X : Type 0} (P : X → Type 0) (xs : List X) (index : ℕ) (x : X) → All P xs → slice_get xs index ≡ Some x → P x
-element P xs index x all there = subst P (get_or_from_slice_get xs index x x there) (all index x (slice_get_within xs index x there))
-
 -- what can be reached is so
 pub reachable_named : (threads : ℕ) (graph : Graph) → IsRenewable threads graph → (name : Name) → IsReachable graph name → IsOfThreads threads (Some name)
-reachable_named threads graph can _ (from_root t r name is) = subst (IsOfThreads threads) is (can.root t r)
-reachable_named threads graph can _ (from_pin t s held is) = subst (λ (found : Option Pinned). IsOfThreads threads (name_in found)) is (can.pin t s)
-reachable_named threads graph can _ (from_field m name field there is) = element (IsOfThreads threads) (named graph (Some m)).refs field (Some name) (refs_named threads graph (Some m) can) is
+reachable_named threads graph can _ (from_root thread root name is) = subst (IsOfThreads threads) is (can.root thread root)
+reachable_named threads graph can _ (from_pin thread slot held is) = subst (λ (found : Option Pinned). IsOfThreads threads (name_in found)) is (can.pin thread slot)
+reachable_named threads graph can _ (from_field other_name name field there is) = element_of_all (IsOfThreads threads) (named graph (Some other_name)).refs field (Some name) (refs_named threads graph (Some other_name) can) is
 
 pub reachable_short : (threads : ℕ) (graph : Graph) → IsRenewable threads graph → (name : Name) → IsShortObject threads (named graph (Some name))
 reachable_short threads graph can name = named_short threads graph name can
@@ -45,66 +43,66 @@ reachable_short threads graph can name = named_short threads graph name can
 -- ---- graphs of which one thing is another
 
 either_named : (threads : ℕ) (holds : Bool) (reference other_reference : Reference) → IsOfThreads threads reference → IsOfThreads threads other_reference → IsOfThreads threads (cond holds reference other_reference)
-either_named threads true reference other_reference p q = p
-either_named threads false reference other_reference p q = q
+either_named threads true reference other_reference of_threads q = of_threads
+either_named threads false reference other_reference of_threads q = q
 
 root_renewable : (threads : ℕ) (graph : Graph) (t r : ℕ) (value : Reference) → IsOfThreads threads value → IsRenewable threads graph → IsRenewable threads (with_root graph t r value)
 root_renewable threads graph t r value named can = record {
-  root = λ u s. either_named threads _ value (graph.root u s) named (can.root u s);
+  root = λ thread index. either_named threads _ value (graph.root thread index) named (can.root thread index);
   object = can.object;
   pin = can.pin;
 }
 
 object_either : (threads : ℕ) (holds : Bool) (object : Object) (other : Option Object) (other_object : Object) → IsShortObject threads object → (other ≡ Some other_object → IsShortObject threads other_object) → cond holds (Some object) other ≡ Some other_object → IsShortObject threads other_object
-object_either threads true object other other_object p q e = subst (IsShortObject threads) (same_Some object other_object e) p
-object_either threads false object other other_object p q e = q e
+object_either threads true object other other_object short_object q found = subst (IsShortObject threads) (same_Some object other_object found) short_object
+object_either threads false object other other_object short_object q found = q found
 
 object_renewable : (threads : ℕ) (graph : Graph) (name : Name) (object : Object) → IsShortObject threads object → IsRenewable threads graph → IsRenewable threads (with_object graph name object)
 object_renewable threads graph name object short can = record {
   root = can.root;
-  object = λ m p e. object_either threads (same_name m name) object (graph.object m) p short (can.object m p) e;
+  object = λ other_name p e. object_either threads (same_name other_name name) object (graph.object other_name) p short (can.object other_name p) e;
   pin = can.pin;
 }
 
 held_either : (threads : ℕ) (holds : Bool) (found other_found : Option Pinned) → IsOfThreads threads (name_in found) → IsOfThreads threads (name_in other_found) → IsOfThreads threads (name_in (cond holds found other_found))
-held_either threads true found other_found p q = p
-held_either threads false found other_found p q = q
+held_either threads true found other_found of_threads q = of_threads
+held_either threads false found other_found of_threads q = q
 
 pin_renewable : (threads : ℕ) (graph : Graph) (t slot : ℕ) (held : Option Pinned) → IsOfThreads threads (name_in held) → IsRenewable threads graph → IsRenewable threads (with_pin graph t slot held)
 pin_renewable threads graph t slot held named can = record {
   root = can.root;
   object = can.object;
-  pin = λ u s. held_either threads (eqb u t && eqb s slot) held (graph.pin u s) named (can.pin u s);
+  pin = λ thread other_slot. held_either threads (eqb thread t && eqb other_slot slot) held (graph.pin thread other_slot) named (can.pin thread other_slot);
 }
 
 -- the object that a reference names has other references, or other numbers, as many
 refs_renewable : (threads : ℕ) (graph : Graph) (reference : Reference) (field : ℕ) (value : Reference) → IsOfThreads threads value → IsRenewable threads graph
     → IsRenewable threads (with_named graph reference (record { refs = slice_set (named graph reference).refs field value; nums = (named graph reference).nums }))
 refs_renewable threads graph None field value named_too can = can
-refs_renewable threads graph (Some n) field value named_too can =
-    let was = named_short threads graph n can in
-    object_renewable threads graph n _ (record {
-      refs = All-set (IsOfThreads threads) (named graph (Some n)).refs field value named_too was.refs;
-      few_refs = omega (arith, length-set (named graph (Some n)).refs field value, was.few_refs);
+refs_renewable threads graph (Some name) field value named_too can =
+    let was = named_short threads graph name can in
+    object_renewable threads graph name _ (record {
+      refs = All-set (IsOfThreads threads) (named graph (Some name)).refs field value named_too was.refs;
+      few_refs = omega (arith, length-set (named graph (Some name)).refs field value, was.few_refs);
       few_nums = was.few_nums;
     }) can
 
 nums_renewable : (threads : ℕ) (graph : Graph) (reference : Reference) (index value : ℕ) → IsRenewable threads graph
     → IsRenewable threads (with_named graph reference (record { refs = (named graph reference).refs; nums = slice_set (named graph reference).nums index value }))
 nums_renewable threads graph None index value can = can
-nums_renewable threads graph (Some n) index value can =
-    let was = named_short threads graph n can in
-    object_renewable threads graph n _ (record {
+nums_renewable threads graph (Some name) index value can =
+    let was = named_short threads graph name can in
+    object_renewable threads graph name _ (record {
       refs = was.refs;
       few_refs = was.few_refs;
-      few_nums = omega (arith, length-set (named graph (Some n)).nums index value, was.few_nums);
+      few_nums = omega (arith, length-set (named graph (Some name)).nums index value, was.few_nums);
     }) can
 
 -- a new object of a thread
 fresh_renewable : (threads : ℕ) (graph : Graph) (t refs nums : ℕ) → refs ≤ 16 → nums ≤ 16 → IsRenewable threads graph → IsRenewable threads (with_fresh graph t (blank refs nums))
 fresh_renewable threads graph t refs nums few_refs few_nums can = record {
   root = can.root;
-  object = λ m p e. object_either threads (same_name m (fresh graph t)) (blank refs nums) (graph.object m) p blank_short (can.object m p) e;
+  object = λ name p e. object_either threads (same_name name (fresh graph t)) (blank refs nums) (graph.object name) p blank_short (can.object name p) e;
   pin = can.pin;
 }
   where
@@ -122,15 +120,15 @@ on_renewable threads None graph f can each = can
 on_renewable threads (Some v) graph f can each = each v refl
 
 either_renewable : (threads : ℕ) (holds : Bool) (x y : Outcome) → IsRenewable threads x.graph → IsRenewable threads y.graph → IsRenewable threads (cond holds x y).graph
-either_renewable threads true x y p q = p
-either_renewable threads false x y p q = q
+either_renewable threads true x y renewable q = renewable
+either_renewable threads false x y renewable q = q
 
 outcome_renewable : (threads : ℕ) (graph : Graph) (thread : ℕ) (command : Command) → 1 ≤ thread → thread ≤ threads → IsValid command → IsRenewable threads graph → IsRenewable threads (outcome graph thread command).graph
 outcome_renewable threads graph thread (New dst refs nums) first last valid can =
     root_renewable threads (with_fresh graph thread (blank refs nums)) thread dst (Some (fresh graph thread)) (inr (first, last)) (fresh_renewable threads graph thread refs nums valid.1 valid.2 can)
 outcome_renewable threads graph thread (Get dst src field) first last valid can =
     on_renewable threads (field_at graph thread src field) graph _ can (λ v there.
-    root_renewable threads graph thread dst v (element (IsOfThreads threads) (named graph (graph.root thread src)).refs field v (refs_named threads graph (graph.root thread src) can) there) can)
+    root_renewable threads graph thread dst v (element_of_all (IsOfThreads threads) (named graph (graph.root thread src)).refs field v (refs_named threads graph (graph.root thread src) can) there) can)
 outcome_renewable threads graph thread (Set obj field val) first last valid can =
     on_renewable threads (field_at graph thread obj field) graph _ can (λ v there. refs_renewable threads graph (graph.root thread obj) field (graph.root thread val) (can.root thread val) can)
 outcome_renewable threads graph thread (Cas obj field expect val) first last valid can =
@@ -138,7 +136,7 @@ outcome_renewable threads graph thread (Cas obj field expect val) first last val
     either_renewable threads (same_reference v (graph.root thread expect)) _ _ (refs_renewable threads graph (graph.root thread obj) field (graph.root thread val) (can.root thread val) can) can)
 outcome_renewable threads graph thread (Xchg dst obj field val) first last valid can =
     on_renewable threads (field_at graph thread obj field) graph _ can (λ v there.
-    let was = element (IsOfThreads threads) (named graph (graph.root thread obj)).refs field v (refs_named threads graph (graph.root thread obj) can) there in
+    let was = element_of_all (IsOfThreads threads) (named graph (graph.root thread obj)).refs field v (refs_named threads graph (graph.root thread obj) can) there in
     root_renewable threads (with_field graph thread obj field (graph.root thread val)) thread dst v was (refs_renewable threads graph (graph.root thread obj) field (graph.root thread val) (can.root thread val) can))
 outcome_renewable threads graph thread (Rd obj index) first last valid can = on_renewable threads (number_at graph thread obj index) graph _ can (λ v there. can)
 outcome_renewable threads graph thread (Wr obj index value) first last valid can =
@@ -186,8 +184,8 @@ entry_renewable threads regions region_words graph entry other_graph range (inr 
     let named_too = subst (IsOfThreads threads) pinning.pins (pinned_named threads graph entry.thread entry.command can) in
     subst (IsRenewable threads) (sym pinning.graph) (pin_renewable threads graph entry.thread (slot_of entry.command) (Some (record { name = pinning.name; place = pinning.place })) named_too can)
 
-pub history_renewable : (threads regions region_words : ℕ) (graph : Graph) (es : List Entry) → EachIsLegal regions region_words graph es → All (IsEntryOf threads) es → IsRenewable threads graph → IsRenewable threads (after graph es)
+pub history_renewable : (threads regions region_words : ℕ) (graph : Graph) (entries : List Entry) → EachIsLegal regions region_words graph entries → All (IsEntryOf threads) entries → IsRenewable threads graph → IsRenewable threads (after graph entries)
 history_renewable threads regions region_words graph [] legal range can = can
-history_renewable threads regions region_words graph (e ∷ es) legal range can =
-    history_renewable threads regions region_words (after_entry graph e) es legal.1 (All-tail (IsEntryOf threads) e es range)
-    (entry_renewable threads regions region_words graph e (after_entry graph e) (All-head (IsEntryOf threads) e es range) legal.0 can)
+history_renewable threads regions region_words graph (entry ∷ entries) legal range can =
+    history_renewable threads regions region_words (after_entry graph entry) entries legal.1 (All-tail (IsEntryOf threads) entry entries range)
+    (entry_renewable threads regions region_words graph entry (after_entry graph entry) (All-head (IsEntryOf threads) entry entries range) legal.0 can)

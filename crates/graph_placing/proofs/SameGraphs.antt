@@ -44,12 +44,12 @@ text_count text counts index = refl
 -- an object is that of a row of its name
 pub row_found : (rows : List Row) (name : Name) (object : Object) (row : Row) → object_in rows name ≡ Some object → (index : ℕ) × (index < length rows) × ((get_or rows index row).name ≡ name)
 row_found [] name object row is = absurd (none-some object is)
-row_found (r ∷ rows) name object row is = ⊎_elim
-    (λ (same : same_name name r.name ≡ true). (0, omega arith, sym (same_name-true name r.name same)))
-    (λ (other : same_name name r.name ≡ false).
-    let rest = row_found rows name object row (sym (cond-false (same_name name r.name) (Some (row_object r)) (object_in rows name) other) ∙ is) in
+row_found (other_row ∷ rows) name object row is = ⊎_elim
+    (λ (same : same_name name other_row.name ≡ true). (0, omega arith, sym (same_name-true name other_row.name same)))
+    (λ (other : same_name name other_row.name ≡ false).
+    let rest = row_found rows name object row (sym (cond-false (same_name name other_row.name) (Some (row_object other_row)) (object_in rows name) other) ∙ is) in
     (suc rest.0, omega (arith, rest.1), rest.2))
-    (cases_Bool (same_name name r.name))
+    (cases_Bool (same_name name other_row.name))
 
 module _ (config : Config) (text : Text) (whole : IsPlaceable config text) (threads : AreOfThreads config.mutators (names_of text)) (counts : List ℕ) (are : AreCountsOf (names_of text) config.mutators counts) where
   abbrev names : List Name
@@ -58,8 +58,8 @@ module _ (config : Config) (text : Text) (whole : IsPlaceable config text) (thre
   abbrev f : Name → Name
   f = name_anew names
 
-  abbrev n : ℕ
-  n = length text.rows
+  abbrev row_count : ℕ
+  row_count = length text.rows
 
   abbrev new : Graph
   new = text_graph (text_anew text) counts
@@ -67,9 +67,9 @@ module _ (config : Config) (text : Text) (whole : IsPlaceable config text) (thre
   -- a thread has made as many objects as have names of it
   count_is : (thread : ℕ) → 1 ≤ thread → thread ≤ config.mutators → new.count thread ≡ names_by names thread
   count_is zero low high = absurd (omega (arith, low))
-  count_is (suc m) low high =
-      let next : m + 1 ≡ suc m = omega arith in
-      text_count (text_anew text) counts m ∙ are.each m (omega (arith, high)) ∙ ap (names_by names) next
+  count_is (suc index) low high =
+      let next : index + 1 ≡ suc index = omega arith in
+      text_count (text_anew text) counts index ∙ are.each index (omega (arith, high)) ∙ ap (names_by names) next
 
   -- The new names are given, where all objects fit.
 
@@ -89,7 +89,7 @@ module _ (config : Config) (text : Text) (whole : IsPlaceable config text) (thre
 
   are_given : Fits config text → AreGiven config (text_anew text) counts
   are_given fits k below =
-      let row : k < n = omega (arith, below, anew.rows_count f text) in
+      let row : k < row_count = omega (arith, below, anew.rows_count f text) in
       let name : f (row_of text k).name ≡ (row_of (text_anew text) k).name = ap (λ (row : Row). row.name) (sym (anew.row_is f text k row)) in
       subst (IsGiven config new.count) name (name_is_given fits (row_of text k).name (row_there text k row))
 
@@ -101,26 +101,26 @@ module _ (config : Config) (text : Text) (whole : IsPlaceable config text) (thre
     renaming : IsRenaming names f
     renaming = is_renaming names whole.in_order
 
-    row_anew : (k : ℕ) → k < n → row_of (text_anew text) k ≡ row_renamed f (row_in graph (row_of text k).name)
-    row_anew k below =
-        anew.row_is f text k below ∙ ap (row_renamed f) (shown_row text config.mutators graph shows k below)
+    row_anew : (index : ℕ) → index < row_count → row_of (text_anew text) index ≡ row_renamed f (row_in graph (row_of text index).name)
+    row_anew index below =
+        anew.row_is f text index below ∙ ap (row_renamed f) (shown_row text config.mutators graph shows index below)
 
     has_object_anew : (name : Name) → IsReachable graph name → new.object (f name) ≡ Some (object_renamed f (named graph (Some name)))
     has_object_anew name reached =
         let there = shows.reach.all name reached in
         let k = there.0 in
-        let below : k < n = omega (arith, there.1, names_count text) in
+        let below : k < row_count = omega (arith, there.1, names_count text) in
         let is : (row_of text k).name ≡ name = sym (name_of_row text k name below) ∙ there.2 in
         let row : row_of (text_anew text) k ≡ row_renamed f (row_in graph name) = row_anew k below ∙ ap (λ (name : Name). row_renamed f (row_in graph name)) is in
         let found = has_object (text_anew text).rows (anew.placeable_anew config text whole).in_order k (bare hub) (omega (arith, below, anew.rows_count f text)) in
         ap (λ (object : Name → Option Object). object (f name)) (text_objects (text_anew text) counts)
         ∙ subst (λ (row : Row). object_in (text_anew text).rows row.name ≡ Some (row_object row)) row found
 
-    from_old : (name : Name) (o : Object) → new.object name ≡ Some o → (other_name : Name) × IsReachable graph other_name × (f other_name ≡ name)
+    from_old : (name : Name) (object : Object) → new.object name ≡ Some object → (other_name : Name) × IsReachable graph other_name × (f other_name ≡ name)
     from_old name o is =
         let found = row_found (text_anew text).rows name o (bare hub) (sym (ap (λ (object : Name → Option Object). object name) (text_objects (text_anew text) counts)) ∙ is) in
         let k = found.0 in
-        let below : k < n = omega (arith, found.1, anew.rows_count f text) in
+        let below : k < row_count = omega (arith, found.1, anew.rows_count f text) in
         ((row_of text k).name, shows.reach.only (row_of text k).name (row_there text k below), ap (λ (row : Row). row.name) (sym (anew.row_is f text k below)) ∙ found.2)
 
     roots_are : (thread root : ℕ) → 1 ≤ thread → thread ≤ config.mutators → root < 16 → new.root thread root ≡ renamed f (graph.root thread root)
@@ -136,9 +136,9 @@ module _ (config : Config) (text : Text) (whole : IsPlaceable config text) (thre
       roots = roots_are;
       objects = has_object_anew;
       no_others = from_old;
-      one_to_one = λ a b reached_a reached_b same. renaming.one_to_one a b (reached_there a reached_a) (reached_there b reached_b) same;
+      one_to_one = λ name other_name reached_a reached_b same. renaming.one_to_one name other_name (reached_there name reached_a) (reached_there other_name reached_b) same;
       thread = renaming.thread;
-      order = λ a b reached_a reached_b before. renaming.order a b (reached_there a reached_a) (reached_there b reached_b) before;
+      order = λ name other_name reached_a reached_b before. renaming.order name other_name (reached_there name reached_a) (reached_there other_name reached_b) before;
       counted = λ a reached some.
           let there = reached_there a reached in
           let counted = renaming.counted a there in

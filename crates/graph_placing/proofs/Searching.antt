@@ -16,72 +16,72 @@ pub not_itself : (name : Name) → IsBefore name name → ⊥
 not_itself name before = elim before [ inl less ↦ omega (arith, less) | inr w ↦ omega (arith, w.1) ]
 
 -- the first of names in order is before each later one, ..
-pub before_first : (name : Name) (ns : List Name) → InOrder (name ∷ ns) → (index : ℕ) (other_name : Name) → index < length ns → IsBefore name (get_or ns index other_name)
+pub before_first : (name : Name) (names : List Name) → InOrder (name ∷ names) → (index : ℕ) (other_name : Name) → index < length names → IsBefore name (get_or names index other_name)
 before_first name [] order index other_name below = absurd (omega (arith, below))
-before_first name (m ∷ ns) order zero other_name below = order.0
-before_first name (m ∷ ns) order (suc index) other_name below = before_join name m (get_or ns index other_name) order.0 (before_first m ns order.1 index other_name (omega (arith, below)))
+before_first name (m ∷ names) order zero other_name below = order.0
+before_first name (m ∷ names) order (suc index) other_name below = before_join name m (get_or names index other_name) order.0 (before_first m names order.1 index other_name (omega (arith, below)))
 
 -- .. and so is each
-pub before_later : (ns : List Name) → InOrder ns → (index other_index : ℕ) (name : Name) → index < other_index → other_index < length ns → IsBefore (get_or ns index name) (get_or ns other_index name)
+pub before_later : (names : List Name) → InOrder names → (index other_index : ℕ) (name : Name) → index < other_index → other_index < length names → IsBefore (get_or names index name) (get_or names other_index name)
 before_later [] order index other_index name less below = absurd (omega (arith, below))
-before_later (a ∷ ns) order zero zero name less below = absurd (omega (arith, less))
-before_later (a ∷ ns) order zero (suc index) name less below = before_first a ns order index name (omega (arith, below))
-before_later (a ∷ ns) order (suc index) zero name less below = absurd (omega (arith, less))
-before_later (a ∷ ns) order (suc index) (suc other_index) name less below = before_later ns (order_rest a ns order) index other_index name (omega (arith, less)) (omega (arith, below))
+before_later (other_name ∷ names) order zero zero name less below = absurd (omega (arith, less))
+before_later (other_name ∷ names) order zero (suc index) name less below = before_first other_name names order index name (omega (arith, below))
+before_later (other_name ∷ names) order (suc index) zero name less below = absurd (omega (arith, less))
+before_later (other_name ∷ names) order (suc index) (suc other_index) name less below = before_later names (order_rest other_name names order) index other_index name (omega (arith, less)) (omega (arith, below))
 
 -- no name is there twice
-pub one_place : (ns : List Name) → InOrder ns → (index other_index : ℕ) (name : Name) → index < length ns → other_index < length ns → get_or ns index name ≡ get_or ns other_index name → index ≡ other_index
-one_place ns order index other_index name below_j below_k same = ⊎_elim
-    (λ (less : index < other_index). absurd (not_itself (get_or ns other_index name) (subst (λ (a : Name). IsBefore a (get_or ns other_index name)) same (before_later ns order index other_index name less below_k))))
+pub one_place : (names : List Name) → InOrder names → (index other_index : ℕ) (name : Name) → index < length names → other_index < length names → get_or names index name ≡ get_or names other_index name → index ≡ other_index
+one_place names order index other_index name below_j below_k same = ⊎_elim
+    (λ (less : index < other_index). absurd (not_itself (get_or names other_index name) (subst (λ (other_name : Name). IsBefore other_name (get_or names other_index name)) same (before_later names order index other_index name less below_k))))
     (λ (least : other_index ≤ index). ⊎_elim
     (λ (is : other_index ≡ index). sym is)
-    (λ (differs : other_index ≡ index → ⊥). absurd (not_itself (get_or ns other_index name) (subst (λ (a : Name). IsBefore (get_or ns other_index name) a) same (before_later ns order other_index index name (omega (arith, least, differs)) below_j))))
+    (λ (differs : other_index ≡ index → ⊥). absurd (not_itself (get_or names other_index name) (subst (λ (other_name : Name). IsBefore (get_or names other_index name) other_name) same (before_later names order other_index index name (omega (arith, least, differs)) below_j))))
     (cases_eq other_index index))
     (cases_lt index other_index)
 
 -- a name that is there stands at its place
-pub stands_there : (ns : List Name) (name d : Name) → Contains ns name → (place_among ns name < length ns) × (get_or ns (place_among ns name) d ≡ name)
-stands_there [] name d there = absurd (Contains-nil name there)
-stands_there (a ∷ ns) name d there = ⊎_elim
+pub stands_there : (names : List Name) (name other_name : Name) → Contains names name → (place_among names name < length names) × (get_or names (place_among names name) other_name ≡ name)
+stands_there [] name other_name there = absurd (Contains-nil name there)
+stands_there (a ∷ names) name other_name there = ⊎_elim
     (λ (same : same_name a name ≡ true).
-    let first : place_among (a ∷ ns) name ≡ 0 = cond-true (same_name a name) 0 (suc (place_among ns name)) same in
-    (omega (arith, first), ap (λ k. get_or (a ∷ ns) k d) first ∙ same_name-true a name same))
+    let first : place_among (a ∷ names) name ≡ 0 = cond-true (same_name a name) 0 (suc (place_among names name)) same in
+    (omega (arith, first), ap (λ index. get_or (a ∷ names) index other_name) first ∙ same_name-true a name same))
     (λ (other : same_name a name ≡ false).
-    let later : place_among (a ∷ ns) name ≡ suc (place_among ns name) = cond-false (same_name a name) 0 (suc (place_among ns name)) other in
-    let rest : Contains ns name = ⊎_elim
+    let later : place_among (a ∷ names) name ≡ suc (place_among names name) = cond-false (same_name a name) 0 (suc (place_among names name)) other in
+    let rest : Contains names name = ⊎_elim
     (λ (is : a ≡ name). absurd (false≢true (sym other ∙ same_itself a name is)))
-    (λ (in_rest : Contains ns name). in_rest)
-    (Contains-cons_cases a ns name there) in
-    let found = stands_there ns name d rest in
-    (omega (arith, later, found.0), ap (λ k. get_or (a ∷ ns) k d) later ∙ found.1))
+    (λ (in_rest : Contains names name). in_rest)
+    (Contains-cons_cases a names name there) in
+    let found = stands_there names name other_name rest in
+    (omega (arith, later, found.0), ap (λ index. get_or (a ∷ names) index other_name) later ∙ found.1))
     (cases_Bool (same_name a name))
   where
     same_itself : (a b : Name) → a ≡ b → same_name a b ≡ true
     same_itself a b is = subst (λ (name : Name). same_name a name ≡ true) is (same_name-itself a)
 
 -- A name that is looked for comes before a place whose name is behind it, ..
-pub is_before_place : (ns : List Name) → InOrder ns → (name : Name) → Contains ns name → (index : ℕ) (other_name d : Name) → index < length ns → get_or ns index d ≡ other_name → IsBefore name other_name → place_among ns name < index
-is_before_place ns order name there index other_name d below is before =
-    let p = place_among ns name in
-    let found = stands_there ns name d there in
+pub is_before_place : (names : List Name) → InOrder names → (name : Name) → Contains names name → (index : ℕ) (other_name d : Name) → index < length names → get_or names index d ≡ other_name → IsBefore name other_name → place_among names name < index
+is_before_place names order name there index other_name d below is before =
+    let p = place_among names name in
+    let found = stands_there names name d there in
     ⊎_elim
     (λ (less : p < index). less)
     (λ (least : index ≤ p). ⊎_elim
-    (λ (same : index ≡ p). absurd (not_itself name (subst (λ (a : Name). IsBefore name a) (sym is ∙ ap (λ i. get_or ns i d) same ∙ found.1) before)))
+    (λ (same : index ≡ p). absurd (not_itself name (subst (λ (other_name : Name). IsBefore name other_name) (sym is ∙ ap (λ index. get_or names index d) same ∙ found.1) before)))
     (λ (differs : index ≡ p → ⊥).
-    let later : IsBefore other_name name = subst (λ (name : Name). IsBefore other_name name) found.1 (subst (λ (name : Name). IsBefore name (get_or ns p d)) is (before_later ns order index p d (omega (arith, least, differs)) found.0)) in
+    let later : IsBefore other_name name = subst (λ (name : Name). IsBefore other_name name) found.1 (subst (λ (name : Name). IsBefore name (get_or names p d)) is (before_later names order index p d (omega (arith, least, differs)) found.0)) in
     absurd (not_itself name (before_join name other_name name before later)))
     (cases_eq index p))
     (cases_lt p index)
 
 -- .. and at or behind any other
-pub is_not_before_place : (ns : List Name) → InOrder ns → (name : Name) → Contains ns name → (index : ℕ) (other_name d : Name) → index < length ns → get_or ns index d ≡ other_name → (IsBefore name other_name → ⊥) → index ≤ place_among ns name
-is_not_before_place ns order name there index other_name d below is not_before =
-    let p = place_among ns name in
-    let found = stands_there ns name d there in
+pub is_not_before_place : (names : List Name) → InOrder names → (name : Name) → Contains names name → (index : ℕ) (other_name d : Name) → index < length names → get_or names index d ≡ other_name → (IsBefore name other_name → ⊥) → index ≤ place_among names name
+is_not_before_place names order name there index other_name d below is not_before =
+    let p = place_among names name in
+    let found = stands_there names name d there in
     ⊎_elim
     (λ (less : p < index).
-    absurd (not_before (subst (λ (a : Name). IsBefore name a) is (subst (λ (name : Name). IsBefore name (get_or ns index d)) found.1 (before_later ns order p index d less below)))))
+    absurd (not_before (subst (λ (other_name : Name). IsBefore name other_name) is (subst (λ (name : Name). IsBefore name (get_or names index d)) found.1 (before_later names order p index d less below)))))
     (λ (least : index ≤ p). least)
     (cases_lt p index)
 

@@ -43,7 +43,7 @@ module _ (config : Config) (text : Text) (graph : Graph) (can : IsRenewable conf
   placeable = record {
     threads = threads;
     sixteen = subst (All (λ (roots : List Reference). length roots ≡ 16)) (sym shows.roots)
-        (All-map (λ (roots : List Reference). length roots ≡ 16) (λ thread. map (graph.root thread) (range_with_len 0 16)) (range_with_len 1 config.mutators) (λ k d below. length-map-range_with_len (graph.root (get_or (range_with_len 1 config.mutators) k d)) 0 16));
+        (All-map (λ (roots : List Reference). length roots ≡ 16) (λ thread. map (graph.root thread) (range_with_len 0 16)) (range_with_len 1 config.mutators) (λ index d below. length-map-range_with_len (graph.root (get_or (range_with_len 1 config.mutators) index d)) 0 16));
     in_order = shows.reach.in_order;
     short = λ k below.
         let short = reachable_short config.mutators graph can (row_of text k).name in
@@ -67,8 +67,8 @@ module _ (config : Config) (text : Text) (graph : Graph) (can : IsRenewable conf
 
   pub of_threads : AreOfThreads config.mutators (names_of text)
   of_threads = record {
-    within = λ n there. within_threads n (name_of_threads n there);
-    hub_alone = λ n there none. hub_or_made n (name_of_threads n there) none;
+    within = λ name there. within_threads name (name_of_threads name there);
+    hub_alone = λ name there none. hub_or_made name (name_of_threads name there) none;
   }
 
 module _ (config : Config) (text : Text) (whole : IsPlaceable config text) (are : AreOfThreads config.mutators (names_of text)) (counts : List ℕ) where
@@ -120,7 +120,7 @@ module _ (config : Config) (text : Text) (whole : IsPlaceable config text) (are 
     few_nums = (whole.short index below).nums;
   })
 
-  new_object : (name : Name) (o : Object) → (text_graph (text_anew text) counts).object name ≡ Some o → IsShortObject config.mutators o
+  new_object : (name : Name) (object : Object) → (text_graph (text_anew text) counts).object name ≡ Some object → IsShortObject config.mutators object
   new_object name o is =
       let there : object_in (text_anew text).rows name ≡ Some o = sym (ap (λ (object : Name → Option Object). object name) (text_objects (text_anew text) counts)) ∙ is in
       let found = row_found (text_anew text).rows name o (bare hub) there in

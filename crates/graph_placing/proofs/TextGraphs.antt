@@ -22,14 +22,14 @@ use Rattle.graph_placing.proofs.Searching.{before_first}
 -- of rows in order each name has its row's object
 pub has_object : (rows : List Row) → InOrder (map (λ r. r.name) rows) → (index : ℕ) (row : Row) → index < length rows → object_in rows (get_or rows index row).name ≡ Some (row_object (get_or rows index row))
 has_object [] order index row below = absurd (omega (arith, below))
-has_object (r ∷ rs) order zero row below = cond-true (same_name r.name r.name) (Some (row_object r)) (object_in rs r.name) (same_name-itself r.name)
-has_object (r ∷ rs) order (suc index) row below =
-    let inside : index < length rs = omega (arith, below) in
-    let there = get_or-map (λ (row : Row). row.name) rs index row r.name inside in
-    let before = before_first r.name (map (λ (row : Row). row.name) rs) order index r.name (omega (arith, inside, length_is rs)) in
-    let apart : same_name (get_or rs index row).name r.name ≡ false = same_name-flip (get_or rs index row).name r.name ∙ ap (same_name r.name) (sym there) ∙ before_apart r.name (get_or (map (λ (row : Row). row.name) rs) index r.name) before in
-    cond-false (same_name (get_or rs index row).name r.name) (Some (row_object r)) (object_in rs (get_or rs index row).name) apart
-    ∙ has_object rs (order_rest r.name (map (λ (row : Row). row.name) rs) order) index row inside
+has_object (other_row ∷ rest) order zero row below = cond-true (same_name other_row.name other_row.name) (Some (row_object other_row)) (object_in rest other_row.name) (same_name-itself other_row.name)
+has_object (other_row ∷ rest) order (suc index) row below =
+    let inside : index < length rest = omega (arith, below) in
+    let there = get_or-map (λ (row : Row). row.name) rest index row other_row.name inside in
+    let before = before_first other_row.name (map (λ (row : Row). row.name) rest) order index other_row.name (omega (arith, inside, length_is rest)) in
+    let apart : same_name (get_or rest index row).name other_row.name ≡ false = same_name-flip (get_or rest index row).name other_row.name ∙ ap (same_name other_row.name) (sym there) ∙ before_apart other_row.name (get_or (map (λ (row : Row). row.name) rest) index other_row.name) before in
+    cond-false (same_name (get_or rest index row).name other_row.name) (Some (row_object other_row)) (object_in rest (get_or rest index row).name) apart
+    ∙ has_object rest (order_rest other_row.name (map (λ (row : Row). row.name) rest) order) index row inside
   where
     length_is : (xs : List Row) → length (map (λ (row : Row). row.name) xs) ≡ length xs
     length_is [] = refl
@@ -38,12 +38,12 @@ has_object (r ∷ rs) order (suc index) row below =
 -- an object is that of a row of its name
 has_row : (rows : List Row) (name : Name) (object : Object) (row : Row) → object_in rows name ≡ Some object → (index : ℕ) × (index < length rows) × ((get_or rows index row).name ≡ name)
 has_row [] name object row is = absurd (none-some object is)
-has_row (r ∷ rs) name object row is = ⊎_elim
-    (λ (same : same_name name r.name ≡ true). (0, omega arith, sym (same_name-true name r.name same)))
-    (λ (other : same_name name r.name ≡ false).
-    let rest = has_row rs name object row (sym (cond-false (same_name name r.name) (Some (row_object r)) (object_in rs name) other) ∙ is) in
+has_row (other_row ∷ rs) name object row is = ⊎_elim
+    (λ (same : same_name name other_row.name ≡ true). (0, omega arith, sym (same_name-true name other_row.name same)))
+    (λ (other : same_name name other_row.name ≡ false).
+    let rest = has_row rs name object row (sym (cond-false (same_name name other_row.name) (Some (row_object other_row)) (object_in rs name) other) ∙ is) in
     (suc rest.0, omega (arith, rest.1), rest.2))
-    (cases_Bool (same_name name r.name))
+    (cases_Bool (same_name name other_row.name))
 
 -- a list of roots has no more than 16
 no_root : (roots : List (List Reference)) (thread index : ℕ) → All (λ (row : List Reference). length row ≡ 16) roots → 16 ≤ index → root_in ([] ∷ roots) thread index ≡ None
@@ -65,7 +65,7 @@ no_thread roots (suc thread) index beyond =
 pub is_graph : (config : Config) (text : Text) (counts : List ℕ) → IsPlaceable config text → AreGiven config text counts → IsGraphOf config text counts (text_graph text counts)
 unfolding graph_of
 is_graph config text counts whole given = record {
-  objects = λ k below. has_object text.rows whole.in_order k (bare hub) below;
+  objects = λ index below. has_object text.rows whole.in_order index (bare hub) below;
   roots = λ m i below small.
       let next : m + 1 ≡ suc m = omega arith in
       let back : m + 1 - 1 ≡ m = omega arith in
@@ -79,7 +79,7 @@ is_graph config text counts whole given = record {
       (λ (large : 16 ≤ index). no_root text.roots thread index whole.sixteen large)
       (cases_lt index 16);
   no_pins = λ thread slot. refl;
-  counts_are = λ m below. let next : m + 1 ≡ suc m = omega arith in ap (λ (k : ℕ). slice_index (0 ∷ counts) k) next;
+  counts_are = λ mutator below. let next : mutator + 1 ≡ suc mutator = omega arith in ap (λ (index : ℕ). slice_index (0 ∷ counts) index) next;
   given = λ name o is.
       let row = has_row text.rows name o (bare hub) is in
       subst (IsGiven config (text_graph text counts).count) row.2 (given row.0 row.1);

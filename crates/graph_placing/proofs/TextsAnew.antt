@@ -5,6 +5,7 @@ use Rattle.std.proofs.Math.Path.{fun_ext}
 use Rattle.std.proofs.lemmas.Bool.{cases_lt}
 use Rattle.std.proofs.lemmas.List.{get_or-map, get_or_past, length-map}
 use Rattle.std.proofs.lemmas.List.Elements.{All-map, All-weaker}
+use Rattle.shen_graph.proofs.Lists.{contains_mapped, mapped_at, mapped_from}
 use Rattle.heap_words.specs.declared.config.Config.{Config}
 use Rattle.heap_words.specs.Encoding.{plain_header, shape_word, name_code}
 use Rattle.regions.specs.Place.{base_of, region_with}
@@ -18,13 +19,13 @@ use Rattle.graph_placing.specs.PlacedHeap.{place_among, word_for, words_of_objec
 use Rattle.graph_placing.specs.PlaceableText.{IsShort, IsPlaceable}
 use Rattle.graph_placing.specs.NamesAnew.{earlier_names, name_anew, renamed, row_renamed, text_renamed, text_anew}
 use Rattle.graph_placing.proofs.Renamings.{is_renaming}
-use Rattle.graph_placing.proofs.Mapped.{contains_mapped, mapped_at, mapped_from, in_order_mapped, place_mapped}
+use Rattle.graph_placing.proofs.Mapped.{in_order_mapped, place_mapped}
 
 -- Texts with other names.
 
 names_of_rows : (f : Name → Name) (rows : List Row) → map (λ (row : Row). row.name) (map (row_renamed f) rows) ≡ map f (map (λ (row : Row). row.name) rows)
 names_of_rows f [] = refl
-names_of_rows f (r ∷ rows) = ap (λ (ns : List Name). f r.name ∷ ns) (names_of_rows f rows)
+names_of_rows f (row ∷ rows) = ap (λ (ns : List Name). f row.name ∷ ns) (names_of_rows f rows)
 
 pub names_renamed : (f : Name → Name) (text : Text) → names_of (text_renamed f text) ≡ map f (names_of text)
 names_renamed f text = names_of_rows f text.rows
@@ -39,16 +40,16 @@ pub root_is : (f : Name → Name) (text : Text) (thread index : ℕ) → root_of
 root_is f text thread index =
     ap (λ (row : List Reference). get_or row index None) (mapped_at (map (renamed f)) text.roots (thread - 1) []) ∙ mapped_at (renamed f) (roots_of text thread) index None
 
-pub words_at : (f : Name → Name) (text : Text) (k : ℕ) → words_of_row (text_renamed f text) k ≡ words_of_row text k
-words_at f text k = ⊎_elim
-    (λ (below : k < length text.rows).
-    ap (λ (row : Row). 3 + length row.refs + length row.nums) (row_is f text k below) ∙ ap (λ i. 3 + i + length (row_of text k).nums) (length-map (row_of text k).refs (renamed f)))
-    (λ (past : length text.rows ≤ k).
-    ap (λ (row : Row). 3 + length row.refs + length row.nums) (get_or_past (text_renamed f text).rows k (bare hub) (omega (arith, past, rows_count f text)) ∙ sym (get_or_past text.rows k (bare hub) past)))
-    (cases_lt k (length text.rows))
+pub words_at : (f : Name → Name) (text : Text) (index : ℕ) → words_of_row (text_renamed f text) index ≡ words_of_row text index
+words_at f text index = ⊎_elim
+    (λ (below : index < length text.rows).
+    ap (λ (row : Row). 3 + length row.refs + length row.nums) (row_is f text index below) ∙ ap (λ i. 3 + i + length (row_of text index).nums) (length-map (row_of text index).refs (renamed f)))
+    (λ (past : length text.rows ≤ index).
+    ap (λ (row : Row). 3 + length row.refs + length row.nums) (get_or_past (text_renamed f text).rows index (bare hub) (omega (arith, past, rows_count f text)) ∙ sym (get_or_past text.rows index (bare hub) past)))
+    (cases_lt index (length text.rows))
 
 pub words_are : (f : Name → Name) (text : Text) → words_of_row (text_renamed f text) ≡ words_of_row text
-words_are f text = fun_ext (λ k. words_at f text k)
+words_are f text = fun_ext (λ index. words_at f text index)
 
 pub address_is : (config : Config) (f : Name → Name) (text : Text) (k : ℕ) → address_of config (text_renamed f text) k ≡ address_of config text k
 address_is config f text k = ap (λ (words : ℕ → ℕ). new_place config.region_words none_shut words k) (words_are f text)
@@ -57,15 +58,15 @@ address_is config f text k = ap (λ (words : ℕ → ℕ). new_place config.regi
 abbrev used_step : Config → (address words before region : ℕ) → ℕ
 used_step config address words before region = if region_with config address == region then address + words - base_of config region else before
 
-same_step : (config : Config) (a b m n x y r : ℕ) → a ≡ b → m ≡ n → x ≡ y → used_step config a m x r ≡ used_step config b n y r
-same_step config a b m n x y r is long rest = ap (λ i. used_step config i m x r) is ∙ ap (λ i. used_step config b i x r) long ∙ ap (λ i. used_step config b n i r) rest
+same_step : (config : Config) (address other_address words other_words x y region : ℕ) → address ≡ other_address → words ≡ other_words → x ≡ y → used_step config address words x region ≡ used_step config other_address other_words y region
+same_step config address other_address words other_words x y region is long rest = ap (λ address. used_step config address words x region) is ∙ ap (λ words. used_step config other_address words x region) long ∙ ap (λ i. used_step config other_address other_words i region) rest
 
-pub used_is : (config : Config) (f : Name → Name) (text : Text) (k r : ℕ) → used_words config (text_renamed f text) k r ≡ used_words config text k r
+pub used_is : (config : Config) (f : Name → Name) (text : Text) (k region : ℕ) → used_words config (text_renamed f text) k region ≡ used_words config text k region
 unfolding used_words
-used_is config f text zero r = refl
-used_is config f text (suc k) r =
-    same_step config (address_of config (text_renamed f text) k) (address_of config text k) (words_of_row (text_renamed f text) k) (words_of_row text k) (used_words config (text_renamed f text) k r) (used_words config text k r) r
-    (address_is config f text k) (words_at f text k) (used_is config f text k r)
+used_is config f text zero region = refl
+used_is config f text (suc index) region =
+    same_step config (address_of config (text_renamed f text) index) (address_of config text index) (words_of_row (text_renamed f text) index) (words_of_row text index) (used_words config (text_renamed f text) index region) (used_words config text index region) region
+    (address_is config f text index) (words_at f text index) (used_is config f text index region)
 
 pub fits_anew : (config : Config) (f : Name → Name) (text : Text) → Fits config text → Fits config (text_renamed f text)
 fits_anew config f text fits =
@@ -91,52 +92,52 @@ module _ (config : Config) (text : Text) (whole : IsPlaceable config text) where
   abbrev names : List Name
   names = names_of text
 
-  abbrev f : Name → Name
-  f = name_anew names
+  abbrev anew : Name → Name
+  anew = name_anew names
 
   -- A text whose objects are named anew can be placed.
 
   in_order : InOrder (names_of (text_anew text))
-  in_order = subst InOrder (sym (names_renamed f text)) (in_order_mapped f names (is_renaming names whole.in_order).order whole.in_order)
+  in_order = subst InOrder (sym (names_renamed anew text)) (in_order_mapped anew names (is_renaming names whole.in_order).order whole.in_order)
 
-  has_row : (reference : Reference) (name : Name) → ((old : Name) → reference ≡ Some old → Contains names old) → renamed f reference ≡ Some name → Contains (names_of (text_anew text)) name
+  has_row : (reference : Reference) (name : Name) → ((old : Name) → reference ≡ Some old → Contains names old) → renamed anew reference ≡ Some name → Contains (names_of (text_anew text)) name
   has_row None name there is = absurd (cc)
   has_row (Some old) name there is =
-      let new : f old ≡ name = cc in
-      subst (λ (ns : List Name). Contains ns name) (sym (names_renamed f text)) (subst (Contains (map f names)) new (contains_mapped f names old (there old refl)))
+      let new : anew old ≡ name = cc in
+      subst (λ (ns : List Name). Contains ns name) (sym (names_renamed anew text)) (subst (Contains (map anew names)) new (contains_mapped anew names old (there old refl)))
 
   pub placeable_anew : IsPlaceable config (text_anew text)
   placeable_anew = record {
-    threads = length-map text.roots (map (renamed f)) ∙ whole.threads;
-    sixteen = All-map (λ (row : List Reference). length row ≡ 16) (map (renamed f)) text.roots
-        (All-weaker (λ (row : List Reference). length row ≡ 16) (λ (row : List Reference). length (map (renamed f) row) ≡ 16) (λ row long. length-map row (renamed f) ∙ long) text.roots whole.sixteen);
+    threads = length-map text.roots (map (renamed anew)) ∙ whole.threads;
+    sixteen = All-map (λ (row : List Reference). length row ≡ 16) (map (renamed anew)) text.roots
+        (All-weaker (λ (row : List Reference). length row ≡ 16) (λ (row : List Reference). length (map (renamed anew) row) ≡ 16) (λ row long. length-map row (renamed anew) ∙ long) text.roots whole.sixteen);
     in_order = in_order;
     short = λ k below.
-        let inside : k < length text.rows = omega (arith, below, rows_count f text) in
+        let inside : k < length text.rows = omega (arith, below, rows_count anew text) in
         let short = whole.short k inside in
-        subst IsShort (sym (row_is f text k inside)) (record { refs = omega (arith, length-map (row_of text k).refs (renamed f), short.refs); nums = short.nums });
+        subst IsShort (sym (row_is anew text k inside)) (record { refs = omega (arith, length-map (row_of text k).refs (renamed anew), short.refs); nums = short.nums });
     references = λ k i name below is.
-        let inside : k < length text.rows = omega (arith, below, rows_count f text) in
-        let old = mapped_from (renamed f) (row_of text k).refs i (Some name) (ap (λ (row : Row). slice_get row.refs i) (sym (row_is f text k inside)) ∙ is) in
+        let inside : k < length text.rows = omega (arith, below, rows_count anew text) in
+        let old = mapped_from (renamed anew) (row_of text k).refs i (Some name) (ap (λ (row : Row). slice_get row.refs i) (sym (row_is anew text k inside)) ∙ is) in
         has_row old.0 name (λ n names_it. whole.references k i n inside (old.1 ∙ ap (λ (reference : Reference). Some reference) names_it)) old.2;
     roots = λ thread index name low high small is.
-        has_row (root_of text thread index) name (λ n names_it. whole.roots thread index n low high small names_it) (sym (root_is f text thread index) ∙ is);
+        has_row (root_of text thread index) name (λ n names_it. whole.roots thread index n low high small names_it) (sym (root_is anew text thread index) ∙ is);
   }
 
   -- References lead to the same addresses.
-  pub word_is : (reference : Reference) → ((name : Name) → reference ≡ Some name → Contains names name) → word_for config (text_anew text) (renamed f reference) ≡ word_for config text reference
+  pub word_is : (reference : Reference) → ((name : Name) → reference ≡ Some name → Contains names name) → word_for config (text_anew text) (renamed anew reference) ≡ word_for config text reference
   word_is None there = refl
   word_is (Some name) there =
-      let at : place_among (names_of (text_anew text)) (f name) ≡ place_among names name =
-      ap (λ (ns : List Name). place_among ns (f name)) (names_renamed f text) ∙ place_mapped f names name (λ m in_m same. (is_renaming names whole.in_order).one_to_one m name in_m (there name refl) same) in
-      ap (address_of config (text_anew text)) at ∙ address_is config f text (place_among names name)
+      let at : place_among (names_of (text_anew text)) (anew name) ≡ place_among names name =
+      ap (λ (ns : List Name). place_among ns (anew name)) (names_renamed anew text) ∙ place_mapped anew names name (λ other_name in_m same. (is_renaming names whole.in_order).one_to_one other_name name in_m (there name refl) same) in
+      ap (address_of config (text_anew text)) at ∙ address_is config anew text (place_among names name)
 
   -- An object's words, with its new name
   pub object_is : (index : ℕ) → index < length text.rows → words_of_object (word_for config (text_anew text)) (row_of (text_anew text) index)
       ≡ plain_header ∷ shape_word (length (row_of text index).refs) (length (row_of text index).nums) ∷ name_code (row_of text index).name.thread (earlier_names names (row_of text index).name + 1) ∷ map (word_for config text) (row_of text index).refs ++ (row_of text index).nums
   object_is index below =
       let r = row_of text index in
-      ap (words_of_object (word_for config (text_anew text))) (row_is f text index below)
-      ∙ ap (λ (n : ℕ). plain_header ∷ shape_word n (length r.nums) ∷ name_code r.name.thread (earlier_names names r.name + 1) ∷ map (word_for config (text_anew text)) (map (renamed f) r.refs) ++ r.nums) (length-map r.refs (renamed f))
+      ap (words_of_object (word_for config (text_anew text))) (row_is anew text index below)
+      ∙ ap (λ (n : ℕ). plain_header ∷ shape_word n (length r.nums) ∷ name_code r.name.thread (earlier_names names r.name + 1) ∷ map (word_for config (text_anew text)) (map (renamed anew) r.refs) ++ r.nums) (length-map r.refs (renamed anew))
       ∙ ap (λ (xs : List ℕ). plain_header ∷ shape_word (length r.refs) (length r.nums) ∷ name_code r.name.thread (earlier_names names r.name + 1) ∷ xs ++ r.nums)
-      (words_mapped f (word_for config text) (word_for config (text_anew text)) r.refs (λ i reference is. word_is reference (λ name names_it. whole.references index i name below (is ∙ ap (λ (reference : Reference). Some reference) names_it))))
+      (words_mapped anew (word_for config text) (word_for config (text_anew text)) r.refs (λ i reference is. word_is reference (λ name names_it. whole.references index i name below (is ∙ ap (λ (reference : Reference). Some reference) names_it))))

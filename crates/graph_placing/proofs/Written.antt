@@ -16,43 +16,43 @@ use Rattle.graph_placing.proofs.Located as located
 
 -- One word after the other.
 
-copied_inside : (a n address : ℕ) (list : List ℕ) (memory : Word → ℕ) → a ≤ address → address < a + n → copied a n list memory (Heap address) ≡ get_or list (address - a) 0
-copied_inside a n address list memory low high = cond-true (nat_le a address && nat_lt address (a + n)) (get_or list (address - a) 0) (memory (Heap address)) (and_from _ _ (le-leb a address low) (lt-ltb address (a + n) high))
+copied_inside : (other_address words address : ℕ) (list : List ℕ) (memory : Word → ℕ) → other_address ≤ address → address < other_address + words → copied other_address words list memory (Heap address) ≡ get_or list (address - other_address) 0
+copied_inside a words address list memory low high = cond-true (nat_le a address && nat_lt address (a + words)) (get_or list (address - a) 0) (memory (Heap address)) (and_from _ _ (le-leb a address low) (lt-ltb address (a + words) high))
 
-copied_outside : (a n address : ℕ) (list : List ℕ) (memory : Word → ℕ) → (a ≤ address → address < a + n → ⊥) → copied a n list memory (Heap address) ≡ memory (Heap address)
-copied_outside a n address list memory apart =
-    cond-false (nat_le a address && nat_lt address (a + n)) (get_or list (address - a) 0) (memory (Heap address))
-    (false_from_ne_true (nat_le a address && nat_lt address (a + n)) (λ both. let parts = and_parts (nat_le a address) (nat_lt address (a + n)) both in apart (leb-true a address parts.0) (ltb-true address (a + n) parts.1)))
+copied_outside : (other_address words address : ℕ) (list : List ℕ) (memory : Word → ℕ) → (other_address ≤ address → address < other_address + words → ⊥) → copied other_address words list memory (Heap address) ≡ memory (Heap address)
+copied_outside a words address list memory apart =
+    cond-false (nat_le a address && nat_lt address (a + words)) (get_or list (address - a) 0) (memory (Heap address))
+    (false_from_ne_true (nat_le a address && nat_lt address (a + words)) (λ both. let parts = and_parts (nat_le a address) (nat_lt address (a + words)) both in apart (leb-true a address parts.0) (ltb-true address (a + words) parts.1)))
 
-pub copied_none : (a : ℕ) (list : List ℕ) (memory : Word → ℕ) → memory ≡ copied a 0 list memory
-copied_none a list memory = fun_ext (λ word. at word)
+pub copied_none : (address : ℕ) (list : List ℕ) (memory : Word → ℕ) → memory ≡ copied address 0 list memory
+copied_none address list memory = fun_ext (λ word. at word)
   where
-    at : (word : Word) → memory word ≡ copied a 0 list memory word
-    at (Heap x) = sym (copied_outside a 0 x list memory (λ low high. omega (arith, low, high)))
+    at : (word : Word) → memory word ≡ copied address 0 list memory word
+    at (Heap x) = sym (copied_outside address 0 x list memory (λ low high. omega (arith, low, high)))
     at _ = refl
 
-pub copied_more : (address n : ℕ) (list : List ℕ) (memory : Word → ℕ) → write (copied address n list memory) (Heap (address + n)) (get_or list n 0) ≡ copied address (n + 1) list memory
-copied_more address n list memory = fun_ext (λ word. at word)
+pub copied_more : (address words : ℕ) (list : List ℕ) (memory : Word → ℕ) → write (copied address words list memory) (Heap (address + words)) (get_or list words 0) ≡ copied address (words + 1) list memory
+copied_more address words list memory = fun_ext (λ word. at word)
   where
-    at : (word : Word) → write (copied address n list memory) (Heap (address + n)) (get_or list n 0) word ≡ copied address (n + 1) list memory word
+    at : (word : Word) → write (copied address words list memory) (Heap (address + words)) (get_or list words 0) word ≡ copied address (words + 1) list memory word
     at (Heap x) = ⊎_elim
-        (λ (here : address + n ≡ x).
-        let index : n ≡ x - address = omega (arith, here) in
-        cond-true (address + n == x) (get_or list n 0) (copied address n list memory (Heap x)) (eq-eqb _ _ here) ∙ ap (λ k. get_or list k 0) index
-        ∙ sym (copied_inside address (n + 1) x list memory (omega (arith, here)) (omega (arith, here))))
-        (λ (elsewhere : address + n ≢ x).
-        cond-false (address + n == x) (get_or list n 0) (copied address n list memory (Heap x)) (ne_eqb _ _ elsewhere)
+        (λ (here : address + words ≡ x).
+        let index : words ≡ x - address = omega (arith, here) in
+        cond-true (address + words == x) (get_or list words 0) (copied address words list memory (Heap x)) (eq-eqb _ _ here) ∙ ap (λ index. get_or list index 0) index
+        ∙ sym (copied_inside address (words + 1) x list memory (omega (arith, here)) (omega (arith, here))))
+        (λ (elsewhere : address + words ≢ x).
+        cond-false (address + words == x) (get_or list words 0) (copied address words list memory (Heap x)) (ne_eqb _ _ elsewhere)
         ∙ ⊎_elim
-        (λ (inside : nat_le address x && nat_lt x (address + n) ≡ true).
-        let parts = and_parts (nat_le address x) (nat_lt x (address + n)) inside in
+        (λ (inside : nat_le address x && nat_lt x (address + words) ≡ true).
+        let parts = and_parts (nat_le address x) (nat_lt x (address + words)) inside in
         let low = leb-true address x parts.0 in
-        let high = ltb-true x (address + n) parts.1 in
-        copied_inside address n x list memory low high ∙ sym (copied_inside address (n + 1) x list memory low (omega (arith, high))))
-        (λ (apart : nat_le address x && nat_lt x (address + n) ≡ false).
-        cond-false (nat_le address x && nat_lt x (address + n)) (get_or list (x - address) 0) (memory (Heap x)) apart
-        ∙ sym (copied_outside address (n + 1) x list memory (λ low high. let yes : nat_le address x && nat_lt x (address + n) ≡ true = and_from _ _ (le-leb address x low) (lt-ltb x (address + n) (omega (arith, high, elsewhere))) in cc)))
-        (cases_Bool (nat_le address x && nat_lt x (address + n))))
-        (cases_eq (address + n) x)
+        let high = ltb-true x (address + words) parts.1 in
+        copied_inside address words x list memory low high ∙ sym (copied_inside address (words + 1) x list memory low (omega (arith, high))))
+        (λ (apart : nat_le address x && nat_lt x (address + words) ≡ false).
+        cond-false (nat_le address x && nat_lt x (address + words)) (get_or list (x - address) 0) (memory (Heap x)) apart
+        ∙ sym (copied_outside address (words + 1) x list memory (λ low high. let yes : nat_le address x && nat_lt x (address + words) ≡ true = and_from _ _ (le-leb address x low) (lt-ltb x (address + words) (omega (arith, high, elsewhere))) in cc)))
+        (cases_Bool (nat_le address x && nat_lt x (address + words))))
+        (cases_eq (address + words) x)
     at _ = refl
 
 -- Row after row.
@@ -92,8 +92,8 @@ rows_more config text k = fun_ext (λ word. at word)
 rows_other : (config : Config) (text : Text) (k : ℕ) (word : Word) → is_content word ≡ false → rows_placed config text k word ≡ 0
 unfolding rows_placed
 rows_other config text zero word apart = refl
-rows_other config text (suc k) (Heap x) apart = absurd cc
-rows_other config text (suc k) (Top r) apart = absurd cc
+rows_other config text (suc k) (Heap address) apart = absurd cc
+rows_other config text (suc k) (Top region) apart = absurd cc
 rows_other config text (suc k) word apart = rows_other config text k word apart
 
 rows_root : (config : Config) (text : Text) (k mutator index : ℕ) → rows_placed config text k (Root mutator index) ≡ 0
@@ -103,19 +103,19 @@ rows_root config text (suc k) mutator index = rows_root config text k mutator in
 
 -- Root after root.
 
-stored_there : (config : Config) (text : Text) (u n mutator index : ℕ) (memory : Word → ℕ) → mutator ≡ u → index < n → roots_stored config text u n memory (Root mutator index) ≡ word_for config text (root_of text (mutator + 1) index)
-stored_there config text u n mutator index memory same below = cond-true ((mutator == u) && nat_lt index n) (word_for config text (root_of text (mutator + 1) index)) (memory (Root mutator index)) (and_from _ _ (eq-eqb mutator u same) (lt-ltb index n below))
+stored_there : (config : Config) (text : Text) (other_mutator roots mutator index : ℕ) (memory : Word → ℕ) → mutator ≡ other_mutator → index < roots → roots_stored config text other_mutator roots memory (Root mutator index) ≡ word_for config text (root_of text (mutator + 1) index)
+stored_there config text u roots mutator index memory same below = cond-true ((mutator == u) && nat_lt index roots) (word_for config text (root_of text (mutator + 1) index)) (memory (Root mutator index)) (and_from _ _ (eq-eqb mutator u same) (lt-ltb index roots below))
 
-stored_elsewhere : (config : Config) (text : Text) (u n mutator index : ℕ) (memory : Word → ℕ) → (mutator ≡ u → index < n → ⊥) → roots_stored config text u n memory (Root mutator index) ≡ memory (Root mutator index)
-stored_elsewhere config text u n mutator index memory apart =
-    cond-false ((mutator == u) && nat_lt index n) (word_for config text (root_of text (mutator + 1) index)) (memory (Root mutator index))
-    (false_from_ne_true ((mutator == u) && nat_lt index n) (λ both. let parts = and_parts (mutator == u) (nat_lt index n) both in apart (eqb-true mutator u parts.0) (ltb-true index n parts.1)))
+stored_elsewhere : (config : Config) (text : Text) (other_mutator roots mutator index : ℕ) (memory : Word → ℕ) → (mutator ≡ other_mutator → index < roots → ⊥) → roots_stored config text other_mutator roots memory (Root mutator index) ≡ memory (Root mutator index)
+stored_elsewhere config text u roots mutator index memory apart =
+    cond-false ((mutator == u) && nat_lt index roots) (word_for config text (root_of text (mutator + 1) index)) (memory (Root mutator index))
+    (false_from_ne_true ((mutator == u) && nat_lt index roots) (λ both. let parts = and_parts (mutator == u) (nat_lt index roots) both in apart (eqb-true mutator u parts.0) (ltb-true index roots parts.1)))
 
-pub stored_none : (config : Config) (text : Text) (u : ℕ) (memory : Word → ℕ) → memory ≡ roots_stored config text u 0 memory
-stored_none config text u memory = fun_ext (λ word. at word)
+pub stored_none : (config : Config) (text : Text) (mutator : ℕ) (memory : Word → ℕ) → memory ≡ roots_stored config text mutator 0 memory
+stored_none config text mutator memory = fun_ext (λ word. at word)
   where
-    at : (word : Word) → memory word ≡ roots_stored config text u 0 memory word
-    at (Root m i) = sym (stored_elsewhere config text u 0 m i memory (λ same below. omega (arith, below)))
+    at : (word : Word) → memory word ≡ roots_stored config text mutator 0 memory word
+    at (Root m i) = sym (stored_elsewhere config text mutator 0 m i memory (λ same below. omega (arith, below)))
     at _ = refl
 
 pub stored_more : (config : Config) (text : Text) (mutator index : ℕ) (memory : Word → ℕ) → write (roots_stored config text mutator index memory) (Root mutator index) (word_for config text (root_of text (mutator + 1) index)) ≡ roots_stored config text mutator (index + 1) memory
@@ -148,13 +148,13 @@ stored_more config text mutator index memory = fun_ext (λ word. at word)
         (cases_Bool ((mutator == m) && (index == i)))
     at _ = refl
 
-all_there : (config : Config) (text : Text) (n mutator index : ℕ) (memory : Word → ℕ) → mutator < n → index < 16 → all_roots_stored config text n memory (Root mutator index) ≡ word_for config text (root_of text (mutator + 1) index)
-all_there config text n mutator index memory below small = cond-true (nat_lt mutator n && nat_lt index 16) (word_for config text (root_of text (mutator + 1) index)) (memory (Root mutator index)) (and_from _ _ (lt-ltb mutator n below) (lt-ltb index 16 small))
+all_there : (config : Config) (text : Text) (mutators mutator index : ℕ) (memory : Word → ℕ) → mutator < mutators → index < 16 → all_roots_stored config text mutators memory (Root mutator index) ≡ word_for config text (root_of text (mutator + 1) index)
+all_there config text mutators mutator index memory below small = cond-true (nat_lt mutator mutators && nat_lt index 16) (word_for config text (root_of text (mutator + 1) index)) (memory (Root mutator index)) (and_from _ _ (lt-ltb mutator mutators below) (lt-ltb index 16 small))
 
-all_elsewhere : (config : Config) (text : Text) (n mutator index : ℕ) (memory : Word → ℕ) → (mutator < n → index < 16 → ⊥) → all_roots_stored config text n memory (Root mutator index) ≡ memory (Root mutator index)
-all_elsewhere config text n mutator index memory apart =
-    cond-false (nat_lt mutator n && nat_lt index 16) (word_for config text (root_of text (mutator + 1) index)) (memory (Root mutator index))
-    (false_from_ne_true (nat_lt mutator n && nat_lt index 16) (λ both. let parts = and_parts (nat_lt mutator n) (nat_lt index 16) both in apart (ltb-true mutator n parts.0) (ltb-true index 16 parts.1)))
+all_elsewhere : (config : Config) (text : Text) (mutators mutator index : ℕ) (memory : Word → ℕ) → (mutator < mutators → index < 16 → ⊥) → all_roots_stored config text mutators memory (Root mutator index) ≡ memory (Root mutator index)
+all_elsewhere config text mutators mutator index memory apart =
+    cond-false (nat_lt mutator mutators && nat_lt index 16) (word_for config text (root_of text (mutator + 1) index)) (memory (Root mutator index))
+    (false_from_ne_true (nat_lt mutator mutators && nat_lt index 16) (λ both. let parts = and_parts (nat_lt mutator mutators) (nat_lt index 16) both in apart (ltb-true mutator mutators parts.0) (ltb-true index 16 parts.1)))
 
 pub all_none : (config : Config) (text : Text) (memory : Word → ℕ) → memory ≡ all_roots_stored config text 0 memory
 all_none config text memory = fun_ext (λ word. at word)
@@ -163,23 +163,23 @@ all_none config text memory = fun_ext (λ word. at word)
     at (Root m i) = sym (all_elsewhere config text 0 m i memory (λ below small. omega (arith, below)))
     at _ = refl
 
-pub all_more : (config : Config) (text : Text) (n : ℕ) (memory : Word → ℕ) → roots_stored config text n 16 (all_roots_stored config text n memory) ≡ all_roots_stored config text (n + 1) memory
-all_more config text n memory = fun_ext (λ word. at word)
+pub all_more : (config : Config) (text : Text) (mutators : ℕ) (memory : Word → ℕ) → roots_stored config text mutators 16 (all_roots_stored config text mutators memory) ≡ all_roots_stored config text (mutators + 1) memory
+all_more config text mutators memory = fun_ext (λ word. at word)
   where
-    at : (word : Word) → roots_stored config text n 16 (all_roots_stored config text n memory) word ≡ all_roots_stored config text (n + 1) memory word
+    at : (word : Word) → roots_stored config text mutators 16 (all_roots_stored config text mutators memory) word ≡ all_roots_stored config text (mutators + 1) memory word
     at (Root m i) = ⊎_elim
         (λ (small : i < 16). ⊎_elim
-        (λ (here : m ≡ n). stored_there config text n 16 m i (all_roots_stored config text n memory) here small ∙ sym (all_there config text (n + 1) m i memory (omega (arith, here)) small))
-        (λ (elsewhere : m ≢ n).
-        stored_elsewhere config text n 16 m i (all_roots_stored config text n memory) (λ same below. elsewhere same)
+        (λ (here : m ≡ mutators). stored_there config text mutators 16 m i (all_roots_stored config text mutators memory) here small ∙ sym (all_there config text (mutators + 1) m i memory (omega (arith, here)) small))
+        (λ (elsewhere : m ≢ mutators).
+        stored_elsewhere config text mutators 16 m i (all_roots_stored config text mutators memory) (λ same below. elsewhere same)
         ∙ ⊎_elim
-        (λ (below : m < n). all_there config text n m i memory below small ∙ sym (all_there config text (n + 1) m i memory (omega (arith, below)) small))
-        (λ (past : n ≤ m). all_elsewhere config text n m i memory (λ low few. omega (arith, low, past)) ∙ sym (all_elsewhere config text (n + 1) m i memory (λ low few. omega (arith, low, past, elsewhere))))
-        (cases_lt m n))
-        (cases_eq m n))
+        (λ (below : m < mutators). all_there config text mutators m i memory below small ∙ sym (all_there config text (mutators + 1) m i memory (omega (arith, below)) small))
+        (λ (past : mutators ≤ m). all_elsewhere config text mutators m i memory (λ low few. omega (arith, low, past)) ∙ sym (all_elsewhere config text (mutators + 1) m i memory (λ low few. omega (arith, low, past, elsewhere))))
+        (cases_lt m mutators))
+        (cases_eq m mutators))
         (λ (large : 16 ≤ i).
-        stored_elsewhere config text n 16 m i (all_roots_stored config text n memory) (λ same below. omega (arith, below, large))
-        ∙ all_elsewhere config text n m i memory (λ low few. omega (arith, few, large)) ∙ sym (all_elsewhere config text (n + 1) m i memory (λ low few. omega (arith, few, large))))
+        stored_elsewhere config text mutators 16 m i (all_roots_stored config text mutators memory) (λ same below. omega (arith, below, large))
+        ∙ all_elsewhere config text mutators m i memory (λ low few. omega (arith, few, large)) ∙ sym (all_elsewhere config text (mutators + 1) m i memory (λ low few. omega (arith, few, large))))
         (cases_lt i 16)
     at _ = refl
 
@@ -189,7 +189,7 @@ all_more config text n memory = fun_ext (λ word. at word)
 abbrev pub written : Config → Text → Word → ℕ
 written config text =
     let rooted : Word → ℕ = all_roots_stored config text config.mutators (rows_placed config text (length text.rows)) in
-    write (write rooted Free (empty_regions (λ r. rooted (Top r)) config.regions)) Left config.mutators
+    write (write rooted Free (empty_regions (λ region. rooted (Top region)) config.regions)) Left config.mutators
 
 pub written_is : (config : Config) (text : Text) → written config text ≡ all_placed config text
 written_is config text = fun_ext (λ word. at word)
@@ -230,14 +230,14 @@ module _ (config : Config) (text : Text) (whole : IsPlaceable config text) where
   others_are_0 : (word : Word) → is_content word ≡ false → all_placed config text word ≡ 0
   others_are_0 Left apart = absurd cc
   others_are_0 Free apart = absurd cc
-  others_are_0 (Root m i) apart = absurd cc
+  others_are_0 (Root mutator index) apart = absurd cc
   others_are_0 word apart = rows_other config text (length text.rows) word apart
 
   pub is_placed : IsPlaced config text (all_placed config text)
   is_placed = record {
     objects = λ k i below inside. rows_object (length text.rows) k i below inside;
-    unused = λ x none. rows_unused (length text.rows) x none;
-    tops = λ r. top_is config text (length text.rows) r;
+    unused = λ address none. rows_unused (length text.rows) address none;
+    tops = λ region. top_is config text (length text.rows) region;
     free = refl;
     roots = λ m i below small. cond-true (nat_lt m config.mutators && nat_lt i 16) (word_for config text (root_of text (m + 1) i)) 0 (and_from _ _ (lt-ltb m config.mutators below) (lt-ltb i 16 small));
     left = refl;

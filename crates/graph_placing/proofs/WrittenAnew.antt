@@ -14,7 +14,7 @@ use Rattle.graph_placing.specs.PlacedHeap.{word_for, words_of_object, is_content
 use Rattle.graph_placing.specs.PlaceableText.{IsPlaceable}
 use Rattle.graph_placing.proofs.Located as located
 use Rattle.graph_placing.specs.NamesAnew.{earlier_names, name_anew, text_anew}
-use Rattle.graph_placing.specs.Renewing.{names_written}
+use Rattle.graph_placing.specs.NamesRewritten.{names_written}
 use Rattle.graph_placing.proofs.TextsAnew as anew
 
 -- the word of the new name of a row's object
@@ -52,13 +52,13 @@ written_elsewhere config text (suc n) address memory apart =
 
 -- .. and words that are not of the heap
 abbrev is_outside : Word → Bool
-is_outside (Heap x) = false
+is_outside (Heap address) = false
 is_outside word = true
 
 written_outside : (config : Config) (text : Text) (n : ℕ) (word : Word) (memory : Word → ℕ) → is_outside word ≡ true → names_written config text n memory word ≡ memory word
 unfolding names_written
 written_outside config text zero word memory outside = refl
-written_outside config text (suc n) (Heap x) memory outside = absurd cc
+written_outside config text (suc n) (Heap address) memory outside = absurd cc
 written_outside config text (suc n) word memory outside = written_outside config text n word memory outside
 
 module _ (config : Config) (text : Text) (whole : IsPlaceable config text) where
@@ -91,8 +91,8 @@ module _ (config : Config) (text : Text) (whole : IsPlaceable config text) where
     abbrev n : ℕ
     n = length text.rows
 
-    abbrev f : Name → Name
-    f = name_anew (names_of text)
+    abbrev renamed : Name → Name
+    renamed = name_anew (names_of text)
 
     abbrev new : Word → ℕ
     new = names_written config text n memory
@@ -116,18 +116,18 @@ module _ (config : Config) (text : Text) (whole : IsPlaceable config text) where
     pub placed_anew : IsPlaced config (text_anew text) new
     placed_anew = record {
       objects = λ k i below inside.
-          let row : k < n = omega (arith, below, anew.rows_count f text) in
-          ap (λ (a : ℕ). new (Heap (a + i))) (anew.address_is config f text k) ∙ object_word k i row (omega (arith, inside, anew.words_at f text k));
+          let row : k < n = omega (arith, below, anew.rows_count renamed text) in
+          ap (λ (a : ℕ). new (Heap (a + i))) (anew.address_is config renamed text k) ∙ object_word k i row (omega (arith, inside, anew.words_at renamed text k));
       unused = λ x none.
           written_elsewhere config text n x memory (λ k below same.
-          none k 2 (omega (arith, below, anew.rows_count f text)) (omega (arith, anew.words_at f text k, located.some_words config text whole k)) (omega (arith, same, anew.address_is config f text k)))
+          none k 2 (omega (arith, below, anew.rows_count renamed text)) (omega (arith, anew.words_at renamed text k, located.some_words config text whole k)) (omega (arith, same, anew.address_is config renamed text k)))
           ∙ placed.unused x (λ k i below inside same.
-          none k i (omega (arith, below, anew.rows_count f text)) (omega (arith, inside, anew.words_at f text k)) (omega (arith, same, anew.address_is config f text k)));
-      tops = λ r. written_outside config text n (Top r) memory refl ∙ placed.tops r ∙ sym (anew.used_is config f text n r) ∙ ap (λ (k : ℕ). used_words config (text_anew text) k r) (sym (anew.rows_count f text));
-      free = written_outside config text n Free memory refl ∙ placed.free ∙ ap (λ (top : ℕ → ℕ). empty_regions top config.regions) (fun_ext (λ r. sym (written_outside config text n (Top r) memory refl)));
+          none k i (omega (arith, below, anew.rows_count renamed text)) (omega (arith, inside, anew.words_at renamed text k)) (omega (arith, same, anew.address_is config renamed text k)));
+      tops = λ region. written_outside config text n (Top region) memory refl ∙ placed.tops region ∙ sym (anew.used_is config renamed text n region) ∙ ap (λ (k : ℕ). used_words config (text_anew text) k region) (sym (anew.rows_count renamed text));
+      free = written_outside config text n Free memory refl ∙ placed.free ∙ ap (λ (top : ℕ → ℕ). empty_regions top config.regions) (fun_ext (λ region. sym (written_outside config text n (Top region) memory refl)));
       roots = λ u i below small.
           written_outside config text n (Root u i) memory refl ∙ placed.roots u i below small
-          ∙ sym (ap (word_for config (text_anew text)) (anew.root_is f text (u + 1) i)
+          ∙ sym (ap (word_for config (text_anew text)) (anew.root_is renamed text (u + 1) i)
           ∙ anew.word_is config text whole (root_of text (u + 1) i) (λ name names_it. whole.roots (u + 1) i name (omega arith) (omega (arith, below)) small names_it));
       left = written_outside config text n Left memory refl ∙ placed.left;
       others = λ word apart. written_outside config text n word memory (not_heap word apart) ∙ placed.others word apart;

@@ -8,5 +8,5 @@ pub mod NamesAnew
 pub mod Renaming
 pub mod SameGraph
 pub mod Renewable
-pub mod Renewing
+pub mod NamesRewritten
 pub mod Renewed

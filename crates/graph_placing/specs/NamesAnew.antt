@@ -12,12 +12,12 @@ is_earlier name other_name = (other_name.thread == name.thread) && nat_lt other_
 -- how many of some names are of the same thread and come before
 abbrev pub earlier_names : List Name → Name → ℕ
 earlier_names [] name = 0
-earlier_names (m ∷ ms) name = (if is_earlier name m then 1 else 0) + earlier_names ms name
+earlier_names (other_name ∷ names) name = (if is_earlier name other_name then 1 else 0) + earlier_names names name
 
 -- how many of some names are of a thread
 abbrev pub names_by : List Name → ℕ → ℕ
 names_by [] thread = 0
-names_by (m ∷ ms) thread = (if m.thread == thread then 1 else 0) + names_by ms thread
+names_by (name ∷ names) thread = (if name.thread == thread then 1 else 0) + names_by names thread
 
 -- the new name of one of some names
 abbrev pub name_anew : List Name → Name → Name

@@ -12,7 +12,7 @@ use Rattle.graph_placing.specs.ByName.{words_of_row, address_of, used_words}
 -- the number of the first of some names that is this one
 abbrev pub place_among : List Name → Name → ℕ
 place_among [] name = 0
-place_among (n ∷ ns) name = if same_name n name then 0 else suc (place_among ns name)
+place_among (other_name ∷ names) name = if same_name other_name name then 0 else suc (place_among names name)
 
 -- the word of a reference: 0 for null, and else the address of the object of that name
 abbrev pub word_for : Config → Text → Reference → ℕ

@@ -15,7 +15,7 @@ pub record AreAddresses (config : Config) (text : Text) (addresses : List ℕ) :
 
 -- the words after the first so many of a list were written from an address on
 abbrev pub copied : (address words : ℕ) → List ℕ → (Word → ℕ) → Word → ℕ
-copied address words list memory (Heap x) = if nat_le address x && nat_lt x (address + words) then slice_index list (x - address) else memory (Heap x)
+copied address words list memory (Heap other_address) = if nat_le address other_address && nat_lt other_address (address + words) then slice_index list (other_address - address) else memory (Heap other_address)
 copied address words list memory word = memory word
 
 -- the words after the top of a row's region was raised to where the row's object ends
@@ -25,23 +25,23 @@ with_top config text k memory = write memory (Top (region_with config (address_o
 -- the words after the objects of the first so many rows were placed
 unfoldable pub rows_placed : Config → Text → ℕ → Word → ℕ
 rows_placed config text zero word = 0
-rows_placed config text (suc k) (Heap x) = copied (address_of config text k) (words_of_row text k) (words_of_object (word_for config text) (row_of text k)) (rows_placed config text k) (Heap x)
-rows_placed config text (suc k) (Top r) = used_words config text (suc k) r
+rows_placed config text (suc k) (Heap address) = copied (address_of config text k) (words_of_row text k) (words_of_object (word_for config text) (row_of text k)) (rows_placed config text k) (Heap address)
+rows_placed config text (suc k) (Top region) = used_words config text (suc k) region
 rows_placed config text (suc k) word = rows_placed config text k word
 
 -- the words after the first so many roots of a mutator were stored
 abbrev pub roots_stored : Config → Text → (mutator roots : ℕ) → (Word → ℕ) → Word → ℕ
-roots_stored config text mutator roots memory (Root m i) = if (m == mutator) && nat_lt i roots then word_for config text (root_of text (m + 1) i) else memory (Root m i)
+roots_stored config text mutator roots memory (Root other_mutator index) = if (other_mutator == mutator) && nat_lt index roots then word_for config text (root_of text (other_mutator + 1) index) else memory (Root other_mutator index)
 roots_stored config text mutator roots memory word = memory word
 
 -- the words after the roots of so many mutators were stored
 abbrev pub all_roots_stored : Config → Text → (mutators : ℕ) → (Word → ℕ) → Word → ℕ
-all_roots_stored config text mutators memory (Root m i) = if nat_lt m mutators && nat_lt i 16 then word_for config text (root_of text (m + 1) i) else memory (Root m i)
+all_roots_stored config text mutators memory (Root mutator index) = if nat_lt mutator mutators && nat_lt index 16 then word_for config text (root_of text (mutator + 1) index) else memory (Root mutator index)
 all_roots_stored config text mutators memory word = memory word
 
 -- the words when all is placed
 abbrev pub all_placed : Config → Text → Word → ℕ
 all_placed config text Left = config.mutators
-all_placed config text Free = empty_regions (λ r. rows_placed config text (length text.rows) (Top r)) config.regions
-all_placed config text (Root m i) = if nat_lt m config.mutators && nat_lt i 16 then word_for config text (root_of text (m + 1) i) else 0
+all_placed config text Free = empty_regions (λ region. rows_placed config text (length text.rows) (Top region)) config.regions
+all_placed config text (Root mutator index) = if nat_lt mutator config.mutators && nat_lt index 16 then word_for config text (root_of text (mutator + 1) index) else 0
 all_placed config text word = rows_placed config text (length text.rows) word

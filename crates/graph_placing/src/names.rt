@@ -6,7 +6,7 @@ ghost use Rattle.image_graph.specs.State.{config_of, memory_of};
 ghost use Rattle.graph_placing.specs.ByName.{words_of_row, Fits};
 ghost use Rattle.graph_placing.specs.PlaceableText.{IsPlaceable};
 ghost use Rattle.graph_placing.specs.Renaming.{AreOfThreads, AreCountsOf};
-ghost use Rattle.graph_placing.specs.Renewing.{names_written};
+ghost use Rattle.graph_placing.specs.NamesRewritten.{names_written};
 
 use crate::counts::count_one;
 use heap_words::name_word;

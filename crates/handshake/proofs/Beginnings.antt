@@ -2,6 +2,7 @@
 use Rattle.std.proofs.Common.{◌≡◌, ℕ, ◌<◌, ◌≤◌, Bool, true, false, List, [], ◌∷◌, length, Some, zero, suc, refl, sym, ap, ◌∙◌, subst, arith}
 use Rattle.std.specs.Prelude.{slice_get, count_by, nat_eq}
 use Rattle.std.proofs.lemmas.Bool.Decides.{nat_tests}
+use Rattle.heap_words.proofs.Lists.{index_in_range}
 use Rattle.heap_words.specs.declared.config.Config.{Config}
 use Rattle.heap_words.specs.Ranges.{seat_count}
 use Rattle.heap_words.specs.Words.{Pause, Left, State, table_words, view}
@@ -11,24 +12,12 @@ use Rattle.handshake.specs.Shaken.{IsShaken}
 use Rattle.handshake.specs.Left.{AreLeftCounted}
 use Rattle.handshake.proofs.Counting.{weight, count_by-cons}
 
--- an element stands below the length
-get_below : {A : Type 0} (xs : List A) (index : ℕ) (x : A) → slice_get xs index ≡ Some x → index < length xs
-get_below [] index x here = absurd (cc (here))
-get_below (y ∷ xs) zero x here = omega arith
-get_below (y ∷ xs) (suc index) x here = omega (arith, get_below xs index x here)
-
--- and there is one below it
-pub there_is : {A : Type 0} (xs : List A) (index : ℕ) → index < length xs → (x : A) × (slice_get xs index ≡ Some x)
-there_is [] index below = absurd (omega (arith, below))
-there_is (y ∷ xs) zero below = (y, refl)
-there_is (y ∷ xs) (suc index) below = there_is xs index (omega (arith, below))
-
 -- all are outside, the control is idle, and the words say so
-pub shaken_begins : {R : Type 0} (c : Config) (standing : R → Standing) (s : Stage R) (control : R) → length s.words ≡ table_words c → length s.machines ≡ seat_count c.mutators c.helpers
-    → slice_get s.machines (control_seat c) ≡ Some control → standing control ≡ idle
-    → ((seat : ℕ) (r : R) → seat < control_seat c → slice_get s.machines seat ≡ Some r → standing r ≡ outside)
-    → view c s.words Pause ≡ 0 → ((seat : ℕ) → seat < control_seat c → view c s.words (State seat) ≡ 0)
-    → IsShaken c standing s
+pub shaken_begins : {R : Type 0} (config : Config) (standing : R → Standing) (stage : Stage R) (control : R) → length stage.words ≡ table_words config → length stage.machines ≡ seat_count config.mutators config.helpers
+    → slice_get stage.machines (control_seat config) ≡ Some control → standing control ≡ idle
+    → ((seat : ℕ) (r : R) → seat < control_seat config → slice_get stage.machines seat ≡ Some r → standing r ≡ outside)
+    → view config stage.words Pause ≡ 0 → ((seat : ℕ) → seat < control_seat config → view config stage.words (State seat) ≡ 0)
+    → IsShaken config standing stage
 shaken_begins {R} c standing s control words machines there is_idle out pause states = record {
   words = words;
   control = control;
@@ -46,7 +35,7 @@ shaken_begins {R} c standing s control words machines there is_idle out pause st
         let same : control ≡ r = cc (at, there) in
         subst (HasSeat c seat) (sym is_idle ∙ ap standing same) e
     by_seat seat r here false is =
-        let below : seat < control_seat c = grind (arith, nat_tests, get_below s.machines seat r here, machines) in
+        let below : seat < control_seat c = grind (arith, nat_tests, index_in_range s.machines seat r here, machines) in
         subst (HasSeat c seat) (sym (out seat r below here)) below
 
 -- as many are counted as stand first

@@ -81,7 +81,7 @@ module _ {R : Type 0} (config : Config) (left : R → Bool) (stage : Stage R) (c
 module _ {R O : Type 0} (config : Config) (kind : MachineKind R O) (left : R → Bool) where
   -- an event that counts keeps the count
   pub counted_step : (stage : Stage R) (event : Event O) → AreLeftCounted config left stage → EventCounts config kind left stage event → AreLeftCounted config left (act kind stage event)
-  counted_step stage event counted counts = act_cases kind (λ x. AreLeftCounted config left x) stage event counted
+  counted_step stage event counted counts = act_cases kind (λ stage. AreLeftCounted config left stage) stage event counted
       (λ r here takes. (counts_step config left stage counted event.number r (kind.took r event.order (slice_index stage.words (table_index (kind.plan r event.order)))) here (kind.plan r event.order)
       (λ got. left (kind.took r event.order got)) _
       (counts r (record { here = here; takes = takes })) refl).holds)
@@ -95,14 +95,14 @@ module _ {R O : Type 0} (config : Config) (kind : MachineKind R O) (left : R →
 
   -- so does a run of events that count
   pub counted_run : (stage : Stage R) (es : List (Event O)) → AreLeftCounted config left stage → EachCounts config kind left stage es → AreLeftCounted config left (go kind stage es)
-  counted_run stage [] counted counts = subst (λ x. AreLeftCounted config left x) (sym (go-none kind stage)) counted
-  counted_run stage (e ∷ es) counted counts = subst (λ x. AreLeftCounted config left x) (sym (go-first kind stage e es))
-      (counted_run (act kind stage e) es (counted_step stage e counted counts.0) counts.1)
+  counted_run stage [] counted counts = subst (λ stage. AreLeftCounted config left stage) (sym (go-none kind stage)) counted
+  counted_run stage (event ∷ rest) counted counts = subst (λ stage. AreLeftCounted config left stage) (sym (go-first kind stage event rest))
+      (counted_run (act kind stage event) rest (counted_step stage event counted counts.0) counts.1)
 
   pub none_run : (stage : Stage R) (es : List (Event O)) → AreLeftCounted config left stage → EachCounts config kind left stage es → view config stage.words Left ≡ 0 → view config (go kind stage es).words Left ≡ 0
   none_run stage [] counted counts none = subst (λ x. view config x.words Left ≡ 0) (sym (go-none kind stage)) none
-  none_run stage (e ∷ es) counted counts none = subst (λ x. view config x.words Left ≡ 0) (sym (go-first kind stage e es))
-      (none_run (act kind stage e) es (counted_step stage e counted counts.0) counts.1 (none_step stage e counted counts.0 none))
+  none_run stage (event ∷ rest) counted counts none = subst (λ x. view config x.words Left ≡ 0) (sym (go-first kind stage event rest))
+      (none_run (act kind stage event) rest (counted_step stage event counted counts.0) counts.1 (none_step stage event counted counts.0 none))
 
 -- a mutator that has not ended finds a count that is not 0
 pub left_some : {R : Type 0} (config : Config) (left : R → Bool) (stage : Stage R) (number : ℕ) (r : R) → AreLeftCounted config left stage → slice_get stage.machines number ≡ Some r → left r ≡ true → view config stage.words Left ≢ 0

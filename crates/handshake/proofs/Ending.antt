@@ -4,6 +4,7 @@ use Rattle.std.specs.Prelude.{slice_get, slice_set, slice_index, ◌⊎◌}
 use Rattle.std.proofs.lemmas.Bool.{cases_eq, true≢false}
 use Rattle.std.proofs.lemmas.List.{length-set}
 use Rattle.std.proofs.lemmas.Option.{same_Some}
+use Rattle.heap_words.proofs.Lists.{slice_get-set_other, slice_get-set_same}
 use Rattle.heap_words.specs.declared.config.Config.{Config}
 use Rattle.heap_words.specs.declared.access.Access.{Access}
 use Rattle.heap_words.specs.Access.{table_index}
@@ -11,7 +12,6 @@ use Rattle.heap_words.specs.Words.{End, word_at, view}
 use Rattle.heap_words.proofs.Stores.{view_set}
 use Rattle.heap_words.specs.Touch.{touch, stores, placed}
 use Rattle.heap_words.specs.Steps.{MachineKind, Stage, Event, act, go, accessed}
-use Rattle.heap_words.proofs.Places.{slice_get-set_same, slice_get-set_other}
 use Rattle.heap_words.proofs.Runs.{go-none, go-first}
 use Rattle.heap_words.proofs.Laws.{act_cases}
 use Rattle.handshake.specs.Obeys.{is_load}
@@ -31,18 +31,18 @@ module _ {R : Type 0} (config : Config) (ended : R → Bool) (stage : Stage R) (
   same_end : (access : Access) → view config (accessed access stage.words) End ≡ view config stage.words End → ended new ≡ ended old → IsEndWord config ended (after access)
   same_end access word same = record {
     words = length-set stage.words _ _ ∙ known.words;
-    one = λ k r there has. word ∙ ⊎_elim
-        (λ (own : k ≡ number).
+    one = λ index r there has. word ∙ ⊎_elim
+        (λ (own : index ≡ number).
         let is : new ≡ r = same_Some new r (sym new_here ∙ ap (slice_get (slice_set stage.machines number new)) (sym own) ∙ there) in
         known.one number old here (sym same ∙ ap ended is ∙ has))
-        (λ (other : k ≢ number). known.one k r (sym (slice_get-set_other stage.machines number k new other) ∙ there) has)
-        (cases_eq k number);
-    none = λ no. word ∙ known.none (λ k r there. ⊎_elim
-        (λ (own : k ≡ number).
+        (λ (other : index ≢ number). known.one index r (sym (slice_get-set_other stage.machines number index new other) ∙ there) has)
+        (cases_eq index number);
+    none = λ no. word ∙ known.none (λ index r there. ⊎_elim
+        (λ (own : index ≡ number).
         let is : old ≡ r = same_Some old r (sym here ∙ ap (slice_get stage.machines) (sym own) ∙ there) in
         ap ended (sym is) ∙ sym same ∙ no number new new_here)
-        (λ (other : k ≢ number). no k r (slice_get-set_other stage.machines number k new other ∙ there))
-        (cases_eq k number));
+        (λ (other : index ≢ number). no index r (slice_get-set_other stage.machines number index new other ∙ there))
+        (cases_eq index number));
   }
 
   -- a machine ends, and says so
@@ -65,12 +65,12 @@ module _ {R : Type 0} (config : Config) (ended : R → Bool) (stage : Stage R) (
 module _ {R O : Type 0} (config : Config) (kind : MachineKind R O) (ended : R → Bool) where
   -- so does an event
   pub known_step : (stage : Stage R) (event : Event O) → IsEndWord config ended stage → EventKeepsEnd config kind ended stage event → IsEndWord config ended (act kind stage event)
-  known_step stage event known keeps = act_cases kind (λ x. IsEndWord config ended x) stage event known
+  known_step stage event known keeps = act_cases kind (λ stage. IsEndWord config ended stage) stage event known
       (λ r here takes. keeps_step config ended stage known event.number r (kind.took r event.order (slice_index stage.words (table_index (kind.plan r event.order)))) here (kind.plan r event.order)
       (λ got. ended (kind.took r event.order got)) _
       (keeps r (record { here = here; takes = takes })) refl)
 
   -- and a run of events
   pub known_run : (stage : Stage R) (es : List (Event O)) → IsEndWord config ended stage → EachKeepsEnd config kind ended stage es → IsEndWord config ended (go kind stage es)
-  known_run stage [] known keeps = subst (λ x. IsEndWord config ended x) (sym (go-none kind stage)) known
-  known_run stage (e ∷ es) known keeps = subst (λ x. IsEndWord config ended x) (sym (go-first kind stage e es)) (known_run (act kind stage e) es (known_step stage e known keeps.0) keeps.1)
+  known_run stage [] known keeps = subst (λ stage. IsEndWord config ended stage) (sym (go-none kind stage)) known
+  known_run stage (event ∷ rest) known keeps = subst (λ stage. IsEndWord config ended stage) (sym (go-first kind stage event rest)) (known_run (act kind stage event) rest (known_step stage event known keeps.0) keeps.1)

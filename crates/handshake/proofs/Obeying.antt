@@ -51,7 +51,7 @@ placed_elsewhere config touch is_word other = record {
     at = table_index-access_at (word_at config touch.word) touch.form
 
 -- What a step obeys, it obeys by any names of its next spots.
-pub obeys_same : (config : Config) (seat : ℕ) (w : Standing) (access : Access) (next other : ℕ → Standing) → ((got : ℕ) → other got ≡ next got) → Obeys config seat w access next → Obeys config seat w access other
+pub obeys_same : (config : Config) (seat : ℕ) (standing : Standing) (access : Access) (next other : ℕ → Standing) → ((got : ℕ) → other got ≡ next got) → Obeys config seat standing access next → Obeys config seat standing access other
 obeys_same config seat outside access next other same (inl obeys) = inl (record { access_is = obeys.access_is; next_is = λ got. same got ∙ obeys.next_is got })
 obeys_same config seat outside access next other same (inr obeys) = inr (record { harmless = obeys.harmless; next_is = λ got. same got ∙ obeys.next_is got })
 obeys_same config seat looks access next other same obeys = record { access_is = obeys.access_is; enters = same 0 ∙ obeys.enters; backs_off = λ got some. same got ∙ obeys.backs_off got some }
@@ -60,13 +60,13 @@ obeys_same config seat inside access next other same obeys = record { elsewhere 
 obeys_same config seat leaves access next other same obeys = record { access_is = obeys.access_is; next_is = λ got. same got ∙ obeys.next_is got }
 obeys_same config seat idle access next other same obeys = record { elsewhere = obeys.elsewhere; goes_on = λ got. ap is_free (same got) ∙ obeys.goes_on got }
 obeys_same config seat stops access next other same obeys = record { access_is = obeys.access_is; next_is = λ got. same got ∙ obeys.next_is got }
-obeys_same config seat (checks k) access next other same obeys = record { access_is = obeys.access_is; goes_on = same 0 ∙ obeys.goes_on; waits = λ got some. same got ∙ obeys.waits got some }
+obeys_same config seat (checks other_seat) access next other same obeys = record { access_is = obeys.access_is; goes_on = same 0 ∙ obeys.goes_on; waits = λ got some. same got ∙ obeys.waits got some }
 obeys_same config seat works access next other same obeys = record { elsewhere = obeys.elsewhere; goes_on = λ got. ap is_pausing (same got) ∙ obeys.goes_on got }
 obeys_same config seat goes access next other same obeys = record { access_is = obeys.access_is; next_is = λ got. same got ∙ obeys.next_is got }
 
 -- a word that is not 0
 pub some_test : {A : Type 0} (f : A → Standing) (got : ℕ) (x y : A) → got ≢ 0 → f (if nat_eq got 0 then x else y) ≡ f y
-some_test f got x y some = ap f (cond-false (nat_eq got 0) x y (ne_eqb got 0 some))
+some_test f got x y positive = ap f (cond-false (nat_eq got 0) x y (ne_eqb got 0 positive))
 
 -- the rows of entering
 pub enter_obeys : (config : Config) (seat : ℕ) (spot : EnterSpot) → is_entered spot ≡ false → Obeys config seat (enter_standing spot) (placed config (enter_touch seat spot)) (λ got. enter_standing (enter_next spot got))

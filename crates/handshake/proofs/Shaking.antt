@@ -22,58 +22,58 @@ use Rattle.handshake.proofs.PauseWords.{KeepsWords, elsewhere_keeps, load_keeps,
 use Rattle.handshake.proofs.StepsKeep.{seat_keeps, control_keeps}
 
 -- a machine in the heap has a state word of 1
-within_state : (w : Standing) → is_within w ≡ true → state_word w ≡ 1
+within_state : (standing : Standing) → is_within standing ≡ true → state_word standing ≡ 1
 within_state inside is = refl
 within_state leaves is = refl
 within_state _ is = absurd (cc (is))
 
 -- and is one of a mutator or helper
-within_seated : (config : Config) (seat : ℕ) (w : Standing) → seat < control_seat config → is_within w ≡ true → HasSeat config seat w
+within_seated : (config : Config) (seat : ℕ) (standing : Standing) → seat < control_seat config → is_within standing ≡ true → HasSeat config seat standing
 within_seated config seat inside below is = below
 within_seated config seat leaves below is = below
 within_seated config seat _ below is = absurd (cc (is))
 
 -- where no pause is wanted, no seat is checked, and the pause word is 0
-free_pause : (w : Standing) → is_free w ≡ true → pause_word w ≡ 0
+free_pause : (standing : Standing) → is_free standing ≡ true → pause_word standing ≡ 0
 free_pause idle is = refl
 free_pause stops is = refl
 free_pause _ is = absurd (cc (is))
 
-free_unchecked : (w : Standing) (seat : ℕ) → is_free w ≡ true → is_checked w seat ≡ false
+free_unchecked : (standing : Standing) (seat : ℕ) → is_free standing ≡ true → is_checked standing seat ≡ false
 free_unchecked idle seat is = refl
 free_unchecked stops seat is = refl
 free_unchecked _ seat is = absurd (cc (is))
 
-free_seated : (config : Config) (seat : ℕ) (w : Standing) → seat ≡ control_seat config → is_free w ≡ true → HasSeat config seat w
-free_seated config seat idle e is = e
-free_seated config seat stops e is = e
-free_seated config seat _ e is = absurd (cc (is))
+free_seated : (config : Config) (seat : ℕ) (standing : Standing) → seat ≡ control_seat config → is_free standing ≡ true → HasSeat config seat standing
+free_seated config seat idle same is = same
+free_seated config seat stops same is = same
+free_seated config seat _ same is = absurd (cc (is))
 
-pausing_pause : (w : Standing) → is_pausing w ≡ true → pause_word w ≡ 1
+pausing_pause : (standing : Standing) → is_pausing standing ≡ true → pause_word standing ≡ 1
 pausing_pause works is = refl
 pausing_pause goes is = refl
 pausing_pause _ is = absurd (cc (is))
 
-pausing_seated : (config : Config) (seat : ℕ) (w : Standing) → seat ≡ control_seat config → is_pausing w ≡ true → HasSeat config seat w
-pausing_seated config seat works e is = e
-pausing_seated config seat goes e is = e
-pausing_seated config seat _ e is = absurd (cc (is))
+pausing_seated : (config : Config) (seat : ℕ) (standing : Standing) → seat ≡ control_seat config → is_pausing standing ≡ true → HasSeat config seat standing
+pausing_seated config seat works same is = same
+pausing_seated config seat goes same is = same
+pausing_seated config seat _ same is = absurd (cc (is))
 
 -- in a pause all seats are checked
-pub pausing_checked : (w : Standing) (seat : ℕ) → is_pausing w ≡ true → is_checked w seat ≡ true
+pub pausing_checked : (standing : Standing) (seat : ℕ) → is_pausing standing ≡ true → is_checked standing seat ≡ true
 pausing_checked works seat is = refl
 pausing_checked goes seat is = refl
 pausing_checked _ seat is = absurd (cc (is))
 
 -- a seat is checked only where the pause word is 1
-checked_pause : (w : Standing) (seat : ℕ) → is_checked w seat ≡ true → pause_word w ≡ 1
+checked_pause : (standing : Standing) (seat : ℕ) → is_checked standing seat ≡ true → pause_word standing ≡ 1
 checked_pause (checks other) seat is = refl
 checked_pause works seat is = refl
 checked_pause goes seat is = refl
 checked_pause _ seat is = absurd (cc (is))
 
 -- whose state word is 0 is not in the heap
-zero_without : (w : Standing) → state_word w ≡ 0 → is_within w ≡ false
+zero_without : (standing : Standing) → state_word standing ≡ 0 → is_within standing ≡ false
 zero_without inside is = absurd (cc (is))
 zero_without leaves is = absurd (cc (is))
 zero_without _ is = refl
@@ -314,13 +314,13 @@ module _ {R : Type 0} (config : Config) (standing : R → Standing) (stage : Sta
 module _ {R O : Type 0} (config : Config) (kind : MachineKind R O) (standing : R → Standing) where
   -- an event that obeys keeps the handshake
   pub shaken_step : (stage : Stage R) (event : Event O) → IsShaken config standing stage → EventObeys config kind standing stage event → IsShaken config standing (act kind stage event)
-  shaken_step stage event shaken obeys = act_cases kind (λ x. IsShaken config standing x) stage event shaken
+  shaken_step stage event shaken obeys = act_cases kind (λ stage. IsShaken config standing stage) stage event shaken
       (λ r here takes. step_keeps config standing stage shaken event.number r (kind.took r event.order (slice_index stage.words (table_index (kind.plan r event.order)))) here (kind.plan r event.order)
       (λ got. standing (kind.took r event.order got))
       (obeys r (record { here = here; takes = takes })) refl)
 
   -- so does a run of events that obey
   pub shaken_run : (stage : Stage R) (es : List (Event O)) → IsShaken config standing stage → EachObeys config kind standing stage es → IsShaken config standing (go kind stage es)
-  shaken_run stage [] shaken obeys = subst (λ x. IsShaken config standing x) (sym (go-none kind stage)) shaken
-  shaken_run stage (e ∷ es) shaken obeys = subst (λ x. IsShaken config standing x) (sym (go-first kind stage e es))
-      (shaken_run (act kind stage e) es (shaken_step stage e shaken obeys.0) obeys.1)
+  shaken_run stage [] shaken obeys = subst (λ stage. IsShaken config standing stage) (sym (go-none kind stage)) shaken
+  shaken_run stage (event ∷ rest) shaken obeys = subst (λ stage. IsShaken config standing stage) (sym (go-first kind stage event rest))
+      (shaken_run (act kind stage event) rest (shaken_step stage event shaken obeys.0) obeys.1)

@@ -2,23 +2,23 @@
 use Rattle.std.proofs.Common.{◌≡◌, ◌≢◌, ℕ, ◌<◌, Bool, List, length, true, false, Some, refl, sym, ◌∙◌, subst, arith}
 use Rattle.std.specs.Prelude.{slice_get, slice_set, nat_eq}
 use Rattle.std.proofs.lemmas.Bool.Decides.{nat_tests}
+use Rattle.heap_words.proofs.Lists.{slice_get-set_other, slice_get-set_same}
 use Rattle.heap_words.specs.declared.config.Config.{Config}
 use Rattle.heap_words.specs.Words.{Pause, State, view}
 use Rattle.heap_words.specs.Steps.{Stage}
-use Rattle.heap_words.proofs.Places.{slice_get-set_same, slice_get-set_other}
 use Rattle.handshake.specs.Standing.{Standing, state_word, pause_word, is_within, is_checked, HasSeat, control_seat}
 use Rattle.handshake.specs.Shaken.{IsShaken}
 
 -- What holds of the new machine at its number, and of the old ones elsewhere, holds of each machine after a step.
 pub machine_cases : {R : Type 0} (machines : List R) (number : ℕ) (old new : R) → slice_get machines number ≡ Some old
-    → (k : ℕ) (r : R) → slice_get (slice_set machines number new) k ≡ Some r → (P : R → Type 0)
-    → (k ≡ number → P new) → (k ≢ number → slice_get machines k ≡ Some r → P r) → P r
-machine_cases {R} machines number old new here k r at_k P same other = by_number (nat_eq k number) refl
+    → (index : ℕ) (r : R) → slice_get (slice_set machines number new) index ≡ Some r → (P : R → Type 0)
+    → (index ≡ number → P new) → (index ≢ number → slice_get machines index ≡ Some r → P r) → P r
+machine_cases {R} machines number old new here k found at_k P same other = by_number (nat_eq k number) refl
   where
-    by_number : (holds : Bool) → nat_eq k number ≡ holds → P r
+    by_number : (holds : Bool) → nat_eq k number ≡ holds → P found
     by_number true is =
         let e : k ≡ number = grind (arith, nat_tests) in
-        let is_new : new ≡ r = cc (at_k, e, slice_get-set_same machines number old new here) in
+        let is_new : new ≡ found = cc (at_k, e, slice_get-set_same machines number old new here) in
         subst P is_new (same e)
     by_number false is =
         let apart : k ≢ number = grind (arith, nat_tests) in
@@ -49,7 +49,7 @@ module _ {R : Type 0} (config : Config) (standing : R → Standing) (stage : Sta
     seated = seated_then seated;
     pause = pause ∙ shaken.pause;
     states = λ seat r low at_seat. machine_cases stage.machines number old new here seat r at_seat (λ x. view config words (State seat) ≡ state_word (standing x))
-        (λ e. subst (λ n. view config words (State n) ≡ state_word (standing new)) (sym e) own)
+        (λ e. subst (λ seat. view config words (State seat) ≡ state_word (standing new)) (sym e) own)
         (λ apart at_old. others seat low apart ∙ shaken.states seat r low at_old);
     checked = λ seat r low at_seat is. machine_cases stage.machines number old new here seat r at_seat (λ x. is_within (standing x) ≡ false)
         (λ e. out (subst (λ n. is_checked (standing shaken.control) n ≡ true) e is))
@@ -65,7 +65,7 @@ module _ {R : Type 0} (config : Config) (standing : R → Standing) (stage : Sta
   control_keeps is_control seated pause states checked = record {
     words = long ∙ shaken.words;
     control = new;
-    there = subst (λ n. slice_get (slice_set stage.machines number new) n ≡ Some new) is_control (slice_get-set_same stage.machines number old new here);
+    there = subst (λ index. slice_get (slice_set stage.machines number new) index ≡ Some new) is_control (slice_get-set_same stage.machines number old new here);
     seated = seated_then seated;
     pause = pause;
     states = λ seat r low at_seat. machine_cases stage.machines number old new here seat r at_seat (λ x. view config words (State seat) ≡ state_word (standing x))

@@ -21,7 +21,7 @@ state_below : (config : Config) (access : Access) (seat value : ℕ) → seat < 
 state_below config access seat value below is = inr (subst (λ a. table_index a < image_start config) (sym is) (omega (arith, below)))
 
 -- a machine that is not in the heap, of a mutator or helper, only reads the image
-pub without_reads : (config : Config) (seat : ℕ) (w : Standing) (access : Access) (next : ℕ → Standing) → seat < control_seat config → HasSeat config seat w → is_within w ≡ false → Obeys config seat w access next
+pub without_reads : (config : Config) (seat : ℕ) (standing : Standing) (access : Access) (next : ℕ → Standing) → seat < control_seat config → HasSeat config seat standing → is_within standing ≡ false → Obeys config seat standing access next
     → OnlyReads config access
 without_reads config seat outside access next below seated out (inl enters) = state_below config access seat 1 below enters.access_is
 without_reads config seat outside access next below seated out (inr stays) = by_harm stays.harmless

@@ -24,12 +24,12 @@ KeepsEnd config before access after = SaysEnd config access after ⊎ LeavesEnd 
 
 -- an event does so, if it is one
 abbrev pub EventKeepsEnd : {R O : Type 0} → Config → MachineKind R O → (R → Bool) → Stage R → Event O → Type 0
-EventKeepsEnd {R} c kind ended stage e = (r : R) → IsEvent kind stage e r → KeepsEnd c (ended r) (kind.plan r e.order) (λ got. ended (kind.took r e.order got))
+EventKeepsEnd {R} config kind ended stage e = (r : R) → IsEvent kind stage e r → KeepsEnd config (ended r) (kind.plan r e.order) (λ got. ended (kind.took r e.order got))
 
 -- each event of a run does so, where it is made
 abbrev pub EachKeepsEnd : {R O : Type 0} → Config → MachineKind R O → (R → Bool) → Stage R → List (Event O) → Type 0
 EachKeepsEnd config kind ended stage [] = Unit {0}
-EachKeepsEnd config kind ended stage (e ∷ es) = EventKeepsEnd config kind ended stage e × EachKeepsEnd config kind ended (act kind stage e) es
+EachKeepsEnd config kind ended stage (event ∷ rest) = EventKeepsEnd config kind ended stage event × EachKeepsEnd config kind ended (act kind stage event) rest
 
 -- no machine has ended
 abbrev pub NoneHasEnded : {R : Type 0} → (R → Bool) → Stage R → Type 0

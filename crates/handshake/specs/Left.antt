@@ -25,12 +25,12 @@ Counts config before access after = Ends config before access after ⊎ LeavesCo
 
 -- an event does so, if it is one
 abbrev pub EventCounts : {R O : Type 0} → Config → MachineKind R O → (R → Bool) → Stage R → Event O → Type 0
-EventCounts {R} c kind left stage e = (r : R) → IsEvent kind stage e r → Counts c (left r) (kind.plan r e.order) (λ got. left (kind.took r e.order got))
+EventCounts {R} config kind left stage e = (r : R) → IsEvent kind stage e r → Counts config (left r) (kind.plan r e.order) (λ got. left (kind.took r e.order got))
 
 -- each event of a run does so, where it is made
 abbrev pub EachCounts : {R O : Type 0} → Config → MachineKind R O → (R → Bool) → Stage R → List (Event O) → Type 0
 EachCounts config kind left stage [] = Unit {0}
-EachCounts config kind left stage (e ∷ es) = EventCounts config kind left stage e × EachCounts config kind left (act kind stage e) es
+EachCounts config kind left stage (event ∷ rest) = EventCounts config kind left stage event × EachCounts config kind left (act kind stage event) rest
 
 -- the word counts the mutators that have not ended
 pub record AreLeftCounted {R : Type 0} (config : Config) (left : R → Bool) (stage : Stage R) : Type 0 where

@@ -20,12 +20,12 @@ pub record IsShaken {R : Type 0} (config : Config) (standing : R → Standing) (
 
 -- an event obeys, if it is one
 abbrev pub EventObeys : {R O : Type 0} → Config → MachineKind R O → (R → Standing) → Stage R → Event O → Type 0
-EventObeys {R} c kind standing stage e = (r : R) → IsEvent kind stage e r → Obeys c e.number (standing r) (kind.plan r e.order) (λ got. standing (kind.took r e.order got))
+EventObeys {R} config kind standing stage e = (r : R) → IsEvent kind stage e r → Obeys config e.number (standing r) (kind.plan r e.order) (λ got. standing (kind.took r e.order got))
 
 -- each event of a run obeys, where it is made
 abbrev pub EachObeys : {R O : Type 0} → Config → MachineKind R O → (R → Standing) → Stage R → List (Event O) → Type 0
 EachObeys config kind standing stage [] = Unit {0}
-EachObeys config kind standing stage (e ∷ es) = EventObeys config kind standing stage e × EachObeys config kind standing (act kind stage e) es
+EachObeys config kind standing stage (event ∷ rest) = EventObeys config kind standing stage event × EachObeys config kind standing (act kind stage event) rest
 
 -- the control of a stage works in a pause, or has done so and not ended it yet
 abbrev pub IsPausing : {R : Type 0} → Config → (R → Standing) → Stage R → Type 0

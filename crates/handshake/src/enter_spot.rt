@@ -51,18 +51,10 @@ impl EnterSpot {
     {
         match self {
             // keeps IsShaken
-            EnterSpot::Raise => Access::Store {
-                at: config.state_at(seat),
-                value: IN,
-            },
+            EnterSpot::Raise => Access::store(config.state_at(seat), IN),
             // keeps IsShaken
-            EnterSpot::Lower => Access::Store {
-                at: config.state_at(seat),
-                value: OUT,
-            },
-            EnterSpot::Look | EnterSpot::Await => Access::Load {
-                at: config.pause_at(),
-            },
+            EnterSpot::Lower => Access::store(config.state_at(seat), OUT),
+            EnterSpot::Look | EnterSpot::Await => Access::load(config.pause_at()),
             EnterSpot::Inside => unreachable!(),
         }
     }

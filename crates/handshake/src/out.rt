@@ -15,10 +15,7 @@ pub fn leave_access(config: Config, seat: usize) -> Access
     ensures inside { table_index result < table_words config }
 {
     // keeps IsShaken
-    Access::Store {
-        at: config.state_at(seat),
-        value: OUT,
-    }
+    Access::store(config.state_at(seat), OUT)
 }
 
 /// The one access by which the control ends a pause: it stores that none is wanted.
@@ -27,8 +24,5 @@ pub fn go_access(config: Config) -> Access
     ensures inside { table_index result < table_words config }
 {
     // keeps IsShaken
-    Access::Store {
-        at: config.pause_at(),
-        value: UNWANTED,
-    }
+    Access::store(config.pause_at(), UNWANTED)
 }

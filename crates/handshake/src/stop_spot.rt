@@ -49,13 +49,8 @@ impl StopSpot {
     {
         match self {
             // keeps IsShaken
-            StopSpot::Raise => Access::Store {
-                at: config.pause_at(),
-                value: WANTED,
-            },
-            StopSpot::Check { seat } => Access::Load {
-                at: config.state_at(seat),
-            },
+            StopSpot::Raise => Access::store(config.pause_at(), WANTED),
+            StopSpot::Check { seat } => Access::load(config.state_at(seat)),
             StopSpot::Stopped => unreachable!(),
         }
     }

@@ -3,6 +3,7 @@ use Rattle.std.proofs.Common.{ℕ, ◌≡◌, ◌≢◌, ◌+◌, ◌≤◌, ◌
 use Rattle.std.specs.Prelude.{All}
 use Rattle.std.specs.List.{flat_map}
 use Rattle.std.proofs.lemmas.List.{drop_all, length-replicate}
+use Rattle.shen_graph.proofs.Lists.{length_map}
 use Rattle.heap_words.specs.declared.config.Config.{Config}
 use Rattle.heap_words.specs.declared.schedule.Item.{Item}
 use Rattle.shen_graph.specs.declared.command.Command.{Command}
@@ -20,13 +21,12 @@ use Rattle.trace_reading.specs.Stops.{HasReadBody, StopsBody}
 use Rattle.trace_reading.specs.declared.fault.TraceFault.{TraceFault}
 use Rattle.trace_reading.specs.declared.fault.TraceFault.TheVariants.{BadLine, NoMemory}
 use Rattle.heap_dump.specs.Dumped.{Dumped, IsDump, dumped, most_made}
-use Rattle.heap_dump.specs.Resumes.{run_version, Resumes, mark_line}
+use Rattle.heap_dump.specs.DumpsToRun.{run_version, Resumes, mark_line}
 use Rattle.heap_dump.specs.DumpLines.{DumpStage, Version, Counts, Listed, Behind, DumpLead, DumpRefused, Spells}
 use Rattle.heap_dump.specs.HeldReferences.{held, held_row}
 use Rattle.heap_dump.specs.RowsReached.{graph_from}
 use Rattle.heap_dump.specs.Steps.{Leads, StopsAt, IsStop}
 use Rattle.heap_dump.specs.Listing.{listed, HasTakenRows, HasTakenRoots, IsHeldDump}
-use Rattle.heap_dump.proofs.RowWords.{len_map}
 use Rattle.heap_dump.proofs.Rowed.{names_now}
 use Rattle.heap_dump.proofs.Steps.{leads_one, leads_both, stops_behind}
 use Rattle.heap_dump.proofs.Stopped.{refused, body_stops}
@@ -39,13 +39,13 @@ pub text_fault : (stage : DumpStage) (first : ℕ) (bytes : List ℕ) (fault oth
 text_fault stage first bytes fault other_fault same (inl none) = subst IsTextFault (sym (same ∙ none)) tt
 text_fault stage first bytes fault other_fault same (inr stop) = subst IsTextFault (sym (same ∙ stop.2)) tt
 
-pub stop_line : {T : Type 0} (r : Result T TraceFault) (stage : DumpStage) (first : ℕ) (bytes : List ℕ) (p e : TraceFault) → r ≡ Err p → p ≡ e → (e ≡ NoMemory) ⊎ IsStop stage first bytes e
+pub stop_line : {T : Type 0} (r : Result T TraceFault) (stage : DumpStage) (first : ℕ) (bytes : List ℕ) (fault other_fault : TraceFault) → r ≡ Err fault → fault ≡ other_fault → (other_fault ≡ NoMemory) ⊎ IsStop stage first bytes other_fault
     → (n : ℕ) (why : Why) → r ≡ Err (BadLine n why) → StopsAt stage first bytes n why
 stop_line r stage first bytes p e fault same (inl none) n why is = absurd cc
 stop_line r stage first bytes p e fault same (inr stop) n why is =
     let fst : stop.0 ≡ n = let x = stop.2 in cc in
     let snd : stop.1 ≡ why = let x = stop.2 in cc in
-    subst (λ (w : Why). StopsAt stage first bytes n w) snd (subst (λ (m : ℕ). StopsAt stage first bytes m stop.1) fst stop.3)
+    subst (λ (why : Why). StopsAt stage first bytes n why) snd (subst (λ (m : ℕ). StopsAt stage first bytes m stop.1) fst stop.3)
 
 -- ---- what was taken
 
@@ -61,8 +61,8 @@ counts_size bytes rest config dump led = by_lines led.texts led.count led.lead
         let counts : f.0 ≡ dump.counts = ap (λ (dump : Dumped). dump.counts) same in
         (subst (λ (ns : List ℕ). length ns ≡ config.mutators) counts f.1, subst (All (λ n. n ≤ most_made)) counts f.2)
 
-pub shorter : (stage other_stage : DumpStage) (bytes rest : List ℕ) (n : ℕ) → Leads stage bytes rest n other_stage → length rest ≤ length bytes
-shorter stage other_stage bytes rest n led = omega (arith, ap length (leads_bytes stage other_stage bytes rest n led), length-append (flat_map ended led.texts) rest)
+pub shorter : (stage other_stage : DumpStage) (bytes rest : List ℕ) (lines : ℕ) → Leads stage bytes rest lines other_stage → length rest ≤ length bytes
+shorter stage other_stage bytes rest lines led = omega (arith, ap length (leads_bytes stage other_stage bytes rest lines led), length-append (flat_map ended led.texts) rest)
 
 pub line_shorter : (bytes text rest : List ℕ) → parts 10 bytes ≡ text ∷ parts 10 rest → length rest + 1 ≤ length bytes
 line_shorter bytes text rest cut = omega (arith, ap length (bytes_of_line bytes text rest cut), length-append text (10 ∷ rest))
@@ -85,8 +85,8 @@ counts_fault fault threads bytes config (inr stop) same = inr (stop config same)
 
 pub mark_fault : (fault : TraceFault) (first : ℕ) (bytes : List ℕ) (text : Text) (dump : Dumped) → (fault ≡ NoMemory) ⊎ ((other_dump : Dumped) → IsHeldDump other_dump text → other_dump.roots ≢ [] → IsStop (Listed other_dump) first bytes fault) → IsHeldDump dump text → dump.roots ≢ []
     → (fault ≡ NoMemory) ⊎ IsStop (Listed dump) first bytes fault
-mark_fault fault first bytes text dump (inl none) held some = inl none
-mark_fault fault first bytes text dump (inr stop) held some = inr (stop dump held some)
+mark_fault fault first bytes text dump (inl none) held differs = inl none
+mark_fault fault first bytes text dump (inr stop) held differs = inr (stop dump held differs)
 
 module _ (config : Config) (counts dump_bytes behind_head behind_counts behind_objects behind_roots : List ℕ) (lines : ℕ) (opened_text objects_text rooted_text : Text) (all : List (List Reference))
     (head : Leads Version dump_bytes behind_head 3 (Counts config)) (counted : Leads (Counts config) behind_head behind_counts 1 (Listed (listed config counts [] [])))
@@ -114,7 +114,7 @@ module _ (config : Config) (counts dump_bytes behind_head behind_counts behind_o
   order_now = subst InOrder (sym (ap (λ (text : Text). names_of text) rooted.text ∙ names_now counts behind_counts behind_objects lines opened_text objects_text rowed)) rowed.order
 
   pub few_now : length rooted_text.roots ≤ 8
-  few_now = omega (arith, ap length roots_now, len_map (map held) all, rooted.count, few)
+  few_now = omega (arith, ap length roots_now, length_map (map held) all, rooted.count, few)
 
   pub some_roots : whole.roots ≢ []
   some_roots = λ none. omega (arith, ap length none, rooted.count, some)

@@ -26,7 +26,7 @@ mixed_next xs ys index d same low =
     let long : length (take index xs) ≡ index = length-take-le index xs (omega arith) in
     let none : index - index ≡ 0 = omega arith in
     get_or-append_right (take index xs) (drop index ys) index index d long (omega arith)
-    ∙ ap (λ k. get_or (drop index ys) k d) none
+    ∙ ap (λ other_index. get_or (drop index ys) other_index d) none
     ∙ ap (λ t. get_or t 0 d) (drop-cons ys index d (omega arith))
 
 pub length-mixed : {A : Type 0} (xs ys : List A) (i : ℕ) → length ys ≡ length xs → i ≤ length xs → length (mixed i xs ys) ≡ length xs

@@ -15,13 +15,13 @@ pub reachable_again : (rows : List Row) (roots : List (List Reference)) (counts 
 unfolding graph_of
 reachable_again rows roots counts more _ (from_root thread root name is) = from_root thread root name is
 reachable_again rows roots counts more _ (from_pin thread slot held is) = absurd cc
-reachable_again rows roots counts more _ (from_field m name field before is) = from_field m name field (reachable_again rows roots counts more m before) is
+reachable_again rows roots counts more _ (from_field other_name name field before is) = from_field other_name name field (reachable_again rows roots counts more other_name before) is
 
 pub reach_again : (rows : List Row) (roots : List (List Reference)) (counts more : List ℕ) (names : List Name) → IsReach (counted rows roots counts) names → IsReach (counted rows roots more) names
-reach_again rows roots counts more names r = record {
-  in_order = r.in_order;
-  all = λ n led. r.all n (reachable_again rows roots more counts n led);
-  only = λ n there. reachable_again rows roots counts more n (r.only n there);
+reach_again rows roots counts more names reach = record {
+  in_order = reach.in_order;
+  all = λ name led. reach.all name (reachable_again rows roots more counts name led);
+  only = λ name there. reachable_again rows roots counts more name (reach.only name there);
 }
 
 abbrev nothing : Object
@@ -38,8 +38,8 @@ pub leads_in_all : (few all : List Row) (roots : List (List Reference)) (counts 
 unfolding graph_of
 leads_in_all few all roots counts there _ (from_root thread root name is) = from_root thread root name is
 leads_in_all few all roots counts there _ (from_pin thread slot held is) = absurd cc
-leads_in_all few all roots counts there _ (from_field m name field before is) =
-    from_field m name field (leads_in_all few all roots counts there m before) (same_field (object_in few m) (object_in all m) (there m) field (Some name) is)
+leads_in_all few all roots counts there _ (from_field other_name name field before is) =
+    from_field other_name name field (leads_in_all few all roots counts there other_name before) (same_field (object_in few other_name) (object_in all other_name) (there other_name) field (Some name) is)
 
 -- and no less, where they have the object of each name to which all lead
 pub leads_in_few : (few all : List Row) (roots : List (List Reference)) (counts : List ℕ) → ((name : Name) → IsReachable (counted all roots counts) name → object_in all name ≡ object_in few name)
@@ -47,5 +47,5 @@ pub leads_in_few : (few all : List Row) (roots : List (List Reference)) (counts 
 unfolding graph_of
 leads_in_few few all roots counts same _ (from_root thread root name is) = from_root thread root name is
 leads_in_few few all roots counts same _ (from_pin thread slot held is) = absurd cc
-leads_in_few few all roots counts same _ (from_field m name field before is) =
-    from_field m name field (leads_in_few few all roots counts same m before) (subst (λ (found : Option Object). slice_get (unwrap_or found nothing).refs field ≡ Some (Some name)) (same m before) is)
+leads_in_few few all roots counts same _ (from_field other_name name field before is) =
+    from_field other_name name field (leads_in_few few all roots counts same other_name before) (subst (λ (found : Option Object). slice_get (unwrap_or found nothing).refs field ≡ Some (Some name)) (same other_name before) is)

@@ -4,11 +4,13 @@ use Rattle.std.specs.Prelude.{All}
 use Rattle.std.specs.Fmt.{decimal}
 use Rattle.std.proofs.lemmas.List.Elements.{All-push, All-head, All-tail, All-nil}
 use Rattle.std.proofs.lemmas.Grind.{flat_map-append}
+use Rattle.shen_graph.proofs.Options.{same_some}
+use Rattle.shen_graph.proofs.Lists.{cons_injective}
 use Rattle.heap_words.specs.declared.config.Config.{Config}
 use Rattle.trace_reading.specs.Spelling.{numbers, titled, space}
 use Rattle.trace_reading.specs.Front.{NoDigit}
 use Rattle.trace_reading.specs.Scanning.{behind, numbers_at}
-use Rattle.trace_reading.proofs.GrammarNumbers.{same_some, AreSmall, behind_takes, numbers_take, numbers_again}
+use Rattle.trace_reading.proofs.GrammarNumbers.{AreSmall, behind_takes, numbers_take, numbers_again}
 use Rattle.heap_dump.specs.Dumped.{most_made}
 use Rattle.heap_dump.specs.DumpLines.{DumpStage, Spells, Counts, DumpFollows}
 use Rattle.heap_dump.proofs.HeadLines.{title_of_text, rest_is}
@@ -29,9 +31,6 @@ one_read bytes rest n h =
     let read = numbers_take count_limits bytes made count_small (sym h) in
     (read.0, read.1.0)
 
-heads : {A : Type 0} (x y : A) (xs ys : List A) → x ∷ xs ≡ y ∷ ys → (x ≡ y) × (xs ≡ ys)
-heads x y xs ys e = (cc, cc)
-
 no_digit : (ns : List ℕ) → NoDigit (numbers ns)
 no_digit [] = tt
 no_digit (n ∷ ns) = refl
@@ -50,7 +49,7 @@ goes_on rest more (k ∷ ms) n h is fit =
     let made : List ℕ × List ℕ = (n ∷ [], more) in
     let wanted : List ℕ × List ℕ = (k ∷ [], numbers ms) in
     let same : made ≡ wanted = same_some made wanted (h ∙ ap (numbers_at count_limits) is ∙ first_read k ms (All-head (λ n. n ≤ most_made) k ms fit)) in
-    (k, ms, refl, ap (λ (x : List ℕ × List ℕ). x.1) same, (heads n k [] [] (ap (λ (x : List ℕ × List ℕ). x.0) same)).0)
+    (k, ms, refl, ap (λ (x : List ℕ × List ℕ). x.1) same, (cons_injective n k [] [] (ap (λ (x : List ℕ × List ℕ). x.0) same)).0)
 
 -- numbers that are spelled so go on as they were read, and these bytes are what is left of them
 pub record LeftOver (counts ns rest : List ℕ) : Type 0 where
@@ -64,7 +63,7 @@ pub record TakenCounts (bytes rest : List ℕ) (count : ℕ) (counts : List ℕ)
   pub size : length counts ≡ count
   pub fit : All (λ n. n ≤ most_made) counts
   pub spelled : bytes ≡ numbers counts ++ rest
-  pub only : (ns : List ℕ) → bytes ≡ numbers ns → All (λ n. n ≤ most_made) ns → LeftOver counts ns rest
+  pub only : (other_ns : List ℕ) → bytes ≡ numbers other_ns → All (λ n. n ≤ most_made) other_ns → LeftOver counts other_ns rest
 
 pub no_counts : (bytes counts : List ℕ) → counts ≡ [] → TakenCounts bytes bytes 0 counts
 no_counts bytes counts none = record {
@@ -74,7 +73,7 @@ no_counts bytes counts none = record {
   only = λ ns is fit. record { ms = ns; split = ap (λ (cs : List ℕ). cs ++ ns) (sym none); left = is; fit = fit };
 }
 
-pub counts_more : (bytes rest more : List ℕ) (count n : ℕ) (counts after : List ℕ) → TakenCounts bytes rest count counts → ◌≡◌ {A = Option (List ℕ × List ℕ)} (Some (n ∷ [], more)) (numbers_at count_limits rest) → after ≡ counts ++ n ∷ []
+pub counts_more : (bytes rest more : List ℕ) (count thread : ℕ) (counts after : List ℕ) → TakenCounts bytes rest count counts → ◌≡◌ {A = Option (List ℕ × List ℕ)} (Some (thread ∷ [], more)) (numbers_at count_limits rest) → after ≡ counts ++ thread ∷ []
     → TakenCounts bytes more (count + 1) after
 counts_more bytes rest more count n counts after taken h made =
     let read = one_read rest more n h in
@@ -110,8 +109,8 @@ counts_spelled text bytes rest count counts first taken none =
 
 pub counts_missing : (text bytes rest : List ℕ) (count threads : ℕ) (counts : List ℕ) → ◌≡◌ {A = Option (List ℕ)} (Some bytes) (behind counts_title text) → TakenCounts bytes rest count counts → count < threads → None ≡ numbers_at count_limits rest
     → (ns : List ℕ) → length ns ≡ threads → All (λ n. n ≤ most_made) ns → Spells text (titled counts_title ns) → ⊥
-counts_missing text bytes rest count threads counts first taken low none ns size fit e =
-    by_left (taken.only ns (rest_is counts_title ns text bytes first e) fit)
+counts_missing text bytes rest count threads counts first taken low none ns size fit spells =
+    by_left (taken.only ns (rest_is counts_title ns text bytes first spells) fit)
   where
     by_ms : (ms : List ℕ) → ns ≡ counts ++ ms → rest ≡ numbers ms → All (λ n. n ≤ most_made) ms → ⊥
     by_ms [] split left all_fit = let sizes = ap length split in omega (arith, sizes, length-append counts [], size, taken.size, low)
@@ -122,8 +121,8 @@ counts_missing text bytes rest count threads counts first taken low none ns size
 
 pub counts_many : (text bytes rest : List ℕ) (count threads : ℕ) (counts : List ℕ) → ◌≡◌ {A = Option (List ℕ)} (Some bytes) (behind counts_title text) → TakenCounts bytes rest count counts → count ≡ threads → (rest ≡ [] → ⊥)
     → (ns : List ℕ) → length ns ≡ threads → All (λ n. n ≤ most_made) ns → Spells text (titled counts_title ns) → ⊥
-counts_many text bytes rest count threads counts first taken all some ns size fit e =
-    by_left (taken.only ns (rest_is counts_title ns text bytes first e) fit)
+counts_many text bytes rest count threads counts first taken all some ns size fit spells =
+    by_left (taken.only ns (rest_is counts_title ns text bytes first spells) fit)
   where
     by_ms : (ms : List ℕ) → ns ≡ counts ++ ms → rest ≡ numbers ms → ⊥
     by_ms [] split left = some left

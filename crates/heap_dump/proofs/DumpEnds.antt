@@ -1,5 +1,6 @@
 -- Lines that lead to an end lead to that one alone: bytes are refused once, and none of them is read.
 use Rattle.std.proofs.Common.{ℕ, suc, ◌≡◌, ◌⊎◌, inl, inr, List, [], ◌∷◌, ◌++◌, length, refl, sym, ap, subst, ◌∙◌, Option, None, Some, arith, length-append}
+use Rattle.shen_graph.proofs.Lists.{cons_injective}
 use Rattle.trace_reading.specs.declared.why.Why.{Why}
 use Rattle.trace_reading.specs.declared.why.Why.TheVariants.{DumpWanted}
 use Rattle.trace_reading.specs.Refused.{LineStage, Lead, cause_of}
@@ -8,32 +9,29 @@ use Rattle.heap_dump.specs.DumpLines.{DumpStage, Version, Heap, Threads, Counts,
 use Rattle.heap_dump.proofs.Steps.{IsDumping}
 use Rattle.heap_dump.proofs.LineOnce.{IsWithin, Same, same_back, carry, follows_once, each_small}
 
-heads : {A : Type 0} (x y : A) (xs ys : List A) → x ∷ xs ≡ y ∷ ys → (x ≡ y) × (xs ≡ ys)
-heads x y xs ys e = (cc, cc)
-
 -- ---- ranges stay
 
-pub within_next : (s : DumpStage) (text : List ℕ) (next : DumpStage) → IsWithin s → DumpFollows s text next → IsWithin next
-within_next Version text next within f = subst IsWithin (sym f.1) tt
-within_next Heap text next within f = subst IsWithin (sym f.3) tt
-within_next (Threads h) text next within f = subst IsWithin (sym f.3) tt
-within_next (Counts c) text next within f = subst IsWithin (sym f.4) (omega (arith, f.1, c.in_range.most_mutators), omega arith, each_small f.0 f.2)
-within_next (Listed d) text next within (inl f) = subst IsWithin (sym f.7) (within.0, within.1, within.2)
-within_next (Listed d) text next within (inr (inl f)) =
-    subst IsWithin (sym f.6) (within.0, omega (arith, length-append d.roots (f.0 ∷ []), f.2, d.config.in_range.most_mutators), within.2)
-within_next (Listed d) text next within (inr (inr f)) = subst IsWithin (sym f.2) tt
-within_next (Behind stage) text next within f = subst IsWithin (sym f.2) tt
+pub within_next : (stage : DumpStage) (text : List ℕ) (next : DumpStage) → IsWithin stage → DumpFollows stage text next → IsWithin next
+within_next Version text next within dump_follows = subst IsWithin (sym dump_follows.1) tt
+within_next Heap text next within dump_follows = subst IsWithin (sym dump_follows.3) tt
+within_next (Threads config) text next within dump_follows = subst IsWithin (sym dump_follows.3) tt
+within_next (Counts config) text next within dump_follows = subst IsWithin (sym dump_follows.4) (omega (arith, dump_follows.1, config.in_range.most_mutators), omega arith, each_small dump_follows.0 dump_follows.2)
+within_next (Listed dump) text next within (inl f) = subst IsWithin (sym f.7) (within.0, within.1, within.2)
+within_next (Listed dump) text next within (inr (inl f)) =
+    subst IsWithin (sym f.6) (within.0, omega (arith, length-append dump.roots (f.0 ∷ []), f.2, dump.config.in_range.most_mutators), within.2)
+within_next (Listed dump) text next within (inr (inr f)) = subst IsWithin (sym f.2) tt
+within_next (Behind stage) text next within dump_follows = subst IsWithin (sym dump_follows.2) tt
 
 -- ---- behind the line `trace`
 
 pub behind_lead : (xs : List (List ℕ)) (other_stage : LineStage) (stage : DumpStage) → DumpLead (Behind other_stage) xs stage → (m : LineStage) × (stage ≡ Behind m) × Lead other_stage xs m
 behind_lead [] other_stage stage lead = (other_stage, sym lead, refl)
 behind_lead (x ∷ xs) other_stage stage lead =
-    let more = behind_lead xs lead.1.0 stage (subst (λ (s : DumpStage). DumpLead s xs stage) lead.1.2 lead.2) in
+    let more = behind_lead xs lead.1.0 stage (subst (λ (other_stage : DumpStage). DumpLead other_stage xs stage) lead.1.2 lead.2) in
     (more.0, more.1, (lead.1.0, lead.1.1, more.2))
 
 same_stage : (stage other_stage : LineStage) → Behind stage ≡ Behind other_stage → stage ≡ other_stage
-same_stage stage other_stage e = cc
+same_stage stage other_stage same = cc
 
 -- ---- ends
 
@@ -52,49 +50,49 @@ stop_why (t ∷ []) = ends_by t
 stop_why (t ∷ u ∷ ts) = DumpWanted
 
 stop_is : (stage : DumpStage) (texts : List (List ℕ)) (why : Why) → IsDumping stage → StopsFor stage texts why → why ≡ stop_why texts
-stop_is Version [] why is h = absurd h
-stop_is Version (t ∷ []) why is h = h
-stop_is Version (t ∷ u ∷ ts) why is h = h.0
-stop_is Heap [] why is h = absurd h
-stop_is Heap (t ∷ []) why is h = h
-stop_is Heap (t ∷ u ∷ ts) why is h = h.0
-stop_is (Threads c) [] why is h = absurd h
-stop_is (Threads c) (t ∷ []) why is h = h
-stop_is (Threads c) (t ∷ u ∷ ts) why is h = h.0
-stop_is (Counts c) [] why is h = absurd h
-stop_is (Counts c) (t ∷ []) why is h = h
-stop_is (Counts c) (t ∷ u ∷ ts) why is h = h.0
-stop_is (Listed d) [] why is h = absurd h
-stop_is (Listed d) (t ∷ []) why is h = h
-stop_is (Listed d) (t ∷ u ∷ ts) why is h = h.0
-stop_is (Behind l) texts why is h = absurd is
+stop_is Version [] why is stops_for = absurd stops_for
+stop_is Version (t ∷ []) why is stops_for = stops_for
+stop_is Version (t ∷ u ∷ ts) why is stops_for = stops_for.0
+stop_is Heap [] why is stops_for = absurd stops_for
+stop_is Heap (t ∷ []) why is stops_for = stops_for
+stop_is Heap (t ∷ u ∷ ts) why is stops_for = stops_for.0
+stop_is (Threads config) [] why is stops_for = absurd stops_for
+stop_is (Threads config) (t ∷ []) why is stops_for = stops_for
+stop_is (Threads config) (t ∷ u ∷ ts) why is stops_for = stops_for.0
+stop_is (Counts config) [] why is stops_for = absurd stops_for
+stop_is (Counts config) (t ∷ []) why is stops_for = stops_for
+stop_is (Counts config) (t ∷ u ∷ ts) why is stops_for = stops_for.0
+stop_is (Listed dump) [] why is stops_for = absurd stops_for
+stop_is (Listed dump) (t ∷ []) why is stops_for = stops_for
+stop_is (Listed dump) (t ∷ u ∷ ts) why is stops_for = stops_for.0
+stop_is (Behind stage) texts why is stops_for = absurd is
 
 -- no line follows where the first of them may not stand
 no_more : (stage : DumpStage) (text u : List ℕ) (ts : List (List ℕ)) (why : Why) (next : DumpStage) → IsDumping stage → StopsFor stage (text ∷ u ∷ ts) why → DumpFollows stage text next → ⊥
-no_more Version text u ts why next is h f = h.1 next f
-no_more Heap text u ts why next is h f = h.1 next f
-no_more (Threads c) text u ts why next is h f = h.1 next f
-no_more (Counts c) text u ts why next is h f = h.1 next f
-no_more (Listed d) text u ts why next is h f = h.1 next f
-no_more (Behind l) text u ts why next is h f = absurd is
+no_more Version text u ts why next is stops_for dump_follows = stops_for.1 next dump_follows
+no_more Heap text u ts why next is stops_for dump_follows = stops_for.1 next dump_follows
+no_more (Threads config) text u ts why next is stops_for dump_follows = stops_for.1 next dump_follows
+no_more (Counts config) text u ts why next is stops_for dump_follows = stops_for.1 next dump_follows
+no_more (Listed dump) text u ts why next is stops_for dump_follows = stops_for.1 next dump_follows
+no_more (Behind stage) text u ts why next is stops_for dump_follows = absurd is
 
 not_behind : (stage : DumpStage) (other_stage : LineStage) → IsDumping stage → stage ≡ Behind other_stage → ⊥
-not_behind stage other_stage is e = subst IsDumping e is
+not_behind stage other_stage is same = subst IsDumping same is
 
 no_cause : (stage : LineStage) (why : Why) → cause_of stage [] ≡ Some why → ⊥
 unfolding cause_of
-no_cause stage why e = absurd cc
+no_cause stage why found = absurd cc
 
 -- what is at an end is some text
 some_text : (stage : DumpStage) (texts : List (List ℕ)) → IsAtEnd stage texts → texts ≡ [] → ⊥
-some_text stage texts (inr x) e = absurd (omega (arith, ap length (sym x.2 ∙ e)))
-some_text stage (t ∷ ts) (inl x) e = absurd (omega (arith, ap length e))
-some_text Version [] (inl x) e = x.1
-some_text Heap [] (inl x) e = x.1
-some_text (Threads c) [] (inl x) e = x.1
-some_text (Counts c) [] (inl x) e = x.1
-some_text (Listed d) [] (inl x) e = x.1
-some_text (Behind l) [] (inl x) e = no_cause l x.0 x.1
+some_text stage texts (inr x) same = absurd (omega (arith, ap length (sym x.2 ∙ same)))
+some_text stage (t ∷ ts) (inl x) same = absurd (omega (arith, ap length same))
+some_text Version [] (inl x) same = x.1
+some_text Heap [] (inl x) same = x.1
+some_text (Threads config) [] (inl x) same = x.1
+some_text (Counts config) [] (inl x) same = x.1
+some_text (Listed dump) [] (inl x) same = x.1
+some_text (Behind stage) [] (inl x) same = no_cause stage x.0 x.1
 
 at_stop : (stage : DumpStage) (texts : List (List ℕ)) → IsDumping stage → (end : IsAtEnd stage texts) → cause_at stage texts end ≡ Some (stop_why texts)
 at_stop stage texts is (inl x) = ap Some (stop_is stage texts x.0 is x.1)
@@ -102,13 +100,13 @@ at_stop stage texts is (inr x) = absurd (not_behind stage x.0 is x.1)
 
 -- an end is none where a line follows
 goes_on : (stage : DumpStage) (text : List ℕ) (others : List (List ℕ)) (next : DumpStage) → IsDumping stage → (others ≡ [] → ⊥) → IsAtEnd stage (text ∷ others) → DumpFollows stage text next → ⊥
-goes_on stage text [] next is some end f = some refl
-goes_on stage text (u ∷ ts) next is some (inl x) f = no_more stage text u ts x.0 next is x.1 f
-goes_on stage text (u ∷ ts) next is some (inr x) f = not_behind stage x.0 is x.1
+goes_on stage text [] next is some end dump_follows = some refl
+goes_on stage text (u ∷ ts) next is some (inl x) dump_follows = no_more stage text u ts x.0 next is x.1 dump_follows
+goes_on stage text (u ∷ ts) next is some (inr x) dump_follows = not_behind stage x.0 is x.1
 
 appended : (xs ys : List (List ℕ)) → (ys ≡ [] → ⊥) → xs ++ ys ≡ [] → ⊥
-appended [] ys some e = some e
-appended (x ∷ xs) ys some e = absurd (omega (arith, ap length e))
+appended [] ys some same = some same
+appended (x ∷ xs) ys some same = absurd (omega (arith, ap length same))
 
 -- ---- one end
 
@@ -116,9 +114,9 @@ pub record OneEnd (xs ys : List (List ℕ)) (one other : Option Why) : Type 0 wh
   pub lengths : length xs ≡ length ys
   pub causes : one ≡ other
 
-behind_once : (l : LineStage) (xs ys : List (List ℕ)) (a b : DumpStage) (p q : List (List ℕ)) → DumpLead (Behind l) xs a → DumpLead (Behind l) ys b → xs ++ p ≡ ys ++ q
-    → (f : IsAtEnd a p) (g : IsAtEnd b q) → OneEnd xs ys (cause_at a p f) (cause_at b q g)
-behind_once l xs ys a b p q one other e f g = by_stages (behind_lead xs l a one).0 (behind_lead ys l b other).0 (behind_lead xs l a one).1 (behind_lead ys l b other).1 (behind_lead xs l a one).2 (behind_lead ys l b other).2
+behind_once : (stage : LineStage) (other_xs other_ys : List (List ℕ)) (other_stage b : DumpStage) (texts other_texts : List (List ℕ)) → DumpLead (Behind stage) other_xs other_stage → DumpLead (Behind stage) other_ys b → other_xs ++ texts ≡ other_ys ++ other_texts
+    → (at_end : IsAtEnd other_stage texts) (g : IsAtEnd b other_texts) → OneEnd other_xs other_ys (cause_at other_stage texts at_end) (cause_at b other_texts g)
+behind_once other_stage other_xs other_ys a b p other_texts one other same at_end g = by_stages (behind_lead other_xs other_stage a one).0 (behind_lead other_ys other_stage b other).0 (behind_lead other_xs other_stage a one).1 (behind_lead other_ys other_stage b other).1 (behind_lead other_xs other_stage a one).2 (behind_lead other_ys other_stage b other).2
   where
     to_end : (s : DumpStage) (m : LineStage) (texts : List (List ℕ)) → s ≡ Behind m → IsAtEnd s texts → ((why : Why) × (cause_of m texts ≡ Some why)) ⊎ ((texts ≡ [] ∷ []) × (cause_of m texts ≡ None))
     to_end s m texts is (inl x) = inl (x.0, subst (λ (stage : DumpStage). StopsFor stage texts x.0) is x.1)
@@ -128,10 +126,10 @@ behind_once l xs ys a b p q one other e f g = by_stages (behind_lead xs l a one)
     its_cause s m texts is (inl x) = sym (subst (λ (stage : DumpStage). StopsFor stage texts x.0) is x.1)
     its_cause s m texts is (inr x) = sym (subst (λ (stage : LineStage). cause_of stage texts ≡ None) (same_stage x.0 m (sym x.1 ∙ is)) x.3)
 
-    by_stages : (m k : LineStage) → a ≡ Behind m → b ≡ Behind k → Lead l xs m → Lead l ys k → OneEnd xs ys (cause_at a p f) (cause_at b q g)
+    by_stages : (m k : LineStage) → a ≡ Behind m → b ≡ Behind k → Lead other_stage other_xs m → Lead other_stage other_ys k → OneEnd other_xs other_ys (cause_at a p at_end) (cause_at b other_texts g)
     by_stages m k is also lead more =
-        let both = one_end l xs ys m k p q lead more e (to_end a m p is f) (to_end b k q also g) in
-        record { lengths = both.0; causes = its_cause a m p is f ∙ both.1 ∙ sym (its_cause b k q also g) }
+        let both = one_end other_stage other_xs other_ys m k p other_texts lead more same (to_end a m p is at_end) (to_end b k other_texts also g) in
+        record { lengths = both.0; causes = its_cause a m p is at_end ∙ both.1 ∙ sym (its_cause b k other_texts also g) }
 
 -- a stage is before the line `trace` or behind it
 abbrev Which : DumpStage → Type 0
@@ -140,10 +138,10 @@ Which stage = IsDumping stage ⊎ ((other_stage : LineStage) × (stage ≡ Behin
 which : (stage : DumpStage) → Which stage
 which Version = inl tt
 which Heap = inl tt
-which (Threads c) = inl tt
-which (Counts c) = inl tt
-which (Listed d) = inl tt
-which (Behind l) = inr (l, refl)
+which (Threads config) = inl tt
+which (Counts config) = inl tt
+which (Listed dump) = inl tt
+which (Behind stage) = inr (stage, refl)
 
 dumping_same : (stage other_stage : DumpStage) → Same stage other_stage → IsDumping stage → IsDumping other_stage
 dumping_same stage other_stage (inl e) is = subst IsDumping e is
@@ -153,51 +151,51 @@ behind_same : (stage other_stage : DumpStage) (l : LineStage) → Same stage oth
 behind_same stage other_stage l (inl e) is = sym e ∙ is
 behind_same stage other_stage l (inr x) is = absurd (not_behind (Threads x.0) l tt (sym x.2 ∙ is))
 
-from_behind : (s t : DumpStage) (stage : LineStage) → s ≡ Behind stage → Same s t → (xs ys : List (List ℕ)) (a b : DumpStage) (p q : List (List ℕ)) → DumpLead s xs a → DumpLead t ys b → xs ++ p ≡ ys ++ q
-    → (f : IsAtEnd a p) (g : IsAtEnd b q) → OneEnd xs ys (cause_at a p f) (cause_at b q g)
-from_behind s t stage is same xs ys a b p q one other e f g =
-    behind_once stage xs ys a b p q (subst (λ (stage : DumpStage). DumpLead stage xs a) is one) (subst (λ (stage : DumpStage). DumpLead stage ys b) (behind_same s t stage same is) other) e f g
+from_behind : (s t : DumpStage) (stage : LineStage) → s ≡ Behind stage → Same s t → (other_xs other_ys : List (List ℕ)) (a b : DumpStage) (texts other_texts : List (List ℕ)) → DumpLead s other_xs a → DumpLead t other_ys b → other_xs ++ texts ≡ other_ys ++ other_texts
+    → (at_end : IsAtEnd a texts) (g : IsAtEnd b other_texts) → OneEnd other_xs other_ys (cause_at a texts at_end) (cause_at b other_texts g)
+from_behind other_stage t stage is same other_xs other_ys a b texts q one other e at_end g =
+    behind_once stage other_xs other_ys a b texts q (subst (λ (stage : DumpStage). DumpLead stage other_xs a) is one) (subst (λ (stage : DumpStage). DumpLead stage other_ys b) (behind_same other_stage t stage same is) other) e at_end g
 
-pub dump_end : (s t : DumpStage) (xs ys : List (List ℕ)) (a b : DumpStage) (p q : List (List ℕ)) → Same s t → IsWithin s → DumpLead s xs a → DumpLead t ys b → xs ++ p ≡ ys ++ q
-    → (f : IsAtEnd a p) (g : IsAtEnd b q) → OneEnd xs ys (cause_at a p f) (cause_at b q g)
-dump_end s t [] [] a b p q same within one other e f g = by_which (which s)
+pub dump_end : (s t : DumpStage) (other_xs other_ys : List (List ℕ)) (a b : DumpStage) (texts other_texts : List (List ℕ)) → Same s t → IsWithin s → DumpLead s other_xs a → DumpLead t other_ys b → other_xs ++ texts ≡ other_ys ++ other_texts
+    → (end : IsAtEnd a texts) (other_end : IsAtEnd b other_texts) → OneEnd other_xs other_ys (cause_at a texts end) (cause_at b other_texts other_end)
+dump_end stage other_stage [] [] a b texts other_texts same within one other e end other_end = by_which (which stage)
   where
-    by_which : Which s → OneEnd [] [] (cause_at a p f) (cause_at b q g)
+    by_which : Which stage → OneEnd [] [] (cause_at a texts end) (cause_at b other_texts other_end)
     by_which (inl is) = record {
       lengths = refl;
-      causes = at_stop a p (subst IsDumping one is) f ∙ ap (λ (ts : List (List ℕ)). Some (stop_why ts)) e ∙ sym (at_stop b q (subst IsDumping other (dumping_same s t same is)) g);
+      causes = at_stop a texts (subst IsDumping one is) end ∙ ap (λ (ts : List (List ℕ)). Some (stop_why ts)) e ∙ sym (at_stop b other_texts (subst IsDumping other (dumping_same stage other_stage same is)) other_end);
     }
-    by_which (inr x) = from_behind s t x.0 x.1 same [] [] a b p q one other e f g
-dump_end s t [] (y ∷ ys) a b p q same within one other e f g = by_which (which s)
+    by_which (inr x) = from_behind stage other_stage x.0 x.1 same [] [] a b texts other_texts one other e end other_end
+dump_end other_stage t [] (text ∷ rest) a b texts q same within one other e end at_end = by_which (which other_stage)
   where
-    by_which : Which s → OneEnd [] (y ∷ ys) (cause_at a p f) (cause_at b q g)
+    by_which : Which other_stage → OneEnd [] (text ∷ rest) (cause_at a texts end) (cause_at b q at_end)
     by_which (inl is) =
-        let here : IsAtEnd s (y ∷ (ys ++ q)) = subst (λ (stage : DumpStage). IsAtEnd stage (y ∷ (ys ++ q))) (sym one) (subst (IsAtEnd a) e f) in
-        absurd (goes_on s y (ys ++ q) other.0 is (appended ys q (some_text b q g)) here (carry s t y other.0 same other.1))
-    by_which (inr x) = from_behind s t x.0 x.1 same [] (y ∷ ys) a b p q one other e f g
-dump_end s t (x ∷ xs) [] a b p q same within one other e f g = by_which (which s)
+        let here : IsAtEnd other_stage (text ∷ (rest ++ q)) = subst (λ (stage : DumpStage). IsAtEnd stage (text ∷ (rest ++ q))) (sym one) (subst (IsAtEnd a) e end) in
+        absurd (goes_on other_stage text (rest ++ q) other.0 is (appended rest q (some_text b q at_end)) here (carry other_stage t text other.0 same other.1))
+    by_which (inr x) = from_behind other_stage t x.0 x.1 same [] (text ∷ rest) a b texts q one other e end at_end
+dump_end other_stage t (text ∷ rest) [] a b texts other_texts same within one other e end at_end = by_which (which other_stage)
   where
-    by_which : Which s → OneEnd (x ∷ xs) [] (cause_at a p f) (cause_at b q g)
+    by_which : Which other_stage → OneEnd (text ∷ rest) [] (cause_at a texts end) (cause_at b other_texts at_end)
     by_which (inl is) =
-        let here : IsAtEnd t (x ∷ (xs ++ p)) = subst (λ (stage : DumpStage). IsAtEnd stage (x ∷ (xs ++ p))) (sym other) (subst (IsAtEnd b) (sym e) g) in
-        absurd (goes_on t x (xs ++ p) one.0 (dumping_same s t same is) (appended xs p (some_text a p f)) here (carry t s x one.0 (same_back s t same) one.1))
-    by_which (inr z) = from_behind s t z.0 z.1 same (x ∷ xs) [] a b p q one other e f g
-dump_end s t (x ∷ xs) (y ∷ ys) a b p q same within one other e f g = by_which (which s) (λ u v alike fine lead more rest. dump_end u v xs ys a b p q alike fine lead more rest f g)
+        let here : IsAtEnd t (text ∷ (rest ++ texts)) = subst (λ (stage : DumpStage). IsAtEnd stage (text ∷ (rest ++ texts))) (sym other) (subst (IsAtEnd b) (sym e) at_end) in
+        absurd (goes_on t text (rest ++ texts) one.0 (dumping_same other_stage t same is) (appended rest texts (some_text a texts end)) here (carry t other_stage text one.0 (same_back other_stage t same) one.1))
+    by_which (inr z) = from_behind other_stage t z.0 z.1 same (text ∷ rest) [] a b texts other_texts one other e end at_end
+dump_end stage other_stage (text ∷ xs) (other_text ∷ ys) a b texts other_texts same within one other e end at_end = by_which (which stage) (λ u v alike fine lead more rest. dump_end u v xs ys a b texts other_texts alike fine lead more rest end at_end)
   where
-    by_which : Which s → ((u v : DumpStage) → Same u v → IsWithin u → DumpLead u xs a → DumpLead v ys b → xs ++ p ≡ ys ++ q → OneEnd xs ys (cause_at a p f) (cause_at b q g))
-        → OneEnd (x ∷ xs) (y ∷ ys) (cause_at a p f) (cause_at b q g)
+    by_which : Which stage → ((u v : DumpStage) → Same u v → IsWithin u → DumpLead u xs a → DumpLead v ys b → xs ++ texts ≡ ys ++ other_texts → OneEnd xs ys (cause_at a texts end) (cause_at b other_texts at_end))
+        → OneEnd (text ∷ xs) (other_text ∷ ys) (cause_at a texts end) (cause_at b other_texts at_end)
     by_which (inl is) go =
-        let first = heads x y (xs ++ p) (ys ++ q) e in
-        let also : DumpFollows s x other.0 = subst (λ (u : List ℕ). DumpFollows s u other.0) (sym first.0) (carry s t y other.0 same other.1) in
-        let more = go one.0 other.0 (follows_once s x one.0 other.0 is within one.1 also) (within_next s x one.0 within one.1) one.2 other.2 first.1 in
+        let first = cons_injective text other_text (xs ++ texts) (ys ++ other_texts) e in
+        let also : DumpFollows stage text other.0 = subst (λ (u : List ℕ). DumpFollows stage u other.0) (sym first.0) (carry stage other_stage other_text other.0 same other.1) in
+        let more = go one.0 other.0 (follows_once stage text one.0 other.0 is within one.1 also) (within_next stage text one.0 within one.1) one.2 other.2 first.1 in
         record { lengths = ap suc more.lengths; causes = more.causes }
-    by_which (inr z) go = from_behind s t z.0 z.1 same (x ∷ xs) (y ∷ ys) a b p q one other e f g
+    by_which (inr z) go = from_behind stage other_stage z.0 z.1 same (text ∷ xs) (other_text ∷ ys) a b texts other_texts one other e end at_end
 
 -- bytes are refused once
 pub refused_once : (bytes : List ℕ) (n m : ℕ) (why other : Why) → DumpStopsAt bytes n why → DumpStopsAt bytes m other → (n ≡ m) × (why ≡ other)
-refused_once bytes n m why other s t =
-    let one = dump_end Version Version s.before t.before s.stage t.stage s.from_it t.from_it (inl refl) tt s.lead t.lead (sym s.lines ∙ t.lines) (inl (why, s.cause)) (inl (other, t.cause)) in
-    (omega (arith, s.number, t.number, one.lengths), same_why why other one.causes)
+refused_once bytes n m why other dump_stops_at t =
+    let one = dump_end Version Version dump_stops_at.before t.before dump_stops_at.stage t.stage dump_stops_at.from_it t.from_it (inl refl) tt dump_stops_at.lead t.lead (sym dump_stops_at.lines ∙ t.lines) (inl (why, dump_stops_at.cause)) (inl (other, t.cause)) in
+    (omega (arith, dump_stops_at.number, t.number, one.lengths), same_why why other one.causes)
   where
     same_why : (v w : Why) → Some v ≡ Some w → v ≡ w
     same_why v w e = cc

@@ -27,30 +27,30 @@ use Rattle.graph_placing.proofs.Searching.{names_count, name_of_row}
 use Rattle.graph_placing.proofs.TextGraphs.{has_object, is_graph}
 
 module _ (config : Config) (counts : List ℕ) (text : Text) (is : IsDump (dumped config counts text)) where
-  abbrev g : Graph
-  g = graph_in (dumped config counts text)
+  abbrev graph_then : Graph
+  graph_then = graph_in (dumped config counts text)
 
-  abbrev n : ℕ
-  n = length text.rows
+  abbrev row_count : ℕ
+  row_count = length text.rows
 
-  row_is : (k : ℕ) → k < n → IsRow counts (row_of text k)
+  row_is : (k : ℕ) → k < row_count → IsRow counts (row_of text k)
   row_is k below = All-get_or (IsRow counts) text.rows k (bare hub) below is.form.rows
 
   -- each row can be reached
-  row_reached : (index : ℕ) → index < n → IsReachable g (row_of text index).name
+  row_reached : (index : ℕ) → index < row_count → IsReachable graph_then (row_of text index).name
   row_reached index below =
       let there : get_or (names_of text) index hub ≡ (row_of text index).name = name_of_row text index hub below in
-      subst (IsReachable g) there (is.reach.only (get_or (names_of text) index hub) (Contains-get_or (names_of text) index hub (omega (arith, below, names_count text))))
+      subst (IsReachable graph_then) there (is.reach.only (get_or (names_of text) index hub) (Contains-get_or (names_of text) index hub (omega (arith, below, names_count text))))
 
   -- and its object is the graph's
-  row_named : (k : ℕ) → k < n → named g (Some (row_of text k).name) ≡ row_object (row_of text k)
+  row_named : (index : ℕ) → index < row_count → named graph_then (Some (row_of text index).name) ≡ row_object (row_of text index)
   unfolding graph_of
-  row_named k below = ap (λ (found : Option Object). unwrap_or found (record { refs = []; nums = [] })) (has_object text.rows is.form.order k (bare hub) below)
+  row_named index below = ap (λ (found : Option Object). unwrap_or found (record { refs = []; nums = [] })) (has_object text.rows is.form.order index (bare hub) below)
 
-  root_is : (thread index : ℕ) → 1 ≤ thread → g.root thread index ≡ root_of text thread index
+  root_is : (thread index : ℕ) → 1 ≤ thread → graph_then.root thread index ≡ root_of text thread index
   unfolding graph_of
-  root_is zero index some = absurd (omega (arith, some))
-  root_is (suc thread) index some = let back : thread ≡ suc thread - 1 = omega arith in ap (λ (k : ℕ). get_or (get_or text.roots k []) index None) back
+  root_is zero index positive = absurd (omega (arith, positive))
+  root_is (suc thread) index positive = let back : thread ≡ suc thread - 1 = omega arith in ap (λ (k : ℕ). get_or (get_or text.roots k []) index None) back
 
   pub placeable : IsPlaceable config text
   placeable = record {
@@ -72,8 +72,8 @@ module _ (config : Config) (counts : List ℕ) (text : Text) (is : IsDump (dumpe
 
   count_is : (thread : ℕ) → 1 ≤ thread → (text_graph text counts).count thread ≡ get_or counts (thread - 1) 0
   unfolding graph_of
-  count_is zero some = absurd (omega (arith, some))
-  count_is (suc thread) some = let back : thread ≡ suc thread - 1 = omega arith in ap (λ (k : ℕ). get_or counts k 0) back
+  count_is zero positive = absurd (omega (arith, positive))
+  count_is (suc thread) positive = let back : thread ≡ suc thread - 1 = omega arith in ap (λ (index : ℕ). get_or counts index 0) back
 
   is_given : (name : Name) → IsNamed counts name → IsGiven config (text_graph text counts).count name
   is_given name named_by = ⊎_elim
@@ -88,12 +88,12 @@ module _ (config : Config) (counts : List ℕ) (text : Text) (is : IsDump (dumpe
       })
       named_by
 
-  graph_is : IsGraphOf config text counts g
+  graph_is : IsGraphOf config text counts graph_then
   graph_is = is_graph config text counts placeable (λ k below. is_given (row_of text k).name (row_is k below).name)
 
-  pub can_begin : (memory : Word → ℕ) → IsPlaced config text memory → ((more : List ℕ) (graph : Graph) → IsGraphOf config text more graph → Represents config memory graph (λ m. nothing)) → CanBeginFrom config memory counts g
+  pub can_begin : (memory : Word → ℕ) → IsPlaced config text memory → ((more : List ℕ) (graph : Graph) → IsGraphOf config text more graph → Represents config memory graph (λ m. nothing)) → CanBeginFrom config memory counts graph_then
   can_begin memory placed stands = record {
-    stands = stands counts g graph_is;
+    stands = stands counts graph_then graph_is;
     outside = record { pause = placed.others Pause refl; states = λ seat below. placed.others (State seat) refl; left = placed.left };
     counts_are = graph_is.counts_are;
   }

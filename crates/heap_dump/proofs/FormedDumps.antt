@@ -8,6 +8,7 @@ use Rattle.std.proofs.lemmas.List.Elements.{All-map, Contains-get_or, Contains-a
 use Rattle.std.proofs.lemmas.List.FromFn.{length-map-range_with_len, get_or-map-range_with_len}
 use Rattle.std.proofs.lemmas.Option.{slice_get-map, get_or_from_slice_get, slice_get_within}
 use Rattle.std.specs.Option.{option_map}
+use Rattle.shen_graph.proofs.Lists.{element_of_all, slice_get-from_Contains}
 use Rattle.heap_words.specs.declared.config.Config.{Config}
 use Rattle.heap_words.specs.Narrow.{IsNarrow}
 use Rattle.shen_graph.specs.declared.name.Name.{Name}
@@ -20,7 +21,6 @@ use Rattle.shen_graph.specs.Reach.IsReachable.{from_root, from_pin, from_field}
 use Rattle.shen_graph.specs.Step.{name_in}
 use Rattle.shen_graph.specs.History.{Entry, after}
 use Rattle.shen_graph.proofs.PlainLemmas.{fun_ext}
-use Rattle.shen_graph.proofs.ReachLemmas.{slice_get-from_Contains}
 use Rattle.heap_world.specs.Shows.{ShowsGraph}
 use Rattle.heap_dump.specs.Dumped.{Dumped, dumped, names_in, graph_in, root_rows, most_made, unpinned, IsNamed, IsRow, IsInForm, IsDump, HasDump, IsDumpOf}
 use Rattle.heap_dump.proofs.OwnGraph.{fields_of, length-names, object_at, counts_again}
@@ -33,27 +33,24 @@ use Rattle.heap_dump.proofs.ObjectCounts.{made-count}
 abbrev pub PinsNone : Graph → Type 0
 PinsNone graph = (thread s : ℕ) → graph.pin thread s ≡ None
 
-pub carried : (graph other_graph : Graph) → PinsNone graph → ((thread r : ℕ) → graph.root thread r ≡ other_graph.root thread r) → ((name : Name) → IsReachable graph name → named graph (Some name) ≡ named other_graph (Some name)) → (name : Name) → IsReachable graph name → IsReachable other_graph name
+pub carried : (graph other_graph : Graph) → PinsNone graph → ((thread index : ℕ) → graph.root thread index ≡ other_graph.root thread index) → ((name : Name) → IsReachable graph name → named graph (Some name) ≡ named other_graph (Some name)) → (name : Name) → IsReachable graph name → IsReachable other_graph name
 carried graph other_graph none roots same _ (from_root thread r name is) = from_root thread r name (sym (roots thread r) ∙ is)
 carried graph other_graph none roots same _ (from_pin thread s held is) = let both = sym is ∙ none thread s in absurd cc
-carried graph other_graph none roots same _ (from_field m name field there is) =
-    from_field m name field (carried graph other_graph none roots same m there) (ap (λ (object : Object). slice_get object.refs field) (sym (same m there)) ∙ is)
+carried graph other_graph none roots same _ (from_field other_name name field there is) =
+    from_field other_name name field (carried graph other_graph none roots same other_name there) (ap (λ (object : Object). slice_get object.refs field) (sym (same other_name there)) ∙ is)
 
-pub carried_back : (graph other_graph : Graph) → PinsNone other_graph → ((thread r : ℕ) → graph.root thread r ≡ other_graph.root thread r) → ((name : Name) → IsReachable graph name → named graph (Some name) ≡ named other_graph (Some name)) → (name : Name) → IsReachable other_graph name → IsReachable graph name
+pub carried_back : (graph other_graph : Graph) → PinsNone other_graph → ((thread index : ℕ) → graph.root thread index ≡ other_graph.root thread index) → ((name : Name) → IsReachable graph name → named graph (Some name) ≡ named other_graph (Some name)) → (name : Name) → IsReachable other_graph name → IsReachable graph name
 carried_back graph other_graph none roots same _ (from_root thread r name is) = from_root thread r name (roots thread r ∙ is)
 carried_back graph other_graph none roots same _ (from_pin thread s held is) = let both = sym is ∙ none thread s in absurd cc
-carried_back graph other_graph none roots same _ (from_field m name field there is) =
-    let here = carried_back graph other_graph none roots same m there in
-    from_field m name field here (ap (λ (object : Object). slice_get object.refs field) (same m here) ∙ is)
+carried_back graph other_graph none roots same _ (from_field other_name name field there is) =
+    let here = carried_back graph other_graph none roots same other_name there in
+    from_field other_name name field here (ap (λ (object : Object). slice_get object.refs field) (same other_name here) ∙ is)
 
 -- what is reached without pins is reached
 led_with_pins : (graph : Graph) (name : Name) → IsReachable (unpinned graph) name → IsReachable graph name
 led_with_pins graph _ (from_root t r name is) = from_root t r name is
 led_with_pins graph _ (from_pin t s held is) = absurd cc
-led_with_pins graph _ (from_field m name field there is) = from_field m name field (led_with_pins graph m there) is
-
-element : {X : Type 0} (P : X → Type 0) (xs : List X) (index : ℕ) (x : X) → All P xs → slice_get xs index ≡ Some x → P x
-element P xs index x all there = subst P (get_or_from_slice_get xs index x x there) (all index x (slice_get_within xs index x there))
+led_with_pins graph _ (from_field other_name name field there is) = from_field other_name name field (led_with_pins graph other_name there) is
 
 map_same_on : {A B : Type 0} (f g : A → B) (xs : List A) → ((x : A) → Contains xs x → f x ≡ g x) → map f xs ≡ map g xs
 map_same_on f g [] same = refl
@@ -62,9 +59,9 @@ map_same_on f g (x ∷ xs) same =
 
 -- what can be reached is known
 reachable_known : (threads : ℕ) (graph : Graph) → IsFormed threads graph → (name : Name) → IsReachable graph name → IsKnown threads graph.count (Some name)
-reachable_known threads graph formed _ (from_root t r name is) = subst (IsKnown threads graph.count) is (formed.root t r)
-reachable_known threads graph formed _ (from_pin t s held is) = subst (λ (found : Option Pinned). IsKnown threads graph.count (name_in found)) is (formed.pin t s)
-reachable_known threads graph formed _ (from_field m name field there is) = element (IsKnown threads graph.count) (named graph (Some m)).refs field (Some name) (refs_known threads graph (Some m) formed) is
+reachable_known threads graph formed _ (from_root thread index name is) = subst (IsKnown threads graph.count) is (formed.root thread index)
+reachable_known threads graph formed _ (from_pin thread slot held is) = subst (λ (found : Option Pinned). IsKnown threads graph.count (name_in found)) is (formed.pin thread slot)
+reachable_known threads graph formed _ (from_field m name field there is) = element_of_all (IsKnown threads graph.count) (named graph (Some m)).refs field (Some name) (refs_known threads graph (Some m) formed) is
 
 -- ---- a graph and the graph of a dump that has its parts
 
@@ -87,7 +84,7 @@ parts_of_dump config graph dump is = record {
   roots = ap (λ (dump : Dumped). dump.roots) is.parts;
   order = is.reach.in_order;
   all = is.reach.all;
-  only = λ n there. led_with_pins graph n (is.reach.only n there);
+  only = λ name there. led_with_pins graph name (is.reach.only name there);
 }
 
 module _ (config : Config) (graph : Graph) (narrow : IsNarrow config) (formed : IsFormed config.mutators graph) (few : (t : ℕ) → graph.count t ≤ most_made) (dump : Dumped) (is : HasPartsOf config graph dump) where
@@ -102,7 +99,7 @@ module _ (config : Config) (graph : Graph) (narrow : IsNarrow config) (formed : 
   no_roots = []
 
   abbrev row_of_roots : ℕ → List Reference
-  row_of_roots t = map (graph.root t) (range_with_len 0 16)
+  row_of_roots thread = map (graph.root thread) (range_with_len 0 16)
 
   -- a row of roots
   row_at : (mutator : ℕ) → mutator < config.mutators → get_or dump.roots mutator [] ≡ row_of_roots (suc mutator)
@@ -122,10 +119,10 @@ module _ (config : Config) (graph : Graph) (narrow : IsNarrow config) (formed : 
       by_thread (inr high) any =
           ap (λ (row : List Reference). get_or row index None) (get_or_past dump.roots mutator no_roots (omega (arith, length-roots, high))) ∙ sym (none_beyond (suc mutator) index (λ w. absurd (omega (arith, high, w.1))))
 
-  same_roots : (thread r : ℕ) → graph.root thread r ≡ (graph_in dump).root thread r
+  same_roots : (thread index : ℕ) → graph.root thread index ≡ (graph_in dump).root thread index
   unfolding graph_of
-  same_roots zero r = none_beyond zero r (λ w. absurd (omega (arith, w.0)))
-  same_roots (suc k) r = sym (root_is k r)
+  same_roots zero index = none_beyond zero index (λ w. absurd (omega (arith, w.0)))
+  same_roots (suc mutator) index = sym (root_is mutator index)
 
   -- the row of a name
   abbrev nobody : Row
@@ -182,7 +179,7 @@ module _ (config : Config) (graph : Graph) (narrow : IsNarrow config) (formed : 
       }
 
   rows_formed : All (IsRow dump.counts) dump.rows
-  rows_formed = subst (All (IsRow dump.counts)) (sym is.rows) (All-map (IsRow dump.counts) (row_in graph) (names_in dump) (λ k n low. row_formed _ (is.only _ (Contains-get_or (names_in dump) k n low))))
+  rows_formed = subst (All (IsRow dump.counts)) (sym is.rows) (All-map (IsRow dump.counts) (row_in graph) (names_in dump) (λ index n low. row_formed _ (is.only _ (Contains-get_or (names_in dump) index n low))))
 
   form_is : IsInForm dump
   form_is = record {
@@ -192,18 +189,18 @@ module _ (config : Config) (graph : Graph) (narrow : IsNarrow config) (formed : 
     rows = rows_formed;
     order = is.order;
     each = length-roots ∙ sym (ap (λ (config : Config). config.mutators) is.config);
-    roots = subst (All (λ row. length row ≡ 16)) (sym is.roots) (All-map (λ row. length row ≡ 16) row_of_roots (range_with_len 1 config.mutators) (λ k t low. length-map-range_with_len (graph.root (get_or (range_with_len 1 config.mutators) k t)) 0 16));
+    roots = subst (All (λ row. length row ≡ 16)) (sym is.roots) (All-map (λ row. length row ≡ 16) row_of_roots (range_with_len 1 config.mutators) (λ index t low. length-map-range_with_len (graph.root (get_or (range_with_len 1 config.mutators) index t)) 0 16));
   }
 
   -- a dump can be made of it
   pub has_dump : HasDump dump
-  has_dump = record { form = form_is; all = λ n led. is.all n (lead_back n led) }
+  has_dump = record { form = form_is; all = λ name led. is.all name (lead_back name led) }
 
   -- it is one, where it has no more rows than the roots lead to
   pub dump_is : IsReach (unpinned graph) (names_in dump) → IsDump dump
   dump_is reach = record {
     form = form_is;
-    reach = record { in_order = is.order; all = has_dump.all; only = λ n there. lead_on n (reach.only n there) };
+    reach = record { in_order = is.order; all = has_dump.all; only = λ name there. lead_on name (reach.only name there) };
   }
 
   -- ---- the dump of its graph is that of the graph
@@ -222,16 +219,16 @@ module _ (config : Config) (graph : Graph) (narrow : IsNarrow config) (formed : 
   same_rows names there = map_same_on (row_in (graph_in dump)) (row_in graph) names (λ name in_names. ap (λ (object : Object). record { name = name; refs = object.refs; nums = object.nums }) (sym (same_objects name (there name in_names))))
 
   same_root_rows : root_rows (graph_in dump) config.mutators ≡ root_rows graph config.mutators
-  same_root_rows = ap (λ (root : ℕ → ℕ → Reference). map (λ t. map (root t) (range_with_len 0 16)) (range_with_len 1 config.mutators))
-      (fun_ext (graph_in dump).root graph.root (λ t. fun_ext ((graph_in dump).root t) (graph.root t) (λ r. sym (same_roots t r))))
+  same_root_rows = ap (λ (root : ℕ → ℕ → Reference). map (λ thread. map (root thread) (range_with_len 0 16)) (range_with_len 1 config.mutators))
+      (fun_ext (graph_in dump).root graph.root (λ thread. fun_ext ((graph_in dump).root thread) (graph.root thread) (λ index. sym (same_roots thread index))))
 
   pub dump_through : (e : Dumped) → IsDumpOf config (graph_in dump) e → IsDumpOf config graph e
-  dump_through e of = record {
-    reach = record { in_order = of.reach.in_order; all = λ n led. of.reach.all n (unpinned_on n led); only = λ n there. unpinned_back n (of.reach.only n there) };
-    parts = (of.parts
+  dump_through e dump_of = record {
+    reach = record { in_order = dump_of.reach.in_order; all = λ name led. dump_of.reach.all name (unpinned_on name led); only = λ name there. unpinned_back name (dump_of.reach.only name there) };
+    parts = (dump_of.parts
         ∙ ap (λ (counts : List ℕ). record { config = config; counts = counts; rows = map (row_in (graph_in dump)) (names_in e); roots = root_rows (graph_in dump) config.mutators }) same_counts
         ∙ ap (λ (rows : List Row). record { config = config; counts = map graph.count (range_with_len 1 config.mutators); rows = rows; roots = root_rows (graph_in dump) config.mutators })
-        (same_rows (names_in e) (λ n there. is.all n (unpinned_back n (of.reach.only n there))))
+        (same_rows (names_in e) (λ name there. is.all name (unpinned_back name (dump_of.reach.only name there))))
         ∙ ap (λ (roots : List (List Reference)). record { config = config; counts = map graph.count (range_with_len 1 config.mutators); rows = map (row_in graph) (names_in e); roots = roots }) same_root_rows);
   }
 
@@ -274,7 +271,7 @@ parts_of_text config history counts text dumpable shows counts_are =
       rows = shows.rows;
       roots = shows.roots;
       order = shows.reach.in_order;
-      all = λ n led. shows.reach.all n (led_with_pins g n led);
+      all = λ name led. shows.reach.all name (led_with_pins g name led);
       only = shows.reach.only;
     }
 

@@ -1,11 +1,12 @@
 -- The graph of a legal history is formed: its names are those of the hub and of objects that threads made, and fields and numbers are in
 -- range.
 use Rattle.std.proofs.Common.{◌≡◌, ◌⊎◌, inl, inr, ℕ, ◌+◌, ◌^◌, ◌<◌, ◌≤◌, ◌&&◌, Bool, true, false, cond, eqb, List, [], ◌∷◌, length, Option, Some, None, refl, sym, ap, ◌∙◌, subst, arith, All}
-use Rattle.std.specs.Prelude.{slice_get, slice_set, unwrap_or, is_some}
+use Rattle.std.specs.Prelude.{slice_set, unwrap_or, is_some}
 use Rattle.std.proofs.lemmas.List.{length-replicate, length-set}
 use Rattle.std.proofs.lemmas.List.Elements.{All-nil, All-replicate, All-set, All-head, All-tail}
-use Rattle.std.proofs.lemmas.Option.{slice_get_within, get_or_from_slice_get, same_Some}
+use Rattle.std.proofs.lemmas.Option.{same_Some}
 use Rattle.std.proofs.lemmas.Bool.Decides.{nat_tests}
+use Rattle.shen_graph.proofs.Lists.{element_of_all}
 use Rattle.shen_graph.specs.declared.name.Name.{Name}
 use Rattle.shen_graph.specs.declared.command.Command.{Command}
 use Rattle.shen_graph.specs.declared.command.Command.TheVariants.{New, Get, Set, Cas, Xchg, Rd, Wr, Copy, Drop, Same, Gc, Pin, Unpin}
@@ -27,7 +28,7 @@ pub record IsMade (threads : ℕ) (count : ℕ → ℕ) (name : Name) : Type 0 w
 -- null, the hub, or the name of such an object
 abbrev pub IsKnown : ℕ → (ℕ → ℕ) → Reference → Type 0
 IsKnown threads count None = Unit {0}
-IsKnown threads count (Some n) = (n ≡ hub) ⊎ IsMade threads count n
+IsKnown threads count (Some name) = (name ≡ hub) ⊎ IsMade threads count name
 
 -- an object of a name
 pub record IsFormedObject (threads : ℕ) (count : ℕ → ℕ) (name : Name) (object : Object) : Type 0 where
@@ -45,22 +46,22 @@ pub record IsRootWithin (threads t r : ℕ) : Type 0 where
   pub low : r < 16
 
 pub record IsFormed (threads : ℕ) (graph : Graph) : Type 0 where
-  pub root : (thread r : ℕ) → IsKnown threads graph.count (graph.root thread r)
-  pub within : (thread r : ℕ) (name : Name) → graph.root thread r ≡ Some name → IsRootWithin threads thread r
+  pub root : (thread index : ℕ) → IsKnown threads graph.count (graph.root thread index)
+  pub within : (thread index : ℕ) (name : Name) → graph.root thread index ≡ Some name → IsRootWithin threads thread index
   pub object : (name : Name) (o : Object) → graph.object name ≡ Some o → IsFormedObject threads graph.count name o
-  pub hub_there : (o : Object) × (graph.object hub ≡ Some o)
-  pub pin : (thread s : ℕ) → IsKnown threads graph.count (name_in (graph.pin thread s))
+  pub hub_there : (object : Object) × (graph.object hub ≡ Some object)
+  pub pin : (thread slot : ℕ) → IsKnown threads graph.count (name_in (graph.pin thread slot))
 
 -- ---- more objects
 
-more_known : (threads : ℕ) (count more : ℕ → ℕ) (reference : Reference) → ((t : ℕ) → count t ≤ more t) → IsKnown threads count reference → IsKnown threads more reference
+more_known : (threads : ℕ) (count more : ℕ → ℕ) (reference : Reference) → ((thread : ℕ) → count thread ≤ more thread) → IsKnown threads count reference → IsKnown threads more reference
 more_known threads count more None up known = tt
 more_known threads count more (Some n) up (inl is) = inl is
 more_known threads count more (Some n) up (inr made) =
     let higher = up n.thread in
     inr (record { from_first = made.from_first; to_last = made.to_last; from_one = made.from_one; to_count = omega (arith, made.to_count, higher) })
 
-more_formed : (threads : ℕ) (count more : ℕ → ℕ) (name : Name) (object : Object) → ((t : ℕ) → count t ≤ more t) → IsFormedObject threads count name object → IsFormedObject threads more name object
+more_formed : (threads : ℕ) (count more : ℕ → ℕ) (name : Name) (object : Object) → ((thread : ℕ) → count thread ≤ more thread) → IsFormedObject threads count name object → IsFormedObject threads more name object
 more_formed threads count more name object up formed = record {
   refs = λ k d below. more_known threads count more _ up (formed.refs k d below);
   few_refs = formed.few_refs;
@@ -105,12 +106,12 @@ refs_known threads graph (Some n) formed = (named_formed threads graph n formed)
 -- ---- graphs of which one thing is another
 
 known_either : (threads : ℕ) (count : ℕ → ℕ) (holds : Bool) (reference other_reference : Reference) → IsKnown threads count reference → IsKnown threads count other_reference → IsKnown threads count (cond holds reference other_reference)
-known_either threads count true reference other_reference p q = p
-known_either threads count false reference other_reference p q = q
+known_either threads count true reference other_reference known q = known
+known_either threads count false reference other_reference known q = q
 
 root_formed : (threads : ℕ) (graph : Graph) (t index : ℕ) (value : Reference) → 1 ≤ t → t ≤ threads → index < 16 → IsKnown threads graph.count value → IsFormed threads graph → IsFormed threads (with_root graph t index value)
 root_formed threads graph t index value first last low known formed = record {
-  root = λ thread s. known_either threads graph.count _ value (graph.root thread s) known (formed.root thread s);
+  root = λ thread index. known_either threads graph.count _ value (graph.root thread index) known (formed.root thread index);
   within = λ thread s name is. by_thread thread s name (eqb thread t) (eqb s index) refl refl is;
   object = formed.object;
   hub_there = formed.hub_there;
@@ -127,8 +128,8 @@ root_formed threads graph t index value first last low known formed = record {
 
 object_either : (threads : ℕ) (count : ℕ → ℕ) (name other_name : Name) (holds : Bool) (object : Object) (other : Option Object) (other_object : Object) → (holds ≡ true → other_name ≡ name) → IsFormedObject threads count name object
     → (other ≡ Some other_object → IsFormedObject threads count other_name other_object) → cond holds (Some object) other ≡ Some other_object → IsFormedObject threads count other_name other_object
-object_either threads count name other_name true object other other_object same p q e = subst (IsFormedObject threads count other_name) (same_Some object other_object e) (subst (λ k. IsFormedObject threads count k object) (sym (same refl)) p)
-object_either threads count name other_name false object other other_object same p q e = q e
+object_either threads count name other_name true object other other_object same formed_object q found = subst (IsFormedObject threads count other_name) (same_Some object other_object found) (subst (λ name. IsFormedObject threads count name object) (sym (same refl)) formed_object)
+object_either threads count name other_name false object other other_object same formed_object q found = q found
 
 there_either : (holds : Bool) (object : Object) (other : Option Object) → ((other_object : Object) × (other ≡ Some other_object)) → (other_object : Object) × (cond holds (Some object) other ≡ Some other_object)
 there_either true object other there = (object, refl)
@@ -138,14 +139,14 @@ object_formed : (threads : ℕ) (graph : Graph) (name : Name) (object : Object) 
 object_formed threads graph name object fits formed = record {
   root = formed.root;
   within = formed.within;
-  object = λ m p e. object_either threads graph.count name m (same_name m name) object (graph.object m) p (λ same. same_name-true m name same) fits (λ other. formed.object m p other) e;
+  object = λ other_name p e. object_either threads graph.count name other_name (same_name other_name name) object (graph.object other_name) p (λ same. same_name-true other_name name same) fits (λ other. formed.object other_name p other) e;
   hub_there = there_either (same_name hub name) object (graph.object hub) formed.hub_there;
   pin = formed.pin;
 }
 
 held_either : (threads : ℕ) (count : ℕ → ℕ) (holds : Bool) (found other_found : Option Pinned) → IsKnown threads count (name_in found) → IsKnown threads count (name_in other_found) → IsKnown threads count (name_in (cond holds found other_found))
-held_either threads count true found other_found p q = p
-held_either threads count false found other_found p q = q
+held_either threads count true found other_found known q = known
+held_either threads count false found other_found known q = q
 
 -- a pin slot holds something else
 pin_formed : (threads : ℕ) (graph : Graph) (t slot : ℕ) (held : Option Pinned) → IsKnown threads graph.count (name_in held) → IsFormed threads graph → IsFormed threads (with_pin graph t slot held)
@@ -154,18 +155,18 @@ pin_formed threads graph t slot held known formed = record {
   within = formed.within;
   object = formed.object;
   hub_there = formed.hub_there;
-  pin = λ u s. held_either threads graph.count (eqb u t && eqb s slot) held (graph.pin u s) known (formed.pin u s);
+  pin = λ thread other_slot. held_either threads graph.count (eqb thread t && eqb other_slot slot) held (graph.pin thread other_slot) known (formed.pin thread other_slot);
 }
 
 -- the object that a reference names has other references, as many
 refs_formed : (threads : ℕ) (graph : Graph) (reference : Reference) (field : ℕ) (value : Reference) → IsKnown threads graph.count value → IsFormed threads graph
     → IsFormed threads (with_named graph reference (record { refs = slice_set (named graph reference).refs field value; nums = (named graph reference).nums }))
 refs_formed threads graph None field value known formed = formed
-refs_formed threads graph (Some n) field value known formed =
-    let was = named_formed threads graph n formed in
-    let many = length-set (named graph (Some n)).refs field value in
-    object_formed threads graph n _ (record {
-      refs = All-set (IsKnown threads graph.count) (named graph (Some n)).refs field value known was.refs;
+refs_formed threads graph (Some name) field value known formed =
+    let was = named_formed threads graph name formed in
+    let many = length-set (named graph (Some name)).refs field value in
+    object_formed threads graph name _ (record {
+      refs = All-set (IsKnown threads graph.count) (named graph (Some name)).refs field value known was.refs;
       few_refs = omega (arith, many, was.few_refs);
       few_nums = was.few_nums;
       fit = was.fit;
@@ -176,14 +177,14 @@ refs_formed threads graph (Some n) field value known formed =
 nums_formed : (threads : ℕ) (graph : Graph) (reference : Reference) (index value : ℕ) → value < 2 ^ 64 → IsFormed threads graph
     → IsFormed threads (with_named graph reference (record { refs = (named graph reference).refs; nums = slice_set (named graph reference).nums index value }))
 nums_formed threads graph None index value fits formed = formed
-nums_formed threads graph (Some n) index value fits formed =
-    let was = named_formed threads graph n formed in
-    let many = length-set (named graph (Some n)).nums index value in
-    object_formed threads graph n _ (record {
+nums_formed threads graph (Some name) index value fits formed =
+    let was = named_formed threads graph name formed in
+    let many = length-set (named graph (Some name)).nums index value in
+    object_formed threads graph name _ (record {
       refs = was.refs;
       few_refs = was.few_refs;
       few_nums = omega (arith, many, was.few_nums);
-      fit = All-set (λ x. x < 2 ^ 64) (named graph (Some n)).nums index value fits was.fit;
+      fit = All-set (λ x. x < 2 ^ 64) (named graph (Some name)).nums index value fits was.fit;
       hub_refs = was.hub_refs;
       hub_nums = λ is. many ∙ was.hub_nums is;
     }) formed
@@ -191,11 +192,11 @@ nums_formed threads graph (Some n) index value fits formed =
 -- a new object of a thread
 fresh_formed : (threads : ℕ) (graph : Graph) (t refs nums : ℕ) → 1 ≤ t → t ≤ threads → refs ≤ 16 → nums ≤ 16 → IsFormed threads graph → IsFormed threads (with_fresh graph t (blank refs nums))
 fresh_formed threads graph t refs nums first last few_refs few_nums formed = record {
-  root = λ thread s. more_known threads graph.count more _ up (formed.root thread s);
+  root = λ thread index. more_known threads graph.count more _ up (formed.root thread index);
   within = formed.within;
-  object = λ m p e. object_either threads more n m (same_name m n) (blank refs nums) (graph.object m) p (λ same. same_name-true m n same) blank_formed (λ other. more_formed threads graph.count more m p up (formed.object m p other)) e;
+  object = λ name object e. object_either threads more n name (same_name name n) (blank refs nums) (graph.object name) object (λ same. same_name-true name n same) blank_formed (λ other. more_formed threads graph.count more name object up (formed.object name object other)) e;
   hub_there = there_either (same_name hub n) (blank refs nums) (graph.object hub) formed.hub_there;
-  pin = λ thread s. more_known threads graph.count more _ up (formed.pin thread s);
+  pin = λ thread slot. more_known threads graph.count more _ up (formed.pin thread slot);
 }
   where
     n : Name
@@ -239,11 +240,8 @@ on_formed threads None graph f formed each = formed
 on_formed threads (Some v) graph f formed each = each v refl
 
 either_formed : (threads : ℕ) (holds : Bool) (x y : Outcome) → IsFormed threads x.graph → IsFormed threads y.graph → IsFormed threads (cond holds x y).graph
-either_formed threads true x y p q = p
-either_formed threads false x y p q = q
-
-element : {X : Type 0} (P : X → Type 0) (xs : List X) (index : ℕ) (x : X) → All P xs → slice_get xs index ≡ Some x → P x
-element P xs index x all there = subst P (get_or_from_slice_get xs index x x there) (all index x (slice_get_within xs index x there))
+either_formed threads true x y formed q = formed
+either_formed threads false x y formed q = q
 
 -- the counts of a graph are those that it has with another object
 with_named-count : (graph : Graph) (reference : Reference) (object : Object) → (with_named graph reference object).count ≡ graph.count
@@ -255,7 +253,7 @@ outcome_formed threads graph thread (New dst refs nums) first last valid fits fo
     root_formed threads (with_fresh graph thread (blank refs nums)) thread dst (Some (fresh graph thread)) first last valid.0 (fresh_known threads graph thread refs nums first last) (fresh_formed threads graph thread refs nums first last valid.1 valid.2 formed)
 outcome_formed threads graph thread (Get dst src field) first last valid fits formed =
     on_formed threads (field_at graph thread src field) graph _ formed (λ v there.
-    root_formed threads graph thread dst v first last valid.0 (element (IsKnown threads graph.count) (named graph (graph.root thread src)).refs field v (refs_known threads graph (graph.root thread src) formed) there) formed)
+    root_formed threads graph thread dst v first last valid.0 (element_of_all (IsKnown threads graph.count) (named graph (graph.root thread src)).refs field v (refs_known threads graph (graph.root thread src) formed) there) formed)
 outcome_formed threads graph thread (Set obj field val) first last valid fits formed =
     on_formed threads (field_at graph thread obj field) graph _ formed (λ v there. refs_formed threads graph (graph.root thread obj) field (graph.root thread val) (formed.root thread val) formed)
 outcome_formed threads graph thread (Cas obj field expect val) first last valid fits formed =
@@ -263,7 +261,7 @@ outcome_formed threads graph thread (Cas obj field expect val) first last valid 
     either_formed threads (same_reference v (graph.root thread expect)) _ _ (refs_formed threads graph (graph.root thread obj) field (graph.root thread val) (formed.root thread val) formed) formed)
 outcome_formed threads graph thread (Xchg dst obj field val) first last valid fits formed =
     on_formed threads (field_at graph thread obj field) graph _ formed (λ v there.
-    let was = element (IsKnown threads graph.count) (named graph (graph.root thread obj)).refs field v (refs_known threads graph (graph.root thread obj) formed) there in
+    let was = element_of_all (IsKnown threads graph.count) (named graph (graph.root thread obj)).refs field v (refs_known threads graph (graph.root thread obj) formed) there in
     let swapped = with_field graph thread obj field (graph.root thread val) in
     root_formed threads swapped thread dst v first last valid.0
     (subst (λ count. IsKnown threads count v) (sym (with_named-count graph (graph.root thread obj) _)) was)
@@ -300,7 +298,7 @@ pub opening_formed : (threads : ℕ) → IsFormed threads (opening threads)
 opening_formed threads = record {
   root = λ t r. known_either threads (λ _. 0) _ (Some hub) None (inl refl) tt;
   within = λ t r n is. grind (arith, nat_tests);
-  object = λ n o e. object_either threads (λ _. 0) hub n (same_name n hub) (blank 16 0) None o (λ same. same_name-true n hub same) hub_formed (λ none. absurd cc) e;
+  object = λ name o e. object_either threads (λ _. 0) hub name (same_name name hub) (blank 16 0) None o (λ same. same_name-true name hub same) hub_formed (λ none. absurd cc) e;
   hub_there = (blank 16 0, refl);
   pin = λ t s. tt;
 }
@@ -323,8 +321,8 @@ entry_formed threads regions region_words graph entry other_graph range (inr (in
     let known = subst (IsKnown threads graph.count) pinning.pins (pinned_known threads graph entry.thread entry.command formed) in
     subst (IsFormed threads) (sym pinning.graph) (pin_formed threads graph entry.thread (slot_of entry.command) (Some (record { name = pinning.name; place = pinning.place })) known formed)
 
-pub history_formed : (threads regions region_words : ℕ) (graph : Graph) (es : List Entry) → EachIsLegal regions region_words graph es → All (IsEntryInRange threads) es → IsFormed threads graph → IsFormed threads (after graph es)
+pub history_formed : (threads regions region_words : ℕ) (graph : Graph) (entries : List Entry) → EachIsLegal regions region_words graph entries → All (IsEntryInRange threads) entries → IsFormed threads graph → IsFormed threads (after graph entries)
 history_formed threads regions region_words graph [] legal range formed = formed
-history_formed threads regions region_words graph (e ∷ es) legal range formed =
-    history_formed threads regions region_words (after_entry graph e) es legal.1 (All-tail (IsEntryInRange threads) e es range)
-    (entry_formed threads regions region_words graph e (after_entry graph e) (All-head (IsEntryInRange threads) e es range) legal.0 formed)
+history_formed threads regions region_words graph (entry ∷ entries) legal range formed =
+    history_formed threads regions region_words (after_entry graph entry) entries legal.1 (All-tail (IsEntryInRange threads) entry entries range)
+    (entry_formed threads regions region_words graph entry (after_entry graph entry) (All-head (IsEntryInRange threads) entry entries range) legal.0 formed)

@@ -3,6 +3,8 @@ use Rattle.std.proofs.Common.{ℕ, zero, suc, ◌≡◌, ◌≢◌, false, codes
 use Rattle.std.specs.Prelude.{slice_index}
 use Rattle.std.proofs.lemmas.List.{get_or_past}
 use Rattle.std.proofs.lemmas.List.Elements.{All-get_or}
+use Rattle.shen_graph.proofs.Numbers.{lt_or_ge}
+use Rattle.shen_graph.proofs.Lists.{length_map, same_before_end}
 use Rattle.shen_graph.specs.declared.name.Name.{Name}
 use Rattle.shen_graph.specs.Graph.{Reference, hub}
 use Rattle.shen_graph.specs.GraphText.{Row, Text, bare, names_of, row_of}
@@ -13,13 +15,10 @@ use Rattle.heap_dump.specs.HeldReferences.{held, held_name, held_row}
 use Rattle.heap_dump.specs.RowsReached.{graph_from}
 use Rattle.trace_reading.specs.Spelling.{newline}
 use Rattle.trace_reading.specs.Causes.{is_same}
-use Rattle.trace_reading.proofs.Heads.{same_before_end}
-use Rattle.heap_dump.specs.Resumes.{mark_line}
+use Rattle.heap_dump.specs.DumpsToRun.{mark_line}
 use Rattle.heap_dump.specs.DumpLines.{DumpStage, DumpFollows, Listed, Spells}
 use Rattle.heap_dump.specs.Listing.{IsHeldDump}
-use Rattle.heap_dump.proofs.Ordered.{lt_or_ge}
 use Rattle.heap_dump.proofs.References.{named_small, held_small, held_named, not_same}
-use Rattle.heap_dump.proofs.RowWords.{len_map}
 use Rattle.heap_dump.proofs.Spelled.{AreSmall}
 use Rattle.heap_dump.proofs.RowMarks.{field_at, root_led, there_row, row_there}
 
@@ -27,35 +26,35 @@ use Rattle.heap_dump.proofs.RowMarks.{field_at, root_led, there_row, row_there}
 
 held_at : (refs : List Reference) (index : ℕ) → get_or (map held refs) index None ≡ held (get_or refs index None)
 held_at [] index = refl
-held_at (r ∷ refs) zero = refl
-held_at (r ∷ refs) (suc index) = held_at refs index
+held_at (reference ∷ refs) zero = refl
+held_at (reference ∷ refs) (suc index) = held_at refs index
 
 row_at : (rows : List Row) (index : ℕ) → get_or (map held_row rows) index (bare hub) ≡ held_row (get_or rows index (bare hub))
 row_at [] index = refl
-row_at (r ∷ rows) zero = refl
-row_at (r ∷ rows) (suc index) = row_at rows index
+row_at (row ∷ rows) zero = refl
+row_at (row ∷ rows) (suc index) = row_at rows index
 
 roots_at : (roots : List (List Reference)) (index : ℕ) → get_or (map (map held) roots) index [] ≡ map held (get_or roots index [])
 roots_at [] index = refl
-roots_at (r ∷ roots) zero = refl
-roots_at (r ∷ roots) (suc index) = roots_at roots index
+roots_at (references ∷ roots) zero = refl
+roots_at (references ∷ roots) (suc index) = roots_at roots index
 
 module _ (counts : List ℕ) (h : Reference → Reference) (fixed : (r : Reference) → ((n : Name) → h r ≡ Some n → IsNamed counts n) → held r ≡ r) where
   refs_fixed : (refs : List Reference) → ((index : ℕ) (name : Name) → h (get_or refs index None) ≡ Some name → IsNamed counts name) → map held refs ≡ refs
   refs_fixed [] each = refl
-  refs_fixed (r ∷ refs) each = ap (λ (reference : Reference). reference ∷ map held refs) (fixed r (each 0)) ∙ ap (λ (qs : List Reference). r ∷ qs) (refs_fixed refs (λ index. each (suc index)))
+  refs_fixed (other_reference ∷ refs) each = ap (λ (reference : Reference). reference ∷ map held refs) (fixed other_reference (each 0)) ∙ ap (λ (qs : List Reference). other_reference ∷ qs) (refs_fixed refs (λ index. each (suc index)))
 
   rows_fixed : (rows : List Row) → ((index field : ℕ) (name : Name) → h (get_or (get_or rows index (bare hub)).refs field None) ≡ Some name → IsNamed counts name) → map held_row rows ≡ rows
   rows_fixed [] each = refl
-  rows_fixed (r ∷ rows) each =
-      ap (λ (qs : List Reference). record { name = r.name; refs = qs; nums = r.nums } ∷ map held_row rows) (refs_fixed r.refs (each 0))
-      ∙ ap (λ (qs : List Row). r ∷ qs) (rows_fixed rows (λ index. each (suc index)))
+  rows_fixed (row ∷ rows) each =
+      ap (λ (qs : List Reference). record { name = row.name; refs = qs; nums = row.nums } ∷ map held_row rows) (refs_fixed row.refs (each 0))
+      ∙ ap (λ (qs : List Row). row ∷ qs) (rows_fixed rows (λ index. each (suc index)))
 
   roots_fixed : (roots : List (List Reference)) → ((other_index index : ℕ) (name : Name) → h (get_or (get_or roots other_index []) index None) ≡ Some name → IsNamed counts name) → map (map held) roots ≡ roots
   roots_fixed [] each = refl
-  roots_fixed (r ∷ roots) each =
-      ap (λ (references : List Reference). references ∷ map (map held) roots) (refs_fixed r (each 0))
-      ∙ ap (λ (qs : List (List Reference)). r ∷ qs) (roots_fixed roots (λ other_index. each (suc other_index)))
+  roots_fixed (other_references ∷ roots) each =
+      ap (λ (references : List Reference). references ∷ map (map held) roots) (refs_fixed other_references (each 0))
+      ∙ ap (λ (qs : List (List Reference)). other_references ∷ qs) (roots_fixed roots (λ other_index. each (suc other_index)))
 
 -- ---- what a whole text refers to
 
@@ -108,7 +107,7 @@ module _ (dump : Dumped) (form : IsInForm dump) (few : length dump.counts ≤ 8)
   row_named index low = (All-get_or (IsRow dump.counts) dump.rows index (bare hub) low form.rows).name
 
   held_row_named : (index : ℕ) → index < length (map held_row dump.rows) → IsNamed dump.counts (get_or (map held_row dump.rows) index (bare hub)).name
-  held_row_named index low = subst (λ (row : Row). IsNamed dump.counts row.name) (sym (row_at dump.rows index)) (row_named index (omega (arith, low, len_map held_row dump.rows)))
+  held_row_named index low = subst (λ (row : Row). IsNamed dump.counts row.name) (sym (row_at dump.rows index)) (row_named index (omega (arith, low, length_map held_row dump.rows)))
 
   pub rows_of_dump : IsReach (graph_in dump) (names_in dump) → (map held_row dump.rows ≡ dump.rows) × (map (map held) dump.roots ≡ dump.roots)
   rows_of_dump reach =
@@ -117,33 +116,33 @@ module _ (dump : Dumped) (form : IsInForm dump) (few : length dump.counts ≤ 8)
 
   pub rows_of_held : IsReach (graph_from (text_held dump)) (names_of (text_held dump)) → (map held_row dump.rows ≡ dump.rows) × (map (map held) dump.roots ≡ dump.roots)
   rows_of_held reach = (
-    rows_fixed dump.counts held as_held dump.rows (λ k field n e. field_named dump.counts (text_held dump) reach held_row_named k field n
-        (ap (λ (row : Row). get_or row.refs field None) (row_at dump.rows k) ∙ held_at (get_or dump.rows k (bare hub)).refs field ∙ e)),
-    roots_fixed dump.counts held as_held dump.roots (λ k index n e. root_named dump.counts (text_held dump) reach held_row_named k index n
-        (ap (λ (rs : List Reference). get_or rs index None) (roots_at dump.roots k) ∙ held_at (get_or dump.roots k []) index ∙ e)),
+    rows_fixed dump.counts held as_held dump.rows (λ index field n e. field_named dump.counts (text_held dump) reach held_row_named index field n
+        (ap (λ (row : Row). get_or row.refs field None) (row_at dump.rows index) ∙ held_at (get_or dump.rows index (bare hub)).refs field ∙ e)),
+    roots_fixed dump.counts held as_held dump.roots (λ other_index index n e. root_named dump.counts (text_held dump) reach held_row_named other_index index n
+        (ap (λ (rs : List Reference). get_or rs index None) (roots_at dump.roots other_index) ∙ held_at (get_or dump.roots other_index []) index ∙ e)),
   )
 
 few_counts : (dump : Dumped) (text : Text) → IsHeldDump dump text → length text.roots ≤ 8 → length dump.counts ≤ 8
-few_counts dump text h few = omega (arith, few, ap length h.roots, len_map (map held) dump.roots, h.form.each, h.form.threads)
+few_counts dump text held_dump at_most = omega (arith, at_most, ap length held_dump.roots, length_map (map held) dump.roots, held_dump.form.each, held_dump.form.threads)
 
 pub dump_is_held : (dump : Dumped) (text : Text) → IsHeldDump dump text → length text.roots ≤ 8 → IsDump dump → IsReach (graph_from text) (names_of text)
-dump_is_held dump text h few is =
-    let same = rows_of_dump dump h.form (few_counts dump text h few) is.reach in
-    let rows : text.rows ≡ dump.rows = h.rows ∙ same.0 in
-    let roots : text.roots ≡ dump.roots = h.roots ∙ same.1 in
+dump_is_held dump text held_dump at_most is =
+    let same = rows_of_dump dump held_dump.form (few_counts dump text held_dump at_most) is.reach in
+    let rows : text.rows ≡ dump.rows = held_dump.rows ∙ same.0 in
+    let roots : text.roots ≡ dump.roots = held_dump.roots ∙ same.1 in
     subst (λ (rs : List (List Reference)). IsReach (counted text.rows rs []) (names_of text)) (sym roots)
     (subst (λ (rs : List Row). IsReach (counted rs dump.roots []) (map (λ (row : Row). row.name) rs)) (sym rows) (reach_again dump.rows dump.roots (0 ∷ dump.counts) [] (names_in dump) is.reach))
 
 pub held_is_dump : (dump : Dumped) (text : Text) → IsHeldDump dump text → length text.roots ≤ 8 → IsReach (graph_from text) (names_of text) → IsDump dump × (text.rows ≡ dump.rows) × (text.roots ≡ dump.roots)
-held_is_dump dump text h few reach =
+held_is_dump dump text held_dump at_most reach =
     let r : IsReach (graph_from (text_held dump)) (names_of (text_held dump)) =
-    subst (λ (rs : List (List Reference)). IsReach (counted (map held_row dump.rows) rs []) (map (λ (row : Row). row.name) (map held_row dump.rows))) h.roots
-    (subst (λ (rs : List Row). IsReach (counted rs text.roots []) (map (λ (row : Row). row.name) rs)) h.rows reach) in
-    let same = rows_of_held dump h.form (few_counts dump text h few) r in
-    let rows : text.rows ≡ dump.rows = h.rows ∙ same.0 in
-    let roots : text.roots ≡ dump.roots = h.roots ∙ same.1 in (
+    subst (λ (rs : List (List Reference)). IsReach (counted (map held_row dump.rows) rs []) (map (λ (row : Row). row.name) (map held_row dump.rows))) held_dump.roots
+    (subst (λ (rs : List Row). IsReach (counted rs text.roots []) (map (λ (row : Row). row.name) rs)) held_dump.rows reach) in
+    let same = rows_of_held dump held_dump.form (few_counts dump text held_dump at_most) r in
+    let rows : text.rows ≡ dump.rows = held_dump.rows ∙ same.0 in
+    let roots : text.roots ≡ dump.roots = held_dump.roots ∙ same.1 in (
       record {
-        form = h.form;
+        form = held_dump.form;
         reach = reach_again dump.rows dump.roots [] (0 ∷ dump.counts) (names_in dump)
             (subst (λ (rs : List (List Reference)). IsReach (counted dump.rows rs []) (names_in dump)) roots
             (subst (λ (rs : List Row). IsReach (counted rs text.roots []) (map (λ (row : Row). row.name) rs)) rows reach));
@@ -154,19 +153,19 @@ held_is_dump dump text h few reach =
 
 -- behind the roots of all threads only the line `trace` may follow
 pub mark_refused : (dump : Dumped) (text : List ℕ) → IsInForm dump → dump.roots ≢ [] → (IsDump dump → Spells text mark_line → ⊥) → (next : DumpStage) → DumpFollows (Listed dump) text next → ⊥
-mark_refused dump text form some none next (inl f) = some f.2
-mark_refused dump text form some none next (inr (inl f)) = omega (arith, f.2, form.each)
-mark_refused dump text form some none next (inr (inr f)) = none f.0 f.1
+mark_refused dump text form differs none next (inl f) = differs f.2
+mark_refused dump text form differs none next (inr (inl f)) = omega (arith, f.2, form.each)
+mark_refused dump text form differs none next (inr (inr f)) = none f.0 f.1
 
 pub not_mark : (text word : List ℕ) → word ≡ codes "trace" → false ≡ is_same text word → Spells text mark_line → ⊥
-not_mark text word is other e =
-    not_same text word other (same_before_end text (codes "trace") newline e ∙ sym is)
+not_mark text word is other spells =
+    not_same text word other (same_before_end text (codes "trace") newline spells ∙ sym is)
 
 pub dump_small : (dump : Dumped) → IsDump dump → length dump.counts ≤ 8 → ((k : ℕ) → AreSmall (get_or dump.rows k (bare hub)).refs) × ((k : ℕ) → AreSmall (get_or dump.roots k []))
-dump_small dump is few =
-    let r : IsReach (graph_from (text_in dump)) (names_of (text_in dump)) = reach_again dump.rows dump.roots (0 ∷ dump.counts) [] (names_in dump) is.reach in
-    let named = row_named dump is.form few in
-    let fits = small dump is.form few in (
-      λ k field n e. let s = named_small dump.counts n few fits (field_named dump.counts (text_in dump) r named k field n e) in (omega (arith, s.0), omega (arith, s.1)),
-      λ k index n e. let s = named_small dump.counts n few fits (root_named dump.counts (text_in dump) r named k index n e) in (omega (arith, s.0), omega (arith, s.1)),
+dump_small dump is at_most =
+    let reach : IsReach (graph_from (text_in dump)) (names_of (text_in dump)) = reach_again dump.rows dump.roots (0 ∷ dump.counts) [] (names_in dump) is.reach in
+    let named = row_named dump is.form at_most in
+    let fits = small dump is.form at_most in (
+      λ k field other_name e. let s = named_small dump.counts other_name at_most fits (field_named dump.counts (text_in dump) reach named k field other_name e) in (omega (arith, s.0), omega (arith, s.1)),
+      λ k index name e. let s = named_small dump.counts name at_most fits (root_named dump.counts (text_in dump) reach named k index name e) in (omega (arith, s.0), omega (arith, s.1)),
     )

@@ -22,50 +22,50 @@ use Rattle.heap_dump.proofs.Counted.{reachable_again, leads_in_all, leads_in_few
 pub marked_there : (marks : List Bool) (rows : List Row) (index : ℕ) (row : Row) → index < length rows → get_or marks index false ≡ true → Contains (marked_rows marks rows) (get_or rows index row)
 marked_there [] rows index row low is = absurd cc
 marked_there (mark ∷ marks) [] index row low is = absurd (omega (arith, low))
-marked_there (mark ∷ marks) (r ∷ rows) zero row low is = subst (λ (holds : Bool). Contains (cond holds (r ∷ marked_rows marks rows) (marked_rows marks rows)) r) (sym is) (0, omega arith, refl)
-marked_there (mark ∷ marks) (r ∷ rows) (suc index) row low is = by_mark mark (marked_there marks rows index row (omega (arith, low)) is)
+marked_there (mark ∷ marks) (other_row ∷ rows) zero row low is = subst (λ (holds : Bool). Contains (cond holds (other_row ∷ marked_rows marks rows) (marked_rows marks rows)) other_row) (sym is) (0, omega arith, refl)
+marked_there (mark ∷ marks) (other_row ∷ rows) (suc index) row low is = by_mark mark (marked_there marks rows index row (omega (arith, low)) is)
   where
-    by_mark : (holds : Bool) → Contains (marked_rows marks rows) (get_or rows index row) → Contains (cond holds (r ∷ marked_rows marks rows) (marked_rows marks rows)) (get_or rows index row)
-    by_mark true there = Contains-append_right (r ∷ []) (marked_rows marks rows) (get_or rows index row) there
+    by_mark : (holds : Bool) → Contains (marked_rows marks rows) (get_or rows index row) → Contains (cond holds (other_row ∷ marked_rows marks rows) (marked_rows marks rows)) (get_or rows index row)
+    by_mark true there = Contains-append_right (other_row ∷ []) (marked_rows marks rows) (get_or rows index row) there
     by_mark false there = there
 
 abbrev HasMark : List Bool → List Row → Row → Type 0
 HasMark marks rows row = (index : ℕ) × (index < length rows) × (get_or rows index row ≡ row) × (get_or marks index false ≡ true)
 
 later : (mark : Bool) (marks : List Bool) (row other_row : Row) (rows : List Row) → HasMark marks rows other_row → HasMark (mark ∷ marks) (row ∷ rows) other_row
-later mark marks row other_row rows w = (suc w.0, omega (arith, w.1), w.2, w.3)
+later mark marks row other_row rows has_mark = (suc has_mark.0, omega (arith, has_mark.1), has_mark.2, has_mark.3)
 
 pub marked_from : (marks : List Bool) (rows : List Row) (row : Row) → Contains (marked_rows marks rows) row → HasMark marks rows row
 marked_from [] rows row there = absurd (Contains-nil row there)
 marked_from (mark ∷ marks) [] row there = absurd (Contains-nil row there)
-marked_from (mark ∷ marks) (x ∷ rows) row there = by_mark mark refl (marked_from marks rows row) there
+marked_from (mark ∷ marks) (other_row ∷ rows) row there = by_mark mark refl (marked_from marks rows row) there
   where
-    by_mark : (holds : Bool) → mark ≡ holds → (Contains (marked_rows marks rows) row → HasMark marks rows row) → Contains (cond holds (x ∷ marked_rows marks rows) (marked_rows marks rows)) row → HasMark (mark ∷ marks) (x ∷ rows) row
-    by_mark true set others here = elim (Contains-cons_cases x (marked_rows marks rows) row here) [
+    by_mark : (holds : Bool) → mark ≡ holds → (Contains (marked_rows marks rows) row → HasMark marks rows row) → Contains (cond holds (other_row ∷ marked_rows marks rows) (marked_rows marks rows)) row → HasMark (mark ∷ marks) (other_row ∷ rows) row
+    by_mark true set others here = elim (Contains-cons_cases other_row (marked_rows marks rows) row here) [
       | inl same ↦ (0, omega arith, same, set)
-      | inr behind ↦ later mark marks x row rows (others behind)
+      | inr behind ↦ later mark marks other_row row rows (others behind)
     ]
-    by_mark false unset others here = later mark marks x row rows (others here)
+    by_mark false unset others here = later mark marks other_row row rows (others here)
 
 -- one row more
 pub marked_more : (marks : List Bool) (rows : List Row) (index : ℕ) (row : Row) → index < length rows → length marks ≡ length rows
     → marked_rows (take (index + 1) marks) (take (index + 1) rows) ≡ marked_rows (take index marks) (take index rows) ++ cond (get_or marks index false) (get_or rows index row ∷ []) []
 marked_more marks [] index row low same = absurd (omega (arith, low))
-marked_more [] (r ∷ rows) index row low same = absurd (omega (arith, same))
-marked_more (mark ∷ marks) (r ∷ rows) zero row low same = by_mark mark
+marked_more [] (other_row ∷ rows) index row low same = absurd (omega (arith, same))
+marked_more (mark ∷ marks) (other_row ∷ rows) zero row low same = by_mark mark
   where
-    by_mark : (holds : Bool) → cond holds (r ∷ []) [] ≡ [] ++ cond holds (r ∷ []) []
+    by_mark : (holds : Bool) → cond holds (other_row ∷ []) [] ≡ [] ++ cond holds (other_row ∷ []) []
     by_mark true = refl
     by_mark false = refl
-marked_more (mark ∷ marks) (r ∷ rows) (suc index) row low same =
+marked_more (mark ∷ marks) (other_row ∷ rows) (suc index) row low same =
     let next : suc index + 1 ≡ suc (index + 1) = omega arith in
     let others = marked_more marks rows index row (omega (arith, low)) (omega (arith, same)) in
-    ap (λ (k : ℕ). marked_rows (take k (mark ∷ marks)) (take k (r ∷ rows))) next ∙ by_mark mark others
+    ap (λ (k : ℕ). marked_rows (take k (mark ∷ marks)) (take k (other_row ∷ rows))) next ∙ by_mark mark others
   where
     by_mark : (holds : Bool) → marked_rows (take (index + 1) marks) (take (index + 1) rows) ≡ marked_rows (take index marks) (take index rows) ++ cond (get_or marks index false) (get_or rows index row ∷ []) []
-        → cond holds (r ∷ marked_rows (take (index + 1) marks) (take (index + 1) rows)) (marked_rows (take (index + 1) marks) (take (index + 1) rows))
-        ≡ cond holds (r ∷ marked_rows (take index marks) (take index rows)) (marked_rows (take index marks) (take index rows)) ++ cond (get_or marks index false) (get_or rows index row ∷ []) []
-    by_mark true e = ap (λ (rs : List Row). r ∷ rs) e
+        → cond holds (other_row ∷ marked_rows (take (index + 1) marks) (take (index + 1) rows)) (marked_rows (take (index + 1) marks) (take (index + 1) rows))
+        ≡ cond holds (other_row ∷ marked_rows (take index marks) (take index rows)) (marked_rows (take index marks) (take index rows)) ++ cond (get_or marks index false) (get_or rows index row ∷ []) []
+    by_mark true e = ap (λ (rs : List Row). other_row ∷ rs) e
     by_mark false e = e
 
 pub marked_one : (marks : List Bool) (rows : List Row) (index : ℕ) (row : Row) → index < length rows → length marks ≡ length rows → get_or marks index false ≡ true
@@ -81,36 +81,36 @@ unmarked_one marks rows index row low same is =
 
 named_there : (rows : List Row) (row : Row) → Contains rows row → Contains (map name_of rows) (name_of row)
 named_there [] row there = absurd (Contains-nil row there)
-named_there (x ∷ rows) row there = elim (Contains-cons_cases x rows row there) [
+named_there (other_row ∷ rows) row there = elim (Contains-cons_cases other_row rows row there) [
   | inl same ↦ (0, omega arith, ap name_of same)
-  | inr behind ↦ Contains-append_right (name_of x ∷ []) (map name_of rows) (name_of row) (named_there rows row behind)
+  | inr behind ↦ Contains-append_right (name_of other_row ∷ []) (map name_of rows) (name_of row) (named_there rows row behind)
 ]
 
 row_named : (rows : List Row) (name : Name) → Contains (map name_of rows) name → (row : Row) × Contains rows row × (name_of row ≡ name)
 row_named [] name there = absurd (Contains-nil name there)
-row_named (x ∷ rows) name there = elim (Contains-cons_cases (name_of x) (map name_of rows) name there) [
-  | inl same ↦ (x, (0, omega arith, refl), same)
-  | inr behind ↦ (let w = row_named rows name behind in (w.0, Contains-append_right (x ∷ []) rows w.0 w.1, w.2))
+row_named (row ∷ rows) name there = elim (Contains-cons_cases (name_of row) (map name_of rows) name there) [
+  | inl same ↦ (row, (0, omega arith, refl), same)
+  | inr behind ↦ (let w = row_named rows name behind in (w.0, Contains-append_right (row ∷ []) rows w.0 w.1, w.2))
 ]
 
-order_more : (name : Name) (ns : List Name) → ((other_name : Name) → Contains ns other_name → IsBefore name other_name) → InOrder ns → InOrder (name ∷ ns)
+order_more : (name : Name) (names : List Name) → ((other_name : Name) → Contains names other_name → IsBefore name other_name) → InOrder names → InOrder (name ∷ names)
 order_more name [] each order = tt
 order_more name (other_name ∷ ns) each order = (each other_name (0, omega arith, refl), order)
 
 pub marked_order : (marks : List Bool) (rows : List Row) → InOrder (map name_of rows) → InOrder (map name_of (marked_rows marks rows))
 marked_order [] rows order = tt
 marked_order (mark ∷ marks) [] order = tt
-marked_order (mark ∷ marks) (r ∷ rows) order = by_mark mark (marked_order marks rows (order_rest r.name (map name_of rows) order))
+marked_order (mark ∷ marks) (row ∷ rows) order = by_mark mark (marked_order marks rows (order_rest row.name (map name_of rows) order))
   where
-    behind : (name : Name) → Contains (map name_of (marked_rows marks rows)) name → IsBefore r.name name
+    behind : (name : Name) → Contains (map name_of (marked_rows marks rows)) name → IsBefore row.name name
     behind name there =
         let w = row_named (marked_rows marks rows) name there in
         let at = marked_from marks rows w.0 w.1 in
-        let before = before_at r.name (map name_of rows) at.0 (name_of w.0) order (omega (arith, at.1, length-names rows)) in
-        subst (IsBefore r.name) (name_at rows at.0 w.0 ∙ ap name_of at.2 ∙ w.2) before
+        let before = before_at row.name (map name_of rows) at.0 (name_of w.0) order (omega (arith, at.1, length-names rows)) in
+        subst (IsBefore row.name) (name_at rows at.0 w.0 ∙ ap name_of at.2 ∙ w.2) before
 
-    by_mark : (holds : Bool) → InOrder (map name_of (marked_rows marks rows)) → InOrder (map name_of (cond holds (r ∷ marked_rows marks rows) (marked_rows marks rows)))
-    by_mark true others = order_more r.name (map name_of (marked_rows marks rows)) behind others
+    by_mark : (holds : Bool) → InOrder (map name_of (marked_rows marks rows)) → InOrder (map name_of (cond holds (row ∷ marked_rows marks rows) (marked_rows marks rows)))
+    by_mark true others = order_more row.name (map name_of (marked_rows marks rows)) behind others
     by_mark false others = others
 
 -- ---- the object of a name
@@ -120,12 +120,12 @@ object_there rows row order there = subst (λ (row : Row). object_in rows (name_
 
 object_from : (rows : List Row) (name : Name) (object : Object) → object_in rows name ≡ Some object → (row : Row) × Contains rows row × (name_of row ≡ name) × (fields_of row ≡ object)
 object_from [] name object is = absurd cc
-object_from (x ∷ rows) name object is = by_test (same_name name x.name) refl (object_from rows name object) is
+object_from (other_row ∷ rows) name object is = by_test (same_name name other_row.name) refl (object_from rows name object) is
   where
-    by_test : (holds : Bool) → same_name name x.name ≡ holds → (object_in rows name ≡ Some object → (row : Row) × Contains rows row × (name_of row ≡ name) × (fields_of row ≡ object)) → cond holds (Some (fields_of x)) (object_in rows name) ≡ Some object
-        → (row : Row) × Contains (x ∷ rows) row × (name_of row ≡ name) × (fields_of row ≡ object)
-    by_test true same others e = (x, (0, omega arith, refl), sym (same_name-true name x.name same), cc)
-    by_test false other others e = let w = others e in (w.0, Contains-append_right (x ∷ []) rows w.0 w.1, w.2, w.3)
+    by_test : (holds : Bool) → same_name name other_row.name ≡ holds → (object_in rows name ≡ Some object → (row : Row) × Contains rows row × (name_of row ≡ name) × (fields_of row ≡ object)) → cond holds (Some (fields_of other_row)) (object_in rows name) ≡ Some object
+        → (row : Row) × Contains (other_row ∷ rows) row × (name_of row ≡ name) × (fields_of row ≡ object)
+    by_test true same others e = (other_row, (0, omega arith, refl), sym (same_name-true name other_row.name same), cc)
+    by_test false other others e = let w = others e in (w.0, Contains-append_right (other_row ∷ []) rows w.0 w.1, w.2, w.3)
 
 row_in_rows : (marks : List Bool) (rows : List Row) (row : Row) → Contains (marked_rows marks rows) row → Contains rows row
 row_in_rows marks rows row there = let at = marked_from marks rows row there in (at.0, at.1, at.2)
@@ -173,8 +173,8 @@ reached_object config counts text marks order reached name led =
 pub reach_all : (config : Config) (counts : List ℕ) (text : Text) (marks : List Bool) → InOrder (names_of text) → MarksReached text marks → IsReach (graph_in (dumped config counts text)) (names_in (dump_left config counts text marks))
 reach_all config counts text marks order reached = record {
   in_order = marked_order marks text.rows order;
-  all = λ n led. let w = reached.all n (led_in_text config counts text n led) n refl in marked_name text marks n w.0 w.1 w.2 w.3;
-  only = λ n there. let w = name_marked text marks n there in subst (IsReachable (graph_in (dumped config counts text))) w.2 (text_leads config counts text (row_of text w.0).name (reached.led w.0 w.3));
+  all = λ name led. let w = reached.all name (led_in_text config counts text name led) name refl in marked_name text marks name w.0 w.1 w.2 w.3;
+  only = λ name there. let w = name_marked text marks name there in subst (IsReachable (graph_in (dumped config counts text))) w.2 (text_leads config counts text (row_of text w.0).name (reached.led w.0 w.3));
 }
 
 pub reach_left : (config : Config) (counts : List ℕ) (text : Text) (marks : List Bool) → InOrder (names_of text) → MarksReached text marks → IsReach (graph_in (dump_left config counts text marks)) (names_in (dump_left config counts text marks))
@@ -182,8 +182,8 @@ reach_left config counts text marks order reached =
     let r = reach_all config counts text marks order reached in
     record {
       in_order = r.in_order;
-      all = λ n led. r.all n (leads_in_all (marked_rows marks text.rows) text.rows text.roots (0 ∷ counts) (marked_object marks text.rows order) n led);
-      only = λ n there. leads_in_few (marked_rows marks text.rows) text.rows text.roots (0 ∷ counts) (reached_object config counts text marks order reached) n (r.only n there);
+      all = λ name led. r.all name (leads_in_all (marked_rows marks text.rows) text.rows text.roots (0 ∷ counts) (marked_object marks text.rows order) name led);
+      only = λ name there. leads_in_few (marked_rows marks text.rows) text.rows text.roots (0 ∷ counts) (reached_object config counts text marks order reached) name (r.only name there);
     }
 
 -- ---- the dump
@@ -193,7 +193,7 @@ form_left config counts text marks form = record {
   narrow = form.narrow;
   threads = form.threads;
   counts = form.counts;
-  rows = All-weaker (Contains (marked_rows marks text.rows)) (IsRow counts) (λ r there. All-contains (IsRow counts) text.rows r form.rows (row_in_rows marks text.rows r there)) (marked_rows marks text.rows) (All-contains_itself (marked_rows marks text.rows));
+  rows = All-weaker (Contains (marked_rows marks text.rows)) (IsRow counts) (λ row there. All-contains (IsRow counts) text.rows row form.rows (row_in_rows marks text.rows row there)) (marked_rows marks text.rows) (All-contains_itself (marked_rows marks text.rows));
   order = marked_order marks text.rows form.order;
   each = form.each;
   roots = form.roots;

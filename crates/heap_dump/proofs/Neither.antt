@@ -1,7 +1,8 @@
 -- Bytes within the limit are a dump with what is to run from it, or are refused: they cannot be neither.
-use Rattle.std.proofs.Common.{ℕ, zero, suc, ◌≡◌, ◌⊎◌, inl, inr, ◌+◌, ◌≤◌, List, [], ◌∷◌, ◌++◌, length, codes, Option, Some, None, refl, sym, ap, subst, ◌∙◌, append_assoc, append-nil, length-append, arith}
+use Rattle.std.proofs.Common.{ℕ, zero, suc, ◌≡◌, ◌⊎◌, inl, inr, ◌+◌, ◌≤◌, List, [], ◌∷◌, ◌++◌, length, codes, Option, Some, None, refl, sym, ap, subst, ◌∙◌, append_assoc, append-nil, arith}
 use Rattle.std.specs.List.{flat_map, AllByRecursion}
 use Rattle.std.proofs.lemmas.List.Concat.{flat_map-cons}
+use Rattle.trace_reading.proofs.Either.{line_has_bytes, rest_is_shorter}
 use Rattle.shen_graph.specs.declared.command.Command.{Command}
 use Rattle.heap_words.specs.declared.config.Config.{Config}
 use Rattle.heap_words.specs.declared.schedule.Item.{Item}
@@ -15,7 +16,7 @@ use Rattle.trace_reading.specs.Refused.LineStage.{Version as TraceVersion, Heap 
 use Rattle.trace_reading.proofs.Lines.{whole_line, cut_line}
 use Rattle.trace_reading.proofs.Leads.{Fits, follows, first_line, bytes_of_line, bytes_of_last}
 use Rattle.heap_dump.specs.Dumped.{Dumped, IsDump}
-use Rattle.heap_dump.specs.Resumes.{run_version, Resumes, mark_line}
+use Rattle.heap_dump.specs.DumpsToRun.{run_version, Resumes, mark_line}
 use Rattle.heap_dump.specs.DumpLines.{DumpStage, Version, Heap, Threads, Counts, Listed, Behind, DumpFollows, StopsFor, DumpRefused, Spells, with_row, with_roots, ends_by}
 use Rattle.heap_dump.specs.Steps.{Leads}
 use Rattle.heap_dump.proofs.Steps.{IsDumping, leads_none, leads_one, leads_both, ends_here, refused_here}
@@ -27,7 +28,7 @@ use Rattle.heap_dump.proofs.Spelled.{ended, leads_bytes, head_spelled, counts_sp
 -- ---- lines behind the line `trace`
 
 ended-cons : (text : List ℕ) (texts : List (List ℕ)) (whole others : List ℕ) → text ++ newline ∷ [] ≡ whole → flat_map ended texts ≡ others → flat_map ended (text ∷ texts) ≡ whole ++ others
-ended-cons text texts whole others e f = flat_map-cons ended text texts ∙ ap (λ (t : List ℕ). t ++ flat_map ended texts) e ∙ ap (λ (t : List ℕ). whole ++ t) f
+ended-cons text texts whole others same f = flat_map-cons ended text texts ∙ ap (λ (t : List ℕ). t ++ flat_map ended texts) same ∙ ap (λ (t : List ℕ). whole ++ t) f
 
 -- lines of commands and of a schedule that these texts are
 record AreBody (config : Config) (texts : List (List ℕ)) : Type 0 where
@@ -74,22 +75,15 @@ of_commands config (text ∷ texts) last lead = by_kind lead.0 lead.1 lead.2 (of
 
 -- ---- stops before the line `trace`
 
--- fewer bytes are left behind a line
-fewer : (bytes text rest : List ℕ) (k : ℕ) → bytes ≡ text ++ 10 ∷ rest → length bytes ≤ suc k → length rest ≤ k
-fewer bytes text rest k e le = let size = ap length e in let sizes = length-append text (10 ∷ rest) in omega (arith, size, sizes, le)
-
-some_byte : (bytes text rest : List ℕ) → bytes ≡ text ++ 10 ∷ rest → length bytes ≤ 0 → ⊥
-some_byte bytes text rest e le = let size = ap length e in let sizes = length-append text (10 ∷ rest) in omega (arith, size, sizes, le)
-
 -- the bytes end where a line of a trace may begin
 nothing_left : (stage : LineStage) (text : List ℕ) → end_cause stage text ≡ None → text ≡ []
-nothing_left TraceVersion text e = absurd cc
-nothing_left (TraceHeap v) text e = absurd cc
-nothing_left (TraceThreads v r w k) text e = absurd cc
-nothing_left (Commands v c) [] e = refl
-nothing_left (Commands v c) (b ∷ text) e = absurd cc
-nothing_left (Turns c) [] e = refl
-nothing_left (Turns c) (b ∷ text) e = absurd cc
+nothing_left TraceVersion text none = absurd cc
+nothing_left (TraceHeap v) text none = absurd cc
+nothing_left (TraceThreads v r w k) text none = absurd cc
+nothing_left (Commands version config) [] none = refl
+nothing_left (Commands version config) (b ∷ text) none = absurd cc
+nothing_left (Turns config) [] none = refl
+nothing_left (Turns config) (b ∷ text) none = absurd cc
 
 -- ---- bytes that are neither
 
@@ -98,13 +92,13 @@ module _ (dump_bytes : List ℕ) (short : length dump_bytes ≤ most_bytes) (non
   fine_at stage b lines led why stops = fine (1 + lines) why (refused dump_bytes (1 + lines) why short (record { rest = b; lines = lines; at = stage; led = led; number = refl; cause = stops }))
 
   -- the next line follows, and there is one behind it
-  step : (stage : DumpStage) → IsDumping stage → (b : List ℕ) (lines : ℕ) → Leads Version dump_bytes b lines stage
-      → ((text rest : List ℕ) (next : DumpStage) → parts 10 b ≡ text ∷ parts 10 rest → DumpFollows stage text next → ⊥) → ⊥
-  step stage is b lines led go = by_first (first_line b).0 (first_line b).1 (first_line b).2
+  step : (stage : DumpStage) → IsDumping stage → (bytes : List ℕ) (lines : ℕ) → Leads Version dump_bytes bytes lines stage
+      → ((text rest : List ℕ) (next : DumpStage) → parts 10 bytes ≡ text ∷ parts 10 rest → DumpFollows stage text next → ⊥) → ⊥
+  step stage is bytes lines led go = by_first (first_line bytes).0 (first_line bytes).1 (first_line bytes).2
     where
-      by_first : (text rest : List ℕ) → (parts 10 b ≡ text ∷ []) ⊎ (parts 10 b ≡ text ∷ parts 10 rest) → ⊥
-      by_first text rest (inl e) = fine_at stage b lines led (ends_by text) (ends_here stage b text is e)
-      by_first text rest (inr e) = fine_at stage b lines led DumpWanted (refused_here stage b text rest is e (λ next f. go text rest next e f))
+      by_first : (text rest : List ℕ) → (parts 10 bytes ≡ text ∷ []) ⊎ (parts 10 bytes ≡ text ∷ parts 10 rest) → ⊥
+      by_first text rest (inl e) = fine_at stage bytes lines led (ends_by text) (ends_here stage bytes text is e)
+      by_first text rest (inr e) = fine_at stage bytes lines led DumpWanted (refused_here stage bytes text rest is e (λ next f. go text rest next e f))
 
   -- ---- behind the line `trace`
 
@@ -142,33 +136,33 @@ module _ (dump_bytes : List ℕ) (short : length dump_bytes ≤ most_bytes) (non
           short = short;
         })
 
-    from_there : (stage : LineStage) (b : List ℕ) (n : ℕ) → Leads (Behind (Commands run_version other_config)) behind_mark b n (Behind stage) → Leads Version dump_bytes b (3 + 1 + listed + 1 + n) (Behind stage)
-    from_there stage b n led = leads_both Version (Behind (Commands run_version other_config)) (Behind stage) dump_bytes behind_mark b (3 + 1 + listed + 1) n to_mark led
+    from_there : (stage : LineStage) (b : List ℕ) (lines : ℕ) → Leads (Behind (Commands run_version other_config)) behind_mark b lines (Behind stage) → Leads Version dump_bytes b (3 + 1 + listed + 1 + lines) (Behind stage)
+    from_there stage b lines led = leads_both Version (Behind (Commands run_version other_config)) (Behind stage) dump_bytes behind_mark b (3 + 1 + listed + 1) lines to_mark led
 
-    at_last : (stage : LineStage) (b text : List ℕ) (n : ℕ) → Leads (Behind (Commands run_version other_config)) behind_mark b n (Behind stage) → parts 10 b ≡ text ∷ [] → (cause : Option Why) → end_cause stage text ≡ cause → ⊥
-    at_last stage b text n led e (Some why) at = fine_at (Behind stage) b (3 + 1 + listed + 1 + n) (from_there stage b n led) why (cut_line stage b text e ∙ at)
-    at_last stage b text n led e None at =
-        let empty : b ≡ [] = bytes_of_last b text e ∙ nothing_left stage text at in
-        complete stage n (subst (λ (bs : List ℕ). Leads (Behind (Commands run_version other_config)) behind_mark bs n (Behind stage)) empty led)
+    at_last : (stage : LineStage) (bytes text : List ℕ) (lines : ℕ) → Leads (Behind (Commands run_version other_config)) behind_mark bytes lines (Behind stage) → parts 10 bytes ≡ text ∷ [] → (cause : Option Why) → end_cause stage text ≡ cause → ⊥
+    at_last stage bytes text lines led e (Some why) at = fine_at (Behind stage) bytes (3 + 1 + listed + 1 + lines) (from_there stage bytes lines led) why (cut_line stage bytes text e ∙ at)
+    at_last stage bytes text lines led e None at =
+        let empty : bytes ≡ [] = bytes_of_last bytes text e ∙ nothing_left stage text at in
+        complete stage lines (subst (λ (bs : List ℕ). Leads (Behind (Commands run_version other_config)) behind_mark bs lines (Behind stage)) empty led)
 
-    body_walk : (k : ℕ) (stage : LineStage) (b : List ℕ) (n : ℕ) → Fits stage → length b ≤ k → Leads (Behind (Commands run_version other_config)) behind_mark b n (Behind stage) → ⊥
-    body_walk zero stage b n fits le led = by_first (first_line b).0 (first_line b).1 (first_line b).2
+    body_walk : (k : ℕ) (stage : LineStage) (bytes : List ℕ) (lines : ℕ) → Fits stage → length bytes ≤ k → Leads (Behind (Commands run_version other_config)) behind_mark bytes lines (Behind stage) → ⊥
+    body_walk zero stage bytes lines fits le led = by_first (first_line bytes).0 (first_line bytes).1 (first_line bytes).2
       where
-        by_first : (text rest : List ℕ) → (parts 10 b ≡ text ∷ []) ⊎ (parts 10 b ≡ text ∷ parts 10 rest) → ⊥
-        by_first text rest (inl e) = at_last stage b text n led e (end_cause stage text) refl
-        by_first text rest (inr e) = some_byte b text rest (bytes_of_line b text rest e) le
-    body_walk (suc k) stage b n fits le led = by_first (λ other_stage bs m f low leads. body_walk k other_stage bs m f low leads) (first_line b).0 (first_line b).1 (first_line b).2
+        by_first : (text rest : List ℕ) → (parts 10 bytes ≡ text ∷ []) ⊎ (parts 10 bytes ≡ text ∷ parts 10 rest) → ⊥
+        by_first text rest (inl e) = at_last stage bytes text lines led e (end_cause stage text) refl
+        by_first text rest (inr e) = line_has_bytes bytes text rest (bytes_of_line bytes text rest e) le
+    body_walk (suc k) stage bytes lines fits le led = by_first (λ other_stage bs lines f low leads. body_walk k other_stage bs lines f low leads) (first_line bytes).0 (first_line bytes).1 (first_line bytes).2
       where
-        by_cause : ((other_stage : LineStage) (bs : List ℕ) (m : ℕ) → Fits other_stage → length bs ≤ k → Leads (Behind (Commands run_version other_config)) behind_mark bs m (Behind other_stage) → ⊥) → (text rest : List ℕ) → parts 10 b ≡ text ∷ parts 10 rest
+        by_cause : ((other_stage : LineStage) (bs : List ℕ) (m : ℕ) → Fits other_stage → length bs ≤ k → Leads (Behind (Commands run_version other_config)) behind_mark bs m (Behind other_stage) → ⊥) → (text rest : List ℕ) → parts 10 bytes ≡ text ∷ parts 10 rest
             → (cause : Option Why) → words_cause stage (parts 32 text) ≡ cause → ⊥
-        by_cause go text rest e (Some why) at = fine_at (Behind stage) b (3 + 1 + listed + 1 + n) (from_there stage b n led) why (whole_line stage b text rest e ∙ at)
+        by_cause go text rest e (Some why) at = fine_at (Behind stage) bytes (3 + 1 + listed + 1 + lines) (from_there stage bytes lines led) why (whole_line stage bytes text rest e ∙ at)
         by_cause go text rest e None at =
             let next = follows stage text fits at in
-            go next.0 rest (n + 1) next.2 (fewer b text rest k (bytes_of_line b text rest e) le)
-            (leads_both (Behind (Commands run_version other_config)) (Behind stage) (Behind next.0) behind_mark b rest n 1 led (leads_one (Behind stage) (Behind next.0) b text rest e (next.0, next.1, refl)))
+            go next.0 rest (lines + 1) next.2 (rest_is_shorter bytes text rest k (bytes_of_line bytes text rest e) le)
+            (leads_both (Behind (Commands run_version other_config)) (Behind stage) (Behind next.0) behind_mark bytes rest lines 1 led (leads_one (Behind stage) (Behind next.0) bytes text rest e (next.0, next.1, refl)))
 
-        by_first : ((other_stage : LineStage) (bs : List ℕ) (m : ℕ) → Fits other_stage → length bs ≤ k → Leads (Behind (Commands run_version other_config)) behind_mark bs m (Behind other_stage) → ⊥) → (text rest : List ℕ) → (parts 10 b ≡ text ∷ []) ⊎ (parts 10 b ≡ text ∷ parts 10 rest) → ⊥
-        by_first go text rest (inl e) = at_last stage b text n led e (end_cause stage text) refl
+        by_first : ((other_stage : LineStage) (bs : List ℕ) (m : ℕ) → Fits other_stage → length bs ≤ k → Leads (Behind (Commands run_version other_config)) behind_mark bs m (Behind other_stage) → ⊥) → (text rest : List ℕ) → (parts 10 bytes ≡ text ∷ []) ⊎ (parts 10 bytes ≡ text ∷ parts 10 rest) → ⊥
+        by_first go text rest (inl e) = at_last stage bytes text lines led e (end_cause stage text) refl
         by_first go text rest (inr e) = by_cause go text rest e (words_cause stage (parts 32 text)) refl
 
     from_mark : ⊥
@@ -177,40 +171,40 @@ module _ (dump_bytes : List ℕ) (short : length dump_bytes ≤ most_bytes) (non
   -- ---- objects and roots
 
   module _ (other_config : Config) (behind_head behind_counts : List ℕ) (bare_dump : Dumped) (same : bare_dump.config ≡ other_config) (no_rows : bare_dump.rows ≡ []) (no_roots : bare_dump.roots ≡ []) (head : Leads Version dump_bytes behind_head 3 (Counts other_config)) (counted : Leads (Counts other_config) behind_head behind_counts 1 (Listed bare_dump)) where
-    to_here : (dump : Dumped) (b : List ℕ) (n : ℕ) → Leads (Listed bare_dump) behind_counts b n (Listed dump) → Leads Version dump_bytes b (3 + 1 + n) (Listed dump)
-    to_here dump b n led = leads_both Version (Listed bare_dump) (Listed dump) dump_bytes behind_counts b (3 + 1) n (leads_both Version (Counts other_config) (Listed bare_dump) dump_bytes behind_head behind_counts 3 1 head counted) led
+    to_here : (dump : Dumped) (b : List ℕ) (lines : ℕ) → Leads (Listed bare_dump) behind_counts b lines (Listed dump) → Leads Version dump_bytes b (3 + 1 + lines) (Listed dump)
+    to_here dump b lines led = leads_both Version (Listed bare_dump) (Listed dump) dump_bytes behind_counts b (3 + 1) lines (leads_both Version (Counts other_config) (Listed bare_dump) dump_bytes behind_head behind_counts 3 1 head counted) led
 
-    one_line : (dump other_dump : Dumped) (b text rest : List ℕ) (n : ℕ) → Leads (Listed bare_dump) behind_counts b n (Listed dump) → parts 10 b ≡ text ∷ parts 10 rest → DumpFollows (Listed dump) text (Listed other_dump) → Leads (Listed bare_dump) behind_counts rest (n + 1) (Listed other_dump)
-    one_line dump other_dump b text rest n led cut f = leads_both (Listed bare_dump) (Listed dump) (Listed other_dump) behind_counts b rest n 1 led (leads_one (Listed dump) (Listed other_dump) b text rest cut f)
+    one_line : (dump other_dump : Dumped) (bytes text rest : List ℕ) (lines : ℕ) → Leads (Listed bare_dump) behind_counts bytes lines (Listed dump) → parts 10 bytes ≡ text ∷ parts 10 rest → DumpFollows (Listed dump) text (Listed other_dump) → Leads (Listed bare_dump) behind_counts rest (lines + 1) (Listed other_dump)
+    one_line dump other_dump bytes text rest lines led cut dump_follows = leads_both (Listed bare_dump) (Listed dump) (Listed other_dump) behind_counts bytes rest lines 1 led (leads_one (Listed dump) (Listed other_dump) bytes text rest cut dump_follows)
 
-    from_listed : (k : ℕ) (dump : Dumped) (b : List ℕ) (n : ℕ) → length b ≤ k → dump.config ≡ other_config → dump.counts ≡ bare_dump.counts → Leads (Listed bare_dump) behind_counts b n (Listed dump) → ⊥
-    from_listed zero dump b n le config counts led = step (Listed dump) tt b (3 + 1 + n) (to_here dump b n led) (λ text rest next cut f. some_byte b text rest (bytes_of_line b text rest cut) le)
-    from_listed (suc k) dump b n le config counts led = step (Listed dump) tt b (3 + 1 + n) (to_here dump b n led) (λ text rest next cut f. by_kind (λ other_dump bs m low one other leads. from_listed k other_dump bs m low one other leads) text rest next cut f)
+    from_listed : (k : ℕ) (dump : Dumped) (bytes : List ℕ) (lines : ℕ) → length bytes ≤ k → dump.config ≡ other_config → dump.counts ≡ bare_dump.counts → Leads (Listed bare_dump) behind_counts bytes lines (Listed dump) → ⊥
+    from_listed zero dump bytes lines le config counts led = step (Listed dump) tt bytes (3 + 1 + lines) (to_here dump bytes lines led) (λ text rest next cut f. line_has_bytes bytes text rest (bytes_of_line bytes text rest cut) le)
+    from_listed (suc k) dump bytes lines le config counts led = step (Listed dump) tt bytes (3 + 1 + lines) (to_here dump bytes lines led) (λ text rest next cut f. by_kind (λ other_dump bs lines low one other leads. from_listed k other_dump bs lines low one other leads) text rest next cut f)
       where
-        by_kind : ((other_dump : Dumped) (bs : List ℕ) (m : ℕ) → length bs ≤ k → other_dump.config ≡ other_config → other_dump.counts ≡ bare_dump.counts → Leads (Listed bare_dump) behind_counts bs m (Listed other_dump) → ⊥) → (text rest : List ℕ) (next : DumpStage) → parts 10 b ≡ text ∷ parts 10 rest
+        by_kind : ((other_dump : Dumped) (bs : List ℕ) (m : ℕ) → length bs ≤ k → other_dump.config ≡ other_config → other_dump.counts ≡ bare_dump.counts → Leads (Listed bare_dump) behind_counts bs m (Listed other_dump) → ⊥) → (text rest : List ℕ) (next : DumpStage) → parts 10 bytes ≡ text ∷ parts 10 rest
             → DumpFollows (Listed dump) text next → ⊥
         by_kind go text rest next cut (inl f) =
-            go (with_row dump f.0) rest (n + 1) (fewer b text rest k (bytes_of_line b text rest cut) le) config counts
-            (one_line dump (with_row dump f.0) b text rest n led cut (inl (f.0, f.1, f.2, f.3, f.4, f.5, f.6, refl)))
+            go (with_row dump f.0) rest (lines + 1) (rest_is_shorter bytes text rest k (bytes_of_line bytes text rest cut) le) config counts
+            (one_line dump (with_row dump f.0) bytes text rest lines led cut (inl (f.0, f.1, f.2, f.3, f.4, f.5, f.6, refl)))
         by_kind go text rest next cut (inr (inl f)) =
-            go (with_roots dump f.0) rest (n + 1) (fewer b text rest k (bytes_of_line b text rest cut) le) config counts
-            (one_line dump (with_roots dump f.0) b text rest n led cut (inr (inl (f.0, f.1, f.2, f.3, f.4, f.5, refl))))
-        by_kind go text rest next cut (inr (inr f)) = from_mark other_config behind_head behind_counts b rest text bare_dump dump n f.0 config counts no_rows no_roots head counted led cut f.1
+            go (with_roots dump f.0) rest (lines + 1) (rest_is_shorter bytes text rest k (bytes_of_line bytes text rest cut) le) config counts
+            (one_line dump (with_roots dump f.0) bytes text rest lines led cut (inr (inl (f.0, f.1, f.2, f.3, f.4, f.5, refl))))
+        by_kind go text rest next cut (inr (inr f)) = from_mark other_config behind_head behind_counts bytes rest text bare_dump dump lines f.0 config counts no_rows no_roots head counted led cut f.1
 
   -- ---- the head
 
-  from_counts : (other_config : Config) (b : List ℕ) → Leads Version dump_bytes b 3 (Counts other_config) → ⊥
-  from_counts other_config b led = step (Counts other_config) tt b 3 led (λ text rest next cut f.
+  from_counts : (other_config : Config) (bytes : List ℕ) → Leads Version dump_bytes bytes 3 (Counts other_config) → ⊥
+  from_counts other_config bytes led = step (Counts other_config) tt bytes 3 led (λ text rest next cut f.
       let bare_dump : Dumped = record { config = other_config; counts = f.0; rows = []; roots = [] } in
-      from_listed other_config b rest bare_dump refl refl refl led (subst (λ (stage : DumpStage). Leads (Counts other_config) b rest 1 stage) f.4 (leads_one (Counts other_config) next b text rest cut f)) (length rest) bare_dump rest 0 (omega arith) refl refl (leads_none (Listed bare_dump) rest))
+      from_listed other_config bytes rest bare_dump refl refl refl led (subst (λ (stage : DumpStage). Leads (Counts other_config) bytes rest 1 stage) f.4 (leads_one (Counts other_config) next bytes text rest cut f)) (length rest) bare_dump rest 0 (omega arith) refl refl (leads_none (Listed bare_dump) rest))
 
-  from_threads : (config : Config) (b : List ℕ) → Leads Version dump_bytes b 2 (Threads config) → ⊥
-  from_threads config b led = step (Threads config) tt b 2 led (λ text rest next cut f.
-      from_counts f.0 rest (subst (λ (stage : DumpStage). Leads Version dump_bytes rest 3 stage) f.3 (leads_both Version (Threads config) next dump_bytes b rest 2 1 led (leads_one (Threads config) next b text rest cut f))))
+  from_threads : (config : Config) (bytes : List ℕ) → Leads Version dump_bytes bytes 2 (Threads config) → ⊥
+  from_threads config bytes led = step (Threads config) tt bytes 2 led (λ text rest next cut f.
+      from_counts f.0 rest (subst (λ (stage : DumpStage). Leads Version dump_bytes rest 3 stage) f.3 (leads_both Version (Threads config) next dump_bytes bytes rest 2 1 led (leads_one (Threads config) next bytes text rest cut f))))
 
-  from_heap : (b : List ℕ) → Leads Version dump_bytes b 1 Heap → ⊥
-  from_heap b led = step Heap tt b 1 led (λ text rest next cut f.
-      from_threads f.0 rest (subst (λ (stage : DumpStage). Leads Version dump_bytes rest 2 stage) f.3 (leads_both Version Heap next dump_bytes b rest 1 1 led (leads_one Heap next b text rest cut f))))
+  from_heap : (bytes : List ℕ) → Leads Version dump_bytes bytes 1 Heap → ⊥
+  from_heap bytes led = step Heap tt bytes 1 led (λ text rest next cut f.
+      from_threads f.0 rest (subst (λ (stage : DumpStage). Leads Version dump_bytes rest 2 stage) f.3 (leads_both Version Heap next dump_bytes bytes rest 1 1 led (leads_one Heap next bytes text rest cut f))))
 
   pub not_neither : ⊥
   not_neither = step Version tt dump_bytes 0 (leads_none Version dump_bytes) (λ text rest next cut f. from_heap rest (subst (λ (stage : DumpStage). Leads Version dump_bytes rest 1 stage) f.1 (leads_one Version next dump_bytes text rest cut f)))

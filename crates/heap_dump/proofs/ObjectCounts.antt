@@ -24,8 +24,8 @@ on-count None graph f thread each = refl
 on-count (Some v) graph f thread each = each v
 
 either-count : (holds : Bool) (x y : Outcome) (graph : Graph) (thread : ℕ) → x.graph.count thread ≡ graph.count thread → y.graph.count thread ≡ graph.count thread → (cond holds x y).graph.count thread ≡ graph.count thread
-either-count true x y graph thread p q = p
-either-count false x y graph thread p q = q
+either-count true x y graph thread same q = same
+either-count false x y graph thread same q = q
 
 -- an allocation adds one to the count of its thread
 new-count : (graph : Graph) (u thread dst refs nums : ℕ) → (outcome graph u (New dst refs nums)).graph.count thread ≡ graph.count thread + one_if (eqb u thread)
@@ -61,16 +61,16 @@ none_more true n = omega arith
 none_more false n = omega arith
 
 one_more : (b a r : Bool) → a ≡ true → r ≡ true → one_if b ≡ one_if (b && (a && r))
-one_more true a r p q = rw p (rw q refl)
-one_more false a r p q = refl
+one_more true a r same q = rw same (rw q refl)
+one_more false a r same q = refl
 
 no_allocation : (b a r : Bool) (n : ℕ) → a ≡ false → n ≡ n + one_if (b && (a && r))
-no_allocation b a r n p = rw p (none_more b n)
+no_allocation b a r n same = rw same (none_more b n)
 
 no_name : (b a r : Bool) (n : ℕ) → r ≡ false → n ≡ n + one_if (b && (a && r))
-no_name true true r n p = rw p (none_more true n)
-no_name true false r n p = none_more true n
-no_name false a r n p = none_more false n
+no_name true true r n same = rw same (none_more true n)
+no_name true false r n same = none_more true n
+no_name false a r n same = none_more false n
 
 other-told : (graph : Graph) (u thread : ℕ) (command : Command) (reply : Reply) (other_graph : Graph) → is_allocation command ≡ false → answers reply other_graph ≡ outcome graph u command → other_graph.count thread ≡ graph.count thread + one_if (eqb u thread && (is_allocation command && is_name_reply reply))
 other-told graph u thread command reply other_graph kind told = ap (λ (o : Outcome). o.graph.count thread) told ∙ other-count graph u thread command kind ∙ no_allocation (eqb u thread) (is_allocation command) (is_name_reply reply) (graph.count thread) kind
@@ -102,10 +102,10 @@ entry-count regions region_words graph entry other_graph thread (inr (inr pinnin
 -- ---- histories
 
 count_cons : (first rest end n one all : ℕ) → first ≡ n + one → end ≡ first + rest → all ≡ one + rest → end ≡ n + all
-count_cons first rest end n one all p q r = omega (arith, p, q, r)
+count_cons first rest end n one all same q r = omega (arith, same, q, r)
 
-pub made-count : (regions region_words : ℕ) (graph : Graph) (es : List Entry) (thread : ℕ) → EachIsLegal regions region_words graph es → (after graph es).count thread ≡ graph.count thread + objects_made es thread
+pub made-count : (regions region_words : ℕ) (graph : Graph) (entries : List Entry) (thread : ℕ) → EachIsLegal regions region_words graph entries → (after graph entries).count thread ≡ graph.count thread + objects_made entries thread
 made-count regions region_words graph [] thread legal = omega arith
-made-count regions region_words graph (e ∷ es) thread legal =
-    count_cons ((after_entry graph e).count thread) (objects_made es thread) ((after (after_entry graph e) es).count thread) (graph.count thread) (one_if (has_made thread e)) (objects_made (e ∷ es) thread)
-    (entry-count regions region_words graph e (after_entry graph e) thread legal.0) (made-count regions region_words (after_entry graph e) es thread legal.1) (sum_by-cons (λ (entry : Entry). one_if (has_made thread entry)) e es)
+made-count regions region_words graph (other_entry ∷ entries) thread legal =
+    count_cons ((after_entry graph other_entry).count thread) (objects_made entries thread) ((after (after_entry graph other_entry) entries).count thread) (graph.count thread) (one_if (has_made thread other_entry)) (objects_made (other_entry ∷ entries) thread)
+    (entry-count regions region_words graph other_entry (after_entry graph other_entry) thread legal.0) (made-count regions region_words (after_entry graph other_entry) entries thread legal.1) (sum_by-cons (λ (entry : Entry). one_if (has_made thread entry)) other_entry entries)

@@ -5,7 +5,7 @@ use Rattle.std.proofs.lemmas.Bool.{cases_lt}
 use Rattle.heap_words.specs.declared.schedule.NoMemory.{NoMemory}
 use Rattle.heap_dump.specs.declared.goes_on.Continued.{Continued}
 use Rattle.heap_dump.specs.declared.goes_on.Continued.TheVariants.{Answered, Unfinished, TooSmall}
-use Rattle.heap_dump.specs.Resuming.{IfAnswered}
+use Rattle.heap_dump.specs.RunFromStage.{IfAnswered}
 
 by_order : (a b : ℕ) → ((a ≤ b → ⊥) → ⊥) → a ≤ b
 by_order a b never = by_case (cases_lt b a)

@@ -22,7 +22,7 @@ use Rattle.heap_dump.specs.Dumped.{Dumped, names_in, graph_in, IsDump, IsDumpOf,
 
 names_again : (graph : Graph) (names : List Name) → map (λ (row : Row). row.name) (map (row_in graph) names) ≡ names
 names_again graph [] = refl
-names_again graph (n ∷ ns) = ap (λ (names : List Name). n ∷ names) (names_again graph ns)
+names_again graph (name ∷ other_names) = ap (λ (names : List Name). name ∷ names) (names_again graph other_names)
 
 pub some_dump : (config : Config) (graph : Graph) (names : List Name) → IsReach (unpinned graph) names → IsDumpOf config graph (dump_of config graph names)
 some_dump config graph names reach =
@@ -34,14 +34,14 @@ one_dump config graph dump other_dump one other = one.parts ∙ ap (dump_of conf
 
 -- ---- the object of a row
 
-pub before_at : (name : Name) (ns : List Name) (index : ℕ) (other_name : Name) → InOrder (name ∷ ns) → index < length ns → IsBefore name (get_or ns index other_name)
+pub before_at : (name : Name) (names : List Name) (index : ℕ) (other_name : Name) → InOrder (name ∷ names) → index < length names → IsBefore name (get_or names index other_name)
 before_at name [] index other_name order low = absurd (omega arith)
-before_at name (n ∷ ns) zero other_name order low = order.0
-before_at name (n ∷ ns) (suc index) other_name order low = before_join name n (get_or ns index other_name) order.0 (before_at n ns index other_name order.1 (omega arith))
+before_at name (n ∷ names) zero other_name order low = order.0
+before_at name (n ∷ names) (suc index) other_name order low = before_join name n (get_or names index other_name) order.0 (before_at n names index other_name order.1 (omega arith))
 
-pub order_rest : (name : Name) (ns : List Name) → InOrder (name ∷ ns) → InOrder ns
+pub order_rest : (name : Name) (names : List Name) → InOrder (name ∷ names) → InOrder names
 order_rest name [] order = tt
-order_rest name (n ∷ ns) order = order.1
+order_rest name (other_name ∷ names) order = order.1
 
 abbrev pub name_of : Row → Name
 name_of row = row.name
@@ -51,24 +51,24 @@ fields_of row = record { refs = row.refs; nums = row.nums }
 
 pub name_at : (rows : List Row) (index : ℕ) (row : Row) → get_or (map name_of rows) index (name_of row) ≡ name_of (get_or rows index row)
 name_at [] index row = refl
-name_at (r ∷ rows) zero row = refl
-name_at (r ∷ rows) (suc index) row = name_at rows index row
+name_at (other_row ∷ rows) zero row = refl
+name_at (other_row ∷ rows) (suc index) row = name_at rows index row
 
 pub length-names : (rows : List Row) → length (map name_of rows) ≡ length rows
 length-names [] = refl
-length-names (r ∷ rows) = ap suc (length-names rows)
+length-names (row ∷ rows) = ap suc (length-names rows)
 
 pub object_at : (rows : List Row) (index : ℕ) (row : Row) → InOrder (map name_of rows) → index < length rows
     → object_in rows (name_of (get_or rows index row)) ≡ Some (fields_of (get_or rows index row))
 object_at [] index row order low = absurd (omega arith)
-object_at (r ∷ rows) zero row order low = cond-true (same_name r.name r.name) (Some (fields_of r)) (object_in rows r.name) (same_name-itself r.name)
-object_at (r ∷ rows) (suc index) row order low =
+object_at (other_row ∷ rows) zero row order low = cond-true (same_name other_row.name other_row.name) (Some (fields_of other_row)) (object_in rows other_row.name) (same_name-itself other_row.name)
+object_at (other_row ∷ rows) (suc index) row order low =
     let here = get_or rows index row in
-    let before = before_at r.name (map name_of rows) index (name_of row) order (omega (arith, length-names rows)) in
-    let apart : same_name (name_of here) r.name ≡ false =
-    same_name-flip (name_of here) r.name ∙ before_apart r.name (name_of here) (rw (sym (name_at rows index row)) before) in
-    cond-false (same_name (name_of here) r.name) (Some (fields_of r)) (object_in rows (name_of here)) apart
-    ∙ object_at rows index row (order_rest r.name (map name_of rows) order) (omega arith)
+    let before = before_at other_row.name (map name_of rows) index (name_of row) order (omega (arith, length-names rows)) in
+    let apart : same_name (name_of here) other_row.name ≡ false =
+    same_name-flip (name_of here) other_row.name ∙ before_apart other_row.name (name_of here) (rw (sym (name_at rows index row)) before) in
+    cond-false (same_name (name_of here) other_row.name) (Some (fields_of other_row)) (object_in rows (name_of here)) apart
+    ∙ object_at rows index row (order_rest other_row.name (map name_of rows) order) (omega arith)
 
 -- ---- the dump of its graph
 
@@ -79,18 +79,18 @@ row_again dump name object is =
 
 pub rows_by_names : (f : Name → Row) (rows : List Row) → ((index : ℕ) (row : Row) → index < length rows → f (name_of (get_or rows index row)) ≡ get_or rows index row) → map f (map name_of rows) ≡ rows
 rows_by_names f [] each = refl
-rows_by_names f (r ∷ rows) each =
-    ap (λ (row : Row). row ∷ map f (map name_of rows)) (each zero r (omega arith))
-    ∙ ap (λ (rs : List Row). r ∷ rs) (rows_by_names f rows (λ index row low. each (suc index) row (omega arith)))
+rows_by_names f (other_row ∷ rows) each =
+    ap (λ (row : Row). row ∷ map f (map name_of rows)) (each zero other_row (omega arith))
+    ∙ ap (λ (rs : List Row). other_row ∷ rs) (rows_by_names f rows (λ index row low. each (suc index) row (omega arith)))
 
 rows_again : (dump : Dumped) → InOrder (names_in dump) → map (row_in (graph_in dump)) (names_in dump) ≡ dump.rows
 rows_again dump order =
     rows_by_names (row_in (graph_in dump)) dump.rows
-    (λ k r low. row_again dump (name_of (get_or dump.rows k r)) (fields_of (get_or dump.rows k r)) (object_at dump.rows k r order low))
+    (λ index row low. row_again dump (name_of (get_or dump.rows index row)) (fields_of (get_or dump.rows index row)) (object_at dump.rows index row order low))
 
-pub counts_again : (counts : List ℕ) (threads : ℕ) → length counts ≡ threads → map (λ t. get_or (0 ∷ counts) t 0) (range_with_len 1 threads) ≡ counts
+pub counts_again : (counts : List ℕ) (threads : ℕ) → length counts ≡ threads → map (λ index. get_or (0 ∷ counts) index 0) (range_with_len 1 threads) ≡ counts
 counts_again counts threads count =
-    let f : ℕ → ℕ = λ t. get_or (0 ∷ counts) t 0 in
+    let f : ℕ → ℕ = λ index. get_or (0 ∷ counts) index 0 in
     sym (ext_get_or 0 counts (map f (range_with_len 1 threads)) (count ∙ sym (length-map-range_with_len f 1 threads))
     (λ i low. sym (get_or-map-range_with_len f 1 threads i (suc i) 0 (omega arith) (omega arith))))
 
@@ -99,14 +99,14 @@ pub roots_again : (roots : List (List Reference)) (threads : ℕ) → length roo
 roots_again roots threads count full =
     let f : ℕ → List Reference = λ t. map (root_in ([] ∷ roots) t) (range_with_len 0 16) in
     sym (ext_get_or [] roots (map f (range_with_len 1 threads)) (count ∙ sym (length-map-range_with_len f 1 threads))
-    (λ i low. fill_by_all (λ j. get_or (get_or roots i []) j None) (get_or roots i []) 16 None (All-get_or (λ (row : List Reference). length row ≡ 16) roots i [] low full) (λ k h. refl)
-    ∙ sym (get_or-map-range_with_len f 1 threads i (suc i) [] (omega arith) (omega arith))))
+    (λ index low. fill_by_all (λ other_index. get_or (get_or roots index []) other_index None) (get_or roots index []) 16 None (All-get_or (λ (row : List Reference). length row ≡ 16) roots index [] low full) (λ k h. refl)
+    ∙ sym (get_or-map-range_with_len f 1 threads index (suc index) [] (omega arith) (omega arith))))
 
-pub same_parts : (c : Config) (dump : Dumped) (counts : List ℕ) (rows : List Row) (roots : List (List Reference)) → dump.config ≡ c → counts ≡ dump.counts → rows ≡ dump.rows → roots ≡ dump.roots
-    → dump ≡ record { config = c; counts = counts; rows = rows; roots = roots }
-same_parts c dump counts rows roots config a b e =
+pub same_parts : (config : Config) (dump : Dumped) (counts : List ℕ) (rows : List Row) (roots : List (List Reference)) → dump.config ≡ config → counts ≡ dump.counts → rows ≡ dump.rows → roots ≡ dump.roots
+    → dump ≡ record { config = config; counts = counts; rows = rows; roots = roots }
+same_parts c dump counts rows roots config same b e =
     ap (λ x. record dump { config = x }) config
-    ∙ ap (λ x. record { config = c; counts = x; rows = dump.rows; roots = dump.roots }) (sym a)
+    ∙ ap (λ x. record { config = c; counts = x; rows = dump.rows; roots = dump.roots }) (sym same)
     ∙ ap (λ x. record { config = c; counts = counts; rows = x; roots = dump.roots }) (sym b)
     ∙ ap (λ x. record { config = c; counts = counts; rows = rows; roots = x }) (sym e)
 

@@ -13,11 +13,11 @@ use Rattle.shen_graph.specs.GraphText.{Row, bare}
 use Rattle.shen_graph.specs.Reach.{InOrder}
 use Rattle.trace_reading.specs.Spelling.{newline, titled}
 use Rattle.trace_reading.proofs.Free.{IsWord, parts_at, joined_free}
-use Rattle.trace_reading.proofs.Heads.{titled_is}
+use Rattle.trace_reading.proofs.HeadWords.{titled_is}
 use Rattle.trace_text.specs.Answer.{line_of, name_word, reference_word, object_line, thread_numbers}
 use Rattle.heap_dump.specs.Dumped.{Dumped, IsRow, IsDump, IsInForm, most_made}
 use Rattle.heap_dump.specs.DumpText.{sizes_head, roots_line_in, dump_text}
-use Rattle.heap_dump.specs.Resumes.{run_version, mark_line}
+use Rattle.heap_dump.specs.DumpsToRun.{run_version, mark_line}
 use Rattle.heap_dump.specs.DumpLines.{DumpStage, Version, Heap, Threads, Counts, Listed, Behind, DumpFollows, Spells, AreReferences, with_roots, heap_line, threads_line}
 use Rattle.heap_dump.specs.Steps.{Leads}
 use Rattle.heap_dump.specs.Listing.{listed}
@@ -36,11 +36,11 @@ name_of row = row.name
 -- ---- one line
 
 -- words with spaces between are a line
-words_lead : (stage next : DumpStage) (w : List ℕ) (ws : List (List ℕ)) (rest : List ℕ) → AllByRecursion IsWord (w ∷ ws) → DumpFollows stage (join_with_byte 32 (w ∷ ws)) next → Leads stage (line_of (w ∷ ws) ++ rest) rest 1 next
-words_lead stage next w ws rest all f =
-    let text = join_with_byte 32 (w ∷ ws) in
+words_lead : (stage next : DumpStage) (xs : List ℕ) (ws : List (List ℕ)) (rest : List ℕ) → AllByRecursion IsWord (xs ∷ ws) → DumpFollows stage (join_with_byte 32 (xs ∷ ws)) next → Leads stage (line_of (xs ∷ ws) ++ rest) rest 1 next
+words_lead stage next xs ws rest all dump_follows =
+    let text = join_with_byte 32 (xs ∷ ws) in
     subst (λ (bs : List ℕ). Leads stage bs rest 1 next) (sym (append_assoc text (newline ∷ []) rest))
-    (leads_one stage next (text ++ 10 ∷ rest) text rest (parts_at 10 text rest (joined_free w ws all)) f)
+    (leads_one stage next (text ++ 10 ∷ rest) text rest (parts_at 10 text rest (joined_free xs ws all)) dump_follows)
 
 titled_lead : (stage next : DumpStage) (title : List ℕ) (ns : List ℕ) (rest : List ℕ) → IsWord title → All (λ n. n < 2 ^ 64) ns → ((text : List ℕ) → Spells text (titled title ns) → DumpFollows stage text next) → Leads stage (titled title ns ++ rest) rest 1 next
 titled_lead stage next title ns rest word small f =
@@ -48,19 +48,19 @@ titled_lead stage next title ns rest word small f =
     (words_lead stage next title (map decimal ns) rest (word, numbers_are_words ns small) (f (join_with_byte 32 (title ∷ map decimal ns)) (titled_is title ns)))
 
 all_three : (a b c : ℕ) → a < 2 ^ 64 → b < 2 ^ 64 → c < 2 ^ 64 → All (λ n. n < 2 ^ 64) (a ∷ b ∷ c ∷ [])
-all_three a b c x y z zero d low = x
-all_three a b c x y z (suc zero) d low = y
-all_three a b c x y z (suc (suc zero)) d low = z
-all_three a b c x y z (suc (suc (suc k))) d low = absurd (omega (arith, low))
+all_three a b c below y z zero d low = below
+all_three a b c below y z (suc zero) d low = y
+all_three a b c below y z (suc (suc zero)) d low = z
+all_three a b c below y z (suc (suc (suc k))) d low = absurd (omega (arith, low))
 
 all_two : (a b : ℕ) → a < 2 ^ 64 → b < 2 ^ 64 → All (λ n. n < 2 ^ 64) (a ∷ b ∷ [])
-all_two a b x y zero d low = x
-all_two a b x y (suc zero) d low = y
-all_two a b x y (suc (suc k)) d low = absurd (omega (arith, low))
+all_two a b below y zero d low = below
+all_two a b below y (suc zero) d low = y
+all_two a b below y (suc (suc k)) d low = absurd (omega (arith, low))
 
 all_one : (a : ℕ) → a < 2 ^ 64 → All (λ n. n < 2 ^ 64) (a ∷ [])
-all_one a x zero d low = x
-all_one a x (suc k) d low = absurd (omega (arith, low))
+all_one a below zero d low = below
+all_one a below (suc k) d low = absurd (omega (arith, low))
 
 -- ---- the head
 
@@ -91,19 +91,19 @@ references_spelled (Some n ∷ refs) small =
     let s = small 0 n refl in
     (word_of_name n s.0 s.1, references_spelled refs (λ k. small (suc k)))
 
-order_front : (xs ys : List Name) → InOrder (xs ++ ys) → InOrder xs
-order_front [] ys order = tt
-order_front (x ∷ []) ys order = tt
-order_front (x ∷ z ∷ xs) ys order = (order.0, order_front (z ∷ xs) ys order.1)
+order_front : (names other_names : List Name) → InOrder (names ++ other_names) → InOrder names
+order_front [] names order = tt
+order_front (name ∷ []) names order = tt
+order_front (x ∷ z ∷ xs) names order = (order.0, order_front (z ∷ xs) names order.1)
 
 map_both : (xs ys : List Row) → map name_of (xs ++ ys) ≡ map name_of xs ++ map name_of ys
 map_both [] ys = refl
-map_both (x ∷ xs) ys = ap (λ (ns : List Name). x.name ∷ ns) (map_both xs ys)
+map_both (row ∷ rest) ys = ap (λ (ns : List Name). row.name ∷ ns) (map_both rest ys)
 
-object_lead : (config : Config) (counts : List ℕ) (done : List Row) (r : Row) (rest : List ℕ) → length counts ≤ 8 → ((index : ℕ) → slice_index counts index < 2 ^ 32) → IsRow counts r → InOrder (map name_of (done ++ r ∷ [])) → AreSmall r.refs
-    → Leads (Listed (listed config counts done [])) (object_line r ++ rest) rest 1 (Listed (listed config counts (done ++ r ∷ []) []))
-object_lead config counts done r rest few each row order small =
-    let name = named_small counts r.name few each row.name in
+object_lead : (config : Config) (counts : List ℕ) (done : List Row) (row : Row) (rest : List ℕ) → length counts ≤ 8 → ((index : ℕ) → slice_index counts index < 2 ^ 32) → IsRow counts row → InOrder (map name_of (done ++ row ∷ [])) → AreSmall row.refs
+    → Leads (Listed (listed config counts done [])) (object_line row ++ rest) rest 1 (Listed (listed config counts (done ++ row ∷ []) []))
+object_lead config counts done r rest at_most each row order small =
+    let name = named_small counts r.name at_most each row.name in
     let ws = map reference_word r.refs in
     let are = references_spelled r.refs small in
     let words = name_word r.name ∷ (ws ++ codes "/" ∷ map decimal r.nums) in
@@ -113,22 +113,22 @@ object_lead config counts done r rest few each row order small =
 
 objects_lead : (config : Config) (counts : List ℕ) (done rows : List Row) (rest : List ℕ) → length counts ≤ 8 → ((index : ℕ) → slice_index counts index < 2 ^ 32) → All (IsRow counts) rows → InOrder (map name_of (done ++ rows)) → ((index : ℕ) → AreSmall (get_or rows index (bare hub)).refs)
     → Leads (Listed (listed config counts done [])) (flat_map object_line rows ++ rest) rest (length rows) (Listed (listed config counts (done ++ rows) []))
-objects_lead config counts done [] rest few each all order small =
+objects_lead config counts done [] rest at_most each all order small =
     subst (λ (rows : List Row). Leads (Listed (listed config counts done [])) rest rest 0 (Listed (listed config counts rows []))) (sym (append-nil done)) (leads_none (Listed (listed config counts done [])) rest)
-objects_lead config counts done (r ∷ rows) rest few each all order small =
+objects_lead config counts done (row ∷ rows) rest at_most each all order small =
     let others = flat_map object_line rows ++ rest in
     let from = Listed (listed config counts done []) in
-    let middle = Listed (listed config counts (done ++ r ∷ []) []) in
-    let same : (done ++ r ∷ []) ++ rows ≡ done ++ r ∷ rows = append_assoc done (r ∷ []) rows in
-    let whole : InOrder (map name_of ((done ++ r ∷ []) ++ rows)) = subst (λ (rs : List Row). InOrder (map name_of rs)) (sym same) order in
-    let first = object_lead config counts done r others few each (All-head (IsRow counts) r rows all) (order_front (map name_of (done ++ r ∷ [])) (map name_of rows) (subst InOrder (map_both (done ++ r ∷ []) rows) whole)) (small 0) in
-    let later = objects_lead config counts (done ++ r ∷ []) rows rest few each (All-tail (IsRow counts) r rows all) whole (λ index. small (suc index)) in
-    let front : object_line r ++ others ≡ flat_map object_line (r ∷ rows) ++ rest = sym (append_assoc (object_line r) (flat_map object_line rows) rest) ∙ ap (λ (bs : List ℕ). bs ++ rest) (sym (flat_map-cons object_line r rows)) in
-    let last = Listed (listed config counts (done ++ r ∷ rows) []) in
+    let middle = Listed (listed config counts (done ++ row ∷ []) []) in
+    let same : (done ++ row ∷ []) ++ rows ≡ done ++ row ∷ rows = append_assoc done (row ∷ []) rows in
+    let whole : InOrder (map name_of ((done ++ row ∷ []) ++ rows)) = subst (λ (rs : List Row). InOrder (map name_of rs)) (sym same) order in
+    let first = object_lead config counts done row others at_most each (All-head (IsRow counts) row rows all) (order_front (map name_of (done ++ row ∷ [])) (map name_of rows) (subst InOrder (map_both (done ++ row ∷ []) rows) whole)) (small 0) in
+    let later = objects_lead config counts (done ++ row ∷ []) rows rest at_most each (All-tail (IsRow counts) row rows all) whole (λ index. small (suc index)) in
+    let front : object_line row ++ others ≡ flat_map object_line (row ∷ rows) ++ rest = sym (append_assoc (object_line row) (flat_map object_line rows) rest) ∙ ap (λ (bs : List ℕ). bs ++ rest) (sym (flat_map-cons object_line row rows)) in
+    let last = Listed (listed config counts (done ++ row ∷ rows) []) in
     let count : 1 + length rows ≡ suc (length rows) = omega arith in
     let more : Leads middle others rest (length rows) last = subst (λ (rs : List Row). Leads middle others rest (length rows) (Listed (listed config counts rs []))) same later in
     subst (λ (bs : List ℕ). Leads from bs rest (suc (length rows)) last) front
-    (subst (λ (n : ℕ). Leads from (object_line r ++ others) rest n last) count (leads_both from middle last (object_line r ++ others) others rest 1 (length rows) first more))
+    (subst (λ (lines : ℕ). Leads from (object_line row ++ others) rest lines last) count (leads_both from middle last (object_line row ++ others) others rest 1 (length rows) first more))
 
 roots_lead : (dump : Dumped) (roots : List Reference) (rest : List ℕ) → length dump.roots < dump.config.mutators → length roots ≡ 16 → AreSmall roots
     → Leads (Listed dump) (line_of (codes "roots" ∷ decimal (length dump.roots + 1) ∷ map reference_word roots) ++ rest) rest 1 (Listed (with_roots dump roots))
@@ -146,21 +146,21 @@ all_roots_lead : (dump : Dumped) (done roots : List (List Reference)) (rest : Li
     → Leads (Listed (rooted dump done)) (roots_lines (length done) roots ++ rest) rest (length roots) (Listed (rooted dump (done ++ roots)))
 all_roots_lead dump done [] rest low full small =
     subst (λ (rs : List (List Reference)). Leads (Listed (rooted dump done)) rest rest 0 (Listed (rooted dump rs))) (sym (append-nil done)) (leads_none (Listed (rooted dump done)) rest)
-all_roots_lead dump done (r ∷ roots) rest low full small =
-    let line = line_of (codes "roots" ∷ decimal (length done + 1) ∷ map reference_word r) in
+all_roots_lead dump done (other_references ∷ roots) rest low full small =
+    let line = line_of (codes "roots" ∷ decimal (length done + 1) ∷ map reference_word other_references) in
     let others = roots_lines (length done + 1) roots ++ rest in
     let from = Listed (rooted dump done) in
-    let middle = Listed (rooted dump (done ++ r ∷ [])) in
-    let last = Listed (rooted dump (done ++ r ∷ roots)) in
-    let size : length (done ++ r ∷ []) ≡ length done + 1 = length-append done (r ∷ []) in
-    let first = roots_lead (rooted dump done) r others (omega (arith, low)) (All-head (λ (references : List Reference). length references ≡ 16) r roots full) (small 0) in
-    let later = all_roots_lead dump (done ++ r ∷ []) roots rest (omega (arith, low, size)) (All-tail (λ (references : List Reference). length references ≡ 16) r roots full) (λ index. small (suc index)) in
-    let here : Leads middle others rest (length roots) (Listed (rooted dump ((done ++ r ∷ []) ++ roots))) =
-    subst (λ (n : ℕ). Leads middle (roots_lines n roots ++ rest) rest (length roots) (Listed (rooted dump ((done ++ r ∷ []) ++ roots)))) size later in
-    let more : Leads middle others rest (length roots) last = subst (λ (rs : List (List Reference)). Leads middle others rest (length roots) (Listed (rooted dump rs))) (append_assoc done (r ∷ []) roots) here in
+    let middle = Listed (rooted dump (done ++ other_references ∷ [])) in
+    let last = Listed (rooted dump (done ++ other_references ∷ roots)) in
+    let size : length (done ++ other_references ∷ []) ≡ length done + 1 = length-append done (other_references ∷ []) in
+    let first = roots_lead (rooted dump done) other_references others (omega (arith, low)) (All-head (λ (references : List Reference). length references ≡ 16) other_references roots full) (small 0) in
+    let later = all_roots_lead dump (done ++ other_references ∷ []) roots rest (omega (arith, low, size)) (All-tail (λ (references : List Reference). length references ≡ 16) other_references roots full) (λ index. small (suc index)) in
+    let here : Leads middle others rest (length roots) (Listed (rooted dump ((done ++ other_references ∷ []) ++ roots))) =
+    subst (λ (n : ℕ). Leads middle (roots_lines n roots ++ rest) rest (length roots) (Listed (rooted dump ((done ++ other_references ∷ []) ++ roots)))) size later in
+    let more : Leads middle others rest (length roots) last = subst (λ (rs : List (List Reference)). Leads middle others rest (length roots) (Listed (rooted dump rs))) (append_assoc done (other_references ∷ []) roots) here in
     let count : 1 + length roots ≡ suc (length roots) = omega arith in
     subst (λ (bs : List ℕ). Leads from bs rest (suc (length roots)) last) (sym (append_assoc line (roots_lines (length done + 1) roots) rest))
-    (subst (λ (n : ℕ). Leads from (line ++ others) rest n last) count (leads_both from middle last (line ++ others) others rest 1 (length roots) first more))
+    (subst (λ (lines : ℕ). Leads from (line ++ others) rest lines last) count (leads_both from middle last (line ++ others) others rest 1 (length roots) first more))
 
 -- ---- the whole dump
 

@@ -6,12 +6,12 @@ use Rattle.std.specs.Fmt.{decimal}
 use Rattle.std.proofs.Math.Seq.{set-append_seam}
 use Rattle.std.proofs.lemmas.List.{map-append, get_or-append_right}
 use Rattle.std.proofs.lemmas.List.Elements.{All-push, All-get_or}
+use Rattle.shen_graph.proofs.Lists.{length_map, same_before_end}
 use Rattle.shen_graph.specs.Graph.{Reference}
 use Rattle.shen_graph.specs.GraphText.{Text, roots_of}
 use Rattle.trace_reading.specs.Spelling.{newline}
 use Rattle.trace_reading.specs.Causes.{parts}
 use Rattle.trace_reading.proofs.Free.{parts_at}
-use Rattle.trace_reading.proofs.Heads.{same_before_end}
 use Rattle.trace_reading.proofs.Leads.{bytes_of_line}
 use Rattle.trace_text.specs.Answer.{line_of, name_word}
 use Rattle.heap_dump.specs.Dumped.{Dumped}
@@ -19,7 +19,6 @@ use Rattle.heap_dump.specs.DumpLines.{DumpStage, Listed, DumpFollows, Spells}
 use Rattle.heap_dump.specs.HeldReferences.{held}
 use Rattle.heap_dump.specs.ObjectWords.{AreRootsWords}
 use Rattle.heap_dump.specs.Listing.{HasTakenRoots, NoObjectLine}
-use Rattle.heap_dump.proofs.RowWords.{len_map}
 use Rattle.heap_dump.proofs.Steps.{leads_one, leads_both}
 use Rattle.heap_dump.proofs.Lined.{words_line, roots_words}
 
@@ -36,7 +35,7 @@ set_seam xs ys index x d size low =
 pub get_seam : {A : Type 0} (xs ys : List A) (index : ℕ) (d : A) → length xs ≡ index → index < length ys → get_or (xs ++ drop index ys) index d ≡ get_or ys index d
 get_seam xs ys index d size low =
     let none : index - index ≡ 0 = omega arith in
-    get_or-append_right xs (drop index ys) index index d size (omega arith) ∙ ap (λ k. get_or (drop index ys) k d) none ∙ ap (λ t. get_or t 0 d) (drop-cons ys index d low)
+    get_or-append_right xs (drop index ys) index index d size (omega arith) ∙ ap (λ other_index. get_or (drop index ys) other_index d) none ∙ ap (λ t. get_or t 0 d) (drop-cons ys index d low)
 
 abbrev pub held_roots : List (List Reference) → List (List Reference)
 held_roots all = map (map held) all
@@ -47,7 +46,7 @@ next_sixteen bytes rest lines before now all taken low full =
     let back : lines + 1 - 1 ≡ lines = omega arith in
     ap (λ k. length (get_or now.roots k [])) back
     ∙ ap (λ (text : Text). length (get_or text.roots lines [])) taken.text
-    ∙ ap length (get_seam (held_roots all) before.roots lines [] (len_map (map held) all ∙ taken.count) low)
+    ∙ ap length (get_seam (held_roots all) before.roots lines [] (length_map (map held) all ∙ taken.count) low)
     ∙ All-get_or (λ (row : List Reference). length row ≡ 16) before.roots lines [] low full
 
 pub roots_line_more : (bytes rest behind text : List ℕ) (lines : ℕ) (before now after : Text) (all : List (List Reference)) (roots : List Reference) → HasTakenRoots bytes rest lines before now all → parts 10 rest ≡ text ∷ parts 10 behind
@@ -56,7 +55,7 @@ pub roots_line_more : (bytes rest behind text : List ℕ) (lines : ℕ) (before 
 roots_line_more bytes rest behind text lines before now after all roots taken cut words low made =
     let back : lines + 1 - 1 ≡ lines = omega arith in
     let more = all ++ roots ∷ [] in
-    let size = len_map (map held) all ∙ taken.count in
+    let size = length_map (map held) all ∙ taken.count in
     let wanted = held_roots more ++ drop (lines + 1) before.roots in
     let rows : set now.roots (lines + 1 - 1) (map held roots) ≡ wanted =
     ap (λ k. set now.roots k (map held roots)) back
@@ -78,8 +77,8 @@ roots_line_more bytes rest behind text lines before now after all roots taken cu
 
 -- the first word of an object's line
 pub object_first : (text w : List ℕ) (ws : List (List ℕ)) → Spells text (line_of (codes "object" ∷ w ∷ ws)) → parts 32 text ≡ codes "object" ∷ parts 32 (join_with_byte 32 (w ∷ ws))
-object_first text w ws e =
-    ap (parts 32) (same_before_end text (join_with_byte 32 (codes "object" ∷ w ∷ ws)) newline e) ∙ parts_at 32 (codes "object") (join_with_byte 32 (w ∷ ws)) refl
+object_first text w ws spells =
+    ap (parts 32) (same_before_end text (join_with_byte 32 (codes "object" ∷ w ∷ ws)) newline spells) ∙ parts_at 32 (codes "object") (join_with_byte 32 (w ∷ ws)) refl
 
 -- where no line was taken yet, the bytes are all
 pub none_taken : (bytes rest : List ℕ) (lines : ℕ) (before now : Text) (all : List (List Reference)) (dump : Dumped) → HasTakenRoots bytes rest lines before now all → dump.roots ≡ [] → dump.config.mutators ≡ length before.roots → all ≡ [] → parts 10 bytes ≡ parts 10 rest
@@ -95,12 +94,12 @@ none_taken bytes rest lines before now all dump taken none same empty =
 pub roots_line_refused : (bytes rest behind text : List ℕ) (lines : ℕ) (before now : Text) (all : List (List Reference)) (dump : Dumped) → HasTakenRoots bytes rest lines before now all → parts 10 rest ≡ text ∷ parts 10 behind → NoObjectLine bytes
     → dump.roots ≡ [] → dump.config.mutators ≡ length before.roots → lines < length before.roots → length before.roots ≤ 8 → ((roots : List Reference) → AreRootsWords (parts 32 text) (codes "roots" ∷ decimal (lines + 1) ∷ []) roots → ⊥)
     → (next : DumpStage) → DumpFollows (Listed (record dump { roots = all })) text next → ⊥
-roots_line_refused bytes rest behind text lines before now all dump taken cut no_object none same low few refused next (inl f) =
+roots_line_refused bytes rest behind text lines before now all dump taken cut no_object none same low at_most refused next (inl f) =
     let name = name_word f.0.name in
     let fields = f.1 ++ codes "/" ∷ map decimal f.0.nums in
     no_object text behind (parts 32 (join_with_byte 32 (name ∷ fields))) (none_taken bytes rest lines before now all dump taken none same f.2 ∙ cut) (object_first text name fields f.6)
-roots_line_refused bytes rest behind text lines before now all dump taken cut no_object none same low few refused next (inr (inl f)) =
-    let words = roots_words text (length all + 1) f.0 f.1 (omega (arith, taken.count, low, few)) f.4 f.5 in
+roots_line_refused bytes rest behind text lines before now all dump taken cut no_object none same low at_most refused next (inr (inl f)) =
+    let words = roots_words text (length all + 1) f.0 f.1 (omega (arith, taken.count, low, at_most)) f.4 f.5 in
     refused f.0 (record { spelled = f.1; are = f.4; each = f.3; words_are = words ∙ ap (λ k. codes "roots" ∷ decimal (k + 1) ∷ f.1) taken.count })
-roots_line_refused bytes rest behind text lines before now all dump taken cut no_object none same low few refused next (inr (inr f)) =
+roots_line_refused bytes rest behind text lines before now all dump taken cut no_object none same low at_most refused next (inr (inr f)) =
     omega (arith, f.0.form.each, taken.count, same, low)

@@ -1,5 +1,5 @@
 -- Marking the rows that roots lead to.
-use Rattle.std.proofs.Common.{ℕ, zero, suc, ◌≡◌, ◌≢◌, ◌+◌, ◌-◌, ◌<◌, ◌≤◌, ◌⊎◌, inl, inr, Bool, true, false, List, [], ◌∷◌, ◌++◌, length, replicate, get_or, set, refl, sym, ap, subst, ◌∙◌, None, Some, Option, arith, eqb, length-append}
+use Rattle.std.proofs.Common.{ℕ, zero, suc, ◌≡◌, ◌≢◌, ◌+◌, ◌-◌, ◌<◌, ◌≤◌, ◌⊎◌, inl, inr, Bool, true, false, List, [], ◌∷◌, ◌++◌, length, replicate, get_or, set, refl, sym, ap, subst, ◌∙◌, None, Some, Option, arith, length-append}
 use Rattle.std.specs.Prelude.{Contains, All, slice_get, unwrap_or}
 use Rattle.std.specs.Prelude.{nat_eq}
 use Rattle.std.specs.List.{list_any, IsDistinct}
@@ -8,9 +8,9 @@ use Rattle.std.proofs.lemmas.Map.Keys.{IsDistinct-push}
 use Rattle.std.proofs.lemmas.Map.Steps.{length-le_from_distinct_below}
 use Rattle.std.proofs.lemmas.Map.Views.{Contains-from_any}
 use Rattle.std.proofs.lemmas.Bool.{eqb-true, false≢true}
-use Rattle.std.proofs.lemmas.Bool.Decides.{nat_tests}
 use Rattle.std.proofs.lemmas.List.{get_or-set_same, get_or-set_other, length-set, get_or_past, get_or_default, get_or_append_left, get_or-replicate, length-replicate}
 use Rattle.std.proofs.lemmas.List.Elements.{All-get_or, Contains-append_left, Contains-append_right, Contains-append_cases}
+use Rattle.shen_graph.proofs.Numbers.{same_or_not, lt_or_ge}
 use Rattle.shen_graph.specs.declared.name.Name.{Name}
 use Rattle.shen_graph.specs.Graph.{Object, Reference, hub, named}
 use Rattle.shen_graph.specs.GraphText.{Text, bare, names_of, row_of, root_of}
@@ -20,14 +20,7 @@ use Rattle.shen_graph.specs.Reach.IsReachable.{from_root, from_pin, from_field}
 use Rattle.shen_graph.proofs.ReachLemmas.{Contains-nil, Contains-cons_cases}
 use Rattle.heap_dump.proofs.OwnGraph.{name_at, length-names, object_at}
 use Rattle.heap_dump.specs.RowsReached.{graph_from, RootsLeadTo, is_marked, IsReachMarked, AreMarked, IsClosed, Grows, RowsAreReached, MarksReached, Lacks}
-use Rattle.heap_dump.proofs.Ordered.{earlier, not_itself, lt_or_ge}
-
-same_or_not : (a b : ℕ) → (a ≡ b) ⊎ (a ≢ b)
-same_or_not a b = by_test (eqb a b) refl
-  where
-    by_test : (holds : Bool) → eqb a b ≡ holds → (a ≡ b) ⊎ (a ≢ b)
-    by_test true e = inl (eqb-true a b e)
-    by_test false e = inr (λ is. grind (arith, nat_tests))
+use Rattle.heap_dump.proofs.Ordered.{earlier, not_itself}
 
 -- ---- a mark more
 
@@ -43,17 +36,17 @@ more_marks marks row low k was = by_case (same_or_not k row)
 
 pub reached_more : (text : Text) (marks : List Bool) (order : List ℕ) (row : ℕ) (name : Name) → RowsAreReached text marks order → row < length text.rows → is_marked marks row ≡ false → (row_of text row).name ≡ name → IsReachable (graph_from text) name
     → RowsAreReached text (set marks row true) (order ++ row ∷ [])
-reached_more text marks order row name r low unset is led = record { size = length-set marks row true ∙ r.size; once = once; listed = listed; marked = marked; led = leads }
+reached_more text marks order row name rows_are_reached low unset is led = record { size = length-set marks row true ∙ rows_are_reached.size; once = once; listed = listed; marked = marked; led = leads }
   where
     inside : row < length marks
-    inside = omega (arith, low, r.size)
+    inside = omega (arith, low, rows_are_reached.size)
 
     not_there : (found : Bool) → list_any (nat_eq row) order ≡ found → found ≡ false
     not_there false e = refl
-    not_there true e = absurd (false≢true (sym unset ∙ (r.marked row (Contains-from_any eqb-true row order e)).1))
+    not_there true e = absurd (false≢true (sym unset ∙ (rows_are_reached.marked row (Contains-from_any eqb-true row order e)).1))
 
     once : IsDistinct nat_eq (order ++ row ∷ [])
-    once = IsDistinct-push nat_eq_equiv order row r.once (not_there (list_any (nat_eq row) order) refl)
+    once = IsDistinct-push nat_eq_equiv order row rows_are_reached.once (not_there (list_any (nat_eq row) order) refl)
 
     here : (index : ℕ) → is_marked (set marks row true) index ≡ true → (index ≡ row) ⊎ (is_marked marks index ≡ true)
     here index is_set = by_case (same_or_not index row)
@@ -67,7 +60,7 @@ reached_more text marks order row name r low unset is led = record { size = leng
       where
         by_case : (index ≡ row) ⊎ (is_marked marks index ≡ true) → Contains (order ++ row ∷ []) index
         by_case (inl same) = Contains-append_right order (row ∷ []) index (0, omega arith, sym same)
-        by_case (inr was) = Contains-append_left order (row ∷ []) index (r.listed index was)
+        by_case (inr was) = Contains-append_left order (row ∷ []) index (rows_are_reached.listed index was)
 
     marked : (index : ℕ) → Contains (order ++ row ∷ []) index → (index < length text.rows) × (is_marked (set marks row true) index ≡ true)
     marked index there = by_case (Contains-append_cases order (row ∷ []) index there)
@@ -80,7 +73,7 @@ reached_more text marks order row name r low unset is led = record { size = leng
             by_cons (inr contained) = absurd (Contains-nil index contained)
 
         by_case : Contains order index ⊎ Contains (row ∷ []) index → (index < length text.rows) × (is_marked (set marks row true) index ≡ true)
-        by_case (inl first) = let was = r.marked index first in (was.0, more_marks marks row inside index was.1)
+        by_case (inl first) = let was = rows_are_reached.marked index first in (was.0, more_marks marks row inside index was.1)
         by_case (inr last) = let e = at_end last in (subst (λ (j : ℕ). j < length text.rows) e low, subst (λ (j : ℕ). is_marked (set marks row true) j ≡ true) e (marked_now marks row inside))
 
     leads : (index : ℕ) → is_marked (set marks row true) index ≡ true → IsReachable (graph_from text) (row_of text index).name
@@ -88,12 +81,12 @@ reached_more text marks order row name r low unset is led = record { size = leng
       where
         by_case : (index ≡ row) ⊎ (is_marked marks index ≡ true) → IsReachable (graph_from text) (row_of text index).name
         by_case (inl same) = subst (λ (j : ℕ). IsReachable (graph_from text) (row_of text j).name) (sym same) (subst (IsReachable (graph_from text)) (sym is) led)
-        by_case (inr was) = r.led index was
+        by_case (inr was) = rows_are_reached.led index was
 
 -- the rows in the list are at most all
 pub few_reached : (text : Text) (marks : List Bool) (order : List ℕ) → RowsAreReached text marks order → length order ≤ length text.rows
-few_reached text marks order r =
-    length-le_from_distinct_below order (length text.rows) r.once (λ q there. (r.marked q (Contains-from_any eqb-true q order there)).0)
+few_reached text marks order rows_are_reached =
+    length-le_from_distinct_below order (length text.rows) rows_are_reached.once (λ q there. (rows_are_reached.marked q (Contains-from_any eqb-true q order there)).0)
 
 -- a reference that names a row with a mark
 pub names_marked : (text : Text) (marks : List Bool) (name : Name) (row : ℕ) → row < length text.rows → (row_of text row).name ≡ name → is_marked marks row ≡ true → IsReachMarked text marks (Some name)
@@ -106,8 +99,8 @@ grows_more marks order row low = record {
   long = omega (arith, length-append order (row ∷ []));
 }
 
-pub grows_both : (a : List Bool) (xs : List ℕ) (b : List Bool) (ys : List ℕ) (c : List Bool) (zs : List ℕ) → Grows a xs b ys → Grows b ys c zs → Grows a xs c zs
-grows_both a xs b ys c zs one other = record {
+pub grows_both : (marks : List Bool) (order : List ℕ) (other_marks : List Bool) (ys : List ℕ) (c : List Bool) (longer : List ℕ) → Grows marks order other_marks ys → Grows other_marks ys c longer → Grows marks order c longer
+grows_both marks order b ys c longer one other = record {
   kept = λ row h. other.kept row (one.kept row h);
   same = λ k h. other.same k (omega (arith, h, one.long)) ∙ one.same k h;
   long = omega (arith, one.long, other.long);
@@ -144,11 +137,6 @@ slice_get_at [] index d low = absurd (omega arith)
 slice_get_at (x ∷ xs) zero d low = refl
 slice_get_at (x ∷ xs) (suc index) d low = slice_get_at xs index d (omega arith)
 
-pub slice_get_low : {A : Type 0} (xs : List A) (index : ℕ) (x : A) → slice_get xs index ≡ Some x → index < length xs
-slice_get_low [] index x e = absurd cc
-slice_get_low (y ∷ xs) zero x e = omega arith
-slice_get_low (y ∷ xs) (suc index) x e = let low = slice_get_low xs index x e in omega (arith, low)
-
 -- the reference of a field
 pub field_at : (text : Text) (row field : ℕ) (reference : Reference) → InOrder (names_of text) → row < length text.rows → RootsLeadTo text (Some (row_of text row).name) → field < length (row_of text row).refs → reference ≡ get_or (row_of text row).refs field None → RootsLeadTo text reference
 field_at text row field reference order low led inside is = field_led text row field reference order low led (slice_get_at (row_of text row).refs field None inside ∙ ap Some (sym is))
@@ -157,13 +145,13 @@ field_at text row field reference order low led inside is = field_led text row f
 pub fields_more : (text : Text) (marks more : List Bool) (row field : ℕ) (reference : Reference) → ((k : ℕ) (other_reference : Reference) → k < field → slice_get (row_of text row).refs k ≡ Some other_reference → IsReachMarked text marks other_reference)
     → ((k : ℕ) → is_marked marks k ≡ true → is_marked more k ≡ true) → field < length (row_of text row).refs → reference ≡ get_or (row_of text row).refs field None → IsReachMarked text more reference
     → (k : ℕ) (other_reference : Reference) → k < field + 1 → slice_get (row_of text row).refs k ≡ Some other_reference → IsReachMarked text more other_reference
-fields_more text marks more row field reference before grows low is now k other_reference h at = by_case (lt_or_ge k field)
+fields_more text marks more row field reference before grows low is now k other_reference below found = by_case (lt_or_ge k field)
   where
     by_case : (k < field) ⊎ (field ≤ k) → IsReachMarked text more other_reference
-    by_case (inl less) = still_marked text marks more other_reference grows (before k other_reference less at)
+    by_case (inl less) = still_marked text marks more other_reference grows (before k other_reference less found)
     by_case (inr le) =
-        let same : k ≡ field = omega (arith, h, le) in
-        let e : ◌≡◌ {A = Option Reference} (Some other_reference) (Some reference) = sym at ∙ ap (slice_get (row_of text row).refs) same ∙ slice_get_at (row_of text row).refs field None low ∙ ap Some (sym is) in
+        let same : k ≡ field = omega (arith, below, le) in
+        let e : ◌≡◌ {A = Option Reference} (Some other_reference) (Some reference) = sym found ∙ ap (slice_get (row_of text row).refs) same ∙ slice_get_at (row_of text row).refs field None low ∙ ap Some (sym is) in
         let eq : other_reference ≡ reference = cc in
         subst (IsReachMarked text more) (sym eq) now
 
@@ -195,8 +183,8 @@ module _ (text : Text) (marks : List Bool) (order : InOrder (names_of text)) (fu
   all_marked _ (from_root zero index name is) = absurd cc
   all_marked _ (from_root (suc mutator) index name is) = by_root mutator index name is
   all_marked _ (from_pin thread slot held is) = absurd cc
-  all_marked _ (from_field m name field before is) =
-      let w = all_marked m before in
+  all_marked _ (from_field other_name name field before is) =
+      let w = all_marked other_name before in
       let same = ap (λ (name : Name). named (graph_from text) (Some name)) (sym w.2) ∙ named_row text w.0 order w.1 in
       closed w.0 w.1 w.3 field (Some name) (ap (λ (object : Object). slice_get object.refs field) (sym same) ∙ is) name refl
 
@@ -244,7 +232,7 @@ pub whole_reach : (text : Text) (marks : List Bool) → InOrder (names_of text) 
 whole_reach text marks order reached each = record {
   in_order = order;
   all = λ n led. let w = reached.all n led n refl in subst (Contains (names_of text)) w.2 (row_there text w.0 w.1);
-  only = λ n there. let w = there_row text n there in subst (IsReachable (graph_from text)) w.2 (reached.led w.0 (each w.0 (omega (arith, w.1, reached.size))));
+  only = λ name there. let w = there_row text name there in subst (IsReachable (graph_from text)) w.2 (reached.led w.0 (each w.0 (omega (arith, w.1, reached.size))));
 }
 
 pub not_all_reach : (text : Text) (marks : List Bool) → InOrder (names_of text) → MarksReached text marks → IsReach (graph_from text) (names_of text) → (row : ℕ) → row < length marks → is_marked marks row ≡ true
@@ -279,25 +267,25 @@ none_reached text = record {
 -- ---- going on from row to row
 
 pub listed_low : (text : Text) (marks : List Bool) (order : List ℕ) (next row : ℕ) → RowsAreReached text marks order → next < length order → row ≡ get_or order next row → (row < length text.rows) × (is_marked marks row ≡ true)
-listed_low text marks order next row r low is = r.marked row (next, low, sym is)
+listed_low text marks order next row rows_are_reached low is = rows_are_reached.marked row (next, low, sym is)
 
 pub next_is : (order : List ℕ) (next row : ℕ) → next < length order → row ≡ get_or order next row → get_or order next 0 ≡ row
 next_is order next row low is = get_or_default order next 0 row low ∙ sym is
 
 pub rows_more : (text : Text) (marks more : List Bool) (order longer : List ℕ) (next row : ℕ) → Grows marks order more longer → next < length order → row ≡ get_or order next row
     → ((index : ℕ) → index < next → AreMarked text marks (row_of text (get_or order index 0)).refs) → AreMarked text more (row_of text row).refs → (index : ℕ) → index < next + 1 → AreMarked text more (row_of text (get_or longer index 0)).refs
-rows_more text marks more order longer next row grows low is before now index h = by_case (lt_or_ge index next)
+rows_more text marks more order longer next row grows low is before now index below = by_case (lt_or_ge index next)
   where
     by_case : (index < next) ⊎ (next ≤ index) → AreMarked text more (row_of text (get_or longer index 0)).refs
     by_case (inl less) =
         subst (λ (j : ℕ). AreMarked text more (row_of text j).refs) (sym (grows.same index (omega (arith, less, low))))
-        (λ field r at. still_marked text marks more r grows.kept (before index less field r at))
+        (λ field reference at. still_marked text marks more reference grows.kept (before index less field reference at))
     by_case (inr le) =
-        let same : index ≡ next = omega (arith, h, le) in
-        subst (λ (j : ℕ). AreMarked text more (row_of text j).refs) (sym (ap (λ (i : ℕ). get_or longer i 0) same ∙ grows.same next low ∙ next_is order next row low is)) now
+        let same : index ≡ next = omega (arith, below, le) in
+        subst (λ (j : ℕ). AreMarked text more (row_of text j).refs) (sym (ap (λ (index : ℕ). get_or longer index 0) same ∙ grows.same next low ∙ next_is order next row low is)) now
 
 pub closed_by : (text : Text) (marks : List Bool) (order : List ℕ) (next : ℕ) → RowsAreReached text marks order → length order ≤ next → ((index : ℕ) → index < next → AreMarked text marks (row_of text (get_or order index 0)).refs) → IsClosed text marks
-closed_by text marks order next r all done row low mark =
-    let there = r.listed row mark in
+closed_by text marks order next rows_are_reached all done row low mark =
+    let there = rows_are_reached.listed row mark in
     let same = get_or_default order there.0 0 row there.1 ∙ there.2 in
     subst (λ (j : ℕ). AreMarked text marks (row_of text j).refs) same (done there.0 (omega (arith, there.1, all)))

@@ -4,6 +4,7 @@ use Rattle.std.specs.Prelude.{slice_index}
 use Rattle.std.specs.Fmt.{decimal}
 use Rattle.std.proofs.lemmas.Bool.{eqb-true, false≢true}
 use Rattle.std.proofs.lemmas.List.{get_or-append_right}
+use Rattle.shen_graph.proofs.Lists.{cons_injective, length_map}
 use Rattle.shen_graph.specs.declared.name.Name.{Name}
 use Rattle.shen_graph.specs.Graph.{Reference, hub}
 use Rattle.shen_graph.specs.GraphText.{Row, Text, bare, row_of, add_number, with_row, with_number, with_numbers, with_references, with_whole_row}
@@ -19,75 +20,68 @@ use Rattle.heap_dump.specs.ObjectWords.{AreRefsWords, AreNumsWords, AreRowWords,
 use Rattle.heap_dump.proofs.References.{reference_once, word_of_name, named_small}
 use Rattle.heap_dump.proofs.Strokes.{same_behind, length_refs}
 
-heads : {A : Type 0} (x y : A) (xs ys : List A) → x ∷ xs ≡ y ∷ ys → (x ≡ y) × (xs ≡ ys)
-heads x y xs ys e = (cc, cc)
-
-pub len_map : {A B : Type 0} (f : A → B) (xs : List A) → length (map f xs) ≡ length xs
-len_map f [] = refl
-len_map f (x ∷ xs) = ap suc (len_map f xs)
-
 -- ---- bytes that end
 
 pub no_parts : (s : ℕ) (bytes : List ℕ) → true ≡ eqb (length bytes) 0 → parts_behind s bytes ≡ []
-no_parts s [] e = refl
-no_parts s (b ∷ bytes) e = absurd (let none = eqb-true (length (b ∷ bytes)) 0 (sym e) in omega (arith, none))
+no_parts s [] same = refl
+no_parts s (b ∷ bytes) same = absurd (let none = eqb-true (length (b ∷ bytes)) 0 (sym same) in omega (arith, none))
 
 pub some_parts : (s : ℕ) (bytes : List ℕ) → false ≡ eqb (length bytes) 0 → 1 ≤ length (parts_behind s bytes)
-some_parts s [] e = absurd (false≢true e)
-some_parts s (b ∷ bytes) e = let cut = ap length (cut_parts s bytes) in omega (arith, cut)
+some_parts s [] same = absurd (false≢true same)
+some_parts s (b ∷ bytes) same = let cut = ap length (cut_parts s bytes) in omega (arith, cut)
 
 -- ---- the last name
 
 pub last_before : (rows : List Row) (name : Name) (index : ℕ) → index + 1 ≡ length rows → IsBefore (get_or rows index (bare hub)).name name → IsBehindLast (map (λ (row : Row). row.name) rows) name
-last_before [] name index size h = tt
-last_before (r ∷ []) name zero size h = h
-last_before (r ∷ []) name (suc index) size h = absurd (omega (arith, size))
-last_before (r ∷ q ∷ rows) name zero size h = absurd (omega (arith, size))
-last_before (r ∷ q ∷ rows) name (suc index) size h = last_before (q ∷ rows) name index (omega (arith, size)) h
+last_before [] name index size before = tt
+last_before (row ∷ []) name zero size before = before
+last_before (row ∷ []) name (suc index) size before = absurd (omega (arith, size))
+last_before (r ∷ q ∷ rows) name zero size before = absurd (omega (arith, size))
+last_before (r ∷ q ∷ rows) name (suc index) size before = last_before (q ∷ rows) name index (omega (arith, size)) before
 
 pub before_last : (rows : List Row) (name : Name) (index : ℕ) → index + 1 ≡ length rows → IsBehindLast (map (λ (row : Row). row.name) rows) name → IsBefore (get_or rows index (bare hub)).name name
-before_last [] name index size h = absurd (omega (arith, size))
-before_last (r ∷ []) name zero size h = h
-before_last (r ∷ []) name (suc index) size h = absurd (omega (arith, size))
-before_last (r ∷ q ∷ rows) name zero size h = absurd (omega (arith, size))
-before_last (r ∷ q ∷ rows) name (suc index) size h = before_last (q ∷ rows) name index (omega (arith, size)) h
+before_last [] name index size behind_last = absurd (omega (arith, size))
+before_last (row ∷ []) name zero size behind_last = behind_last
+before_last (row ∷ []) name (suc index) size behind_last = absurd (omega (arith, size))
+before_last (r ∷ q ∷ rows) name zero size behind_last = absurd (omega (arith, size))
+before_last (r ∷ q ∷ rows) name (suc index) size behind_last = before_last (q ∷ rows) name index (omega (arith, size)) behind_last
 
 -- ---- one row at most
 
 pub one_name : (counts w : List ℕ) (name other_name : Name) → length counts ≤ 8 → ((index : ℕ) → slice_index counts index < 2 ^ 32) → IsNamed counts name → IsNamed counts other_name → w ≡ name_word name → w ≡ name_word other_name → name ≡ other_name
-one_name counts w name other_name few each one other is also =
-    let first = named_small counts name few each one in
-    let second = named_small counts other_name few each other in
+one_name counts w name other_name at_most each named other is also =
+    let first = named_small counts name at_most each named in
+    let second = named_small counts other_name at_most each other in
     let e = reference_once w (Some name) (Some other_name)
     (subst (λ (v : List ℕ). IsDumpReference v (Some name)) (sym is) (word_of_name name (omega (arith, first.0)) (omega (arith, first.1))))
     (subst (λ (v : List ℕ). IsDumpReference v (Some other_name)) (sym also) (word_of_name other_name (omega (arith, second.0)) (omega (arith, second.1)))) in
     cc
 
 -- the name of a row with these words, and what is behind it
-pub row_name : (counts w : List ℕ) (rest : List (List ℕ)) (name : Name) (r : Row) → length counts ≤ 8 → ((index : ℕ) → slice_index counts index < 2 ^ 32) → IsNamed counts name → w ≡ name_word name → AreRowWords counts (w ∷ rest) r → name ≡ r.name
-row_name counts w rest name r few each named is row =
-    one_name counts w name r.name few each named row.row.name is (heads w (name_word r.name) rest (row.spelled ++ codes "/" ∷ map decimal r.nums) row.words_are).0
+pub row_name : (counts w : List ℕ) (rest : List (List ℕ)) (name : Name) (row : Row) → length counts ≤ 8 → ((index : ℕ) → slice_index counts index < 2 ^ 32) → IsNamed counts name → w ≡ name_word name → AreRowWords counts (w ∷ rest) row → name ≡ row.name
+row_name counts w rest name r at_most each named is row =
+    one_name counts w name r.name at_most each named row.row.name is (cons_injective w (name_word r.name) rest (row.spelled ++ codes "/" ∷ map decimal r.nums) row.words_are).0
 
 pub row_rest : (counts w : List ℕ) (rest : List (List ℕ)) (r : Row) → (row : AreRowWords counts (w ∷ rest) r) → AreRefsWords rest r.refs (map decimal r.nums)
 row_rest counts w rest r row = record {
   spelled = row.spelled;
   are = row.are;
   few = row.row.fields.few_refs;
-  words_are = (heads w (name_word r.name) rest (row.spelled ++ codes "/" ∷ map decimal r.nums) row.words_are).1;
+  words_are = (cons_injective w (name_word r.name) rest (row.spelled ++ codes "/" ∷ map decimal r.nums) row.words_are).1;
 }
 
 -- the words of a row do not end behind its name
-pub row_short : (counts w : List ℕ) (r : Row) → AreRowWords counts (w ∷ []) r → ⊥
+pub row_short : (counts w : List ℕ) (row : Row) → AreRowWords counts (w ∷ []) row → ⊥
 row_short counts w r row =
     let all = row_rest counts w [] r row in
     let sizes = ap length all.words_are in
     omega (arith, sizes, length-append all.spelled (codes "/" ∷ map decimal r.nums))
 
 -- words up to a stroke say how many references there are, and what is behind it
-pub refs_once : (words more rest : List (List ℕ)) (refs qs : List Reference) → AreRefsWords words refs more → AreRefsWords words qs rest → (length refs ≡ length qs) × (more ≡ rest)
-refs_once words more rest refs qs one other =
-    let same = same_behind one.spelled other.spelled refs qs more rest one.are other.are (sym one.words_are ∙ other.words_are) in
-    (sym (length_refs one.spelled refs one.are) ∙ ap length same.0 ∙ length_refs other.spelled qs other.are, same.1)
+pub refs_once : (words more rest : List (List ℕ)) (refs references : List Reference) → AreRefsWords words refs more → AreRefsWords words references rest → (length refs ≡ length references) × (more ≡ rest)
+refs_once words more rest refs references refs_words other =
+    let same = same_behind refs_words.spelled other.spelled refs references more rest refs_words.are other.are (sym refs_words.words_are ∙ other.words_are) in
+    (sym (length_refs refs_words.spelled refs refs_words.are) ∙ ap length same.0 ∙ length_refs other.spelled references other.are, same.1)
 
 pub refs_room : (words more : List (List ℕ)) (refs : List Reference) → AreRefsWords words refs more → length words ≡ length refs + 1 + length more
 refs_room words more refs all =
@@ -106,13 +100,13 @@ added text name refs nums = whole text name (map held refs) nums
 pub added_row : (text : Text) (row : Row) → row_of (with_whole_row text row) (length text.rows) ≡ row
 added_row text row =
     let none : length text.rows - length text.rows ≡ 0 = omega arith in
-    get_or-append_right text.rows (row ∷ []) (length text.rows) (length text.rows) (bare hub) refl (omega arith) ∙ ap (λ k. get_or (row ∷ []) k (bare hub)) none
+    get_or-append_right text.rows (row ∷ []) (length text.rows) (length text.rows) (bare hub) refl (omega arith) ∙ ap (λ index. get_or (row ∷ []) index (bare hub)) none
 
 pub held_fields : (row : Row) → HasHubFields (held_row row) → HasHubFields row
-held_fields row h is = let w = h is in (sym (len_map held row.refs) ∙ w.0, w.1)
+held_fields row has_hub_fields is = let w = has_hub_fields is in (sym (length_map held row.refs) ∙ w.0, w.1)
 
 pub fields_held : (row : Row) → HasHubFields row → HasHubFields (held_row row)
-fields_held row h is = let w = h is in (len_map held row.refs ∙ w.0, w.1)
+fields_held row has_hub_fields is = let w = has_hub_fields is in (length_map held row.refs ∙ w.0, w.1)
 
 -- the words are those of the row
 pub row_taken : (counts w : List ℕ) (rest more : List (List ℕ)) (name : Name) (refs : List Reference) (nums : List ℕ) → IsNamed counts name → w ≡ name_word name → AreRefsWords rest refs more → AreNumsWords more nums
@@ -128,15 +122,15 @@ row_taken counts w rest more name refs nums named is all numbers fields = record
 }
 
 -- if there is a row with these words, it has the fields that these have
-pub row_fields : (counts w : List ℕ) (rest more : List (List ℕ)) (name : Name) (refs : List Reference) (nums : List ℕ) (r : Row) → name ≡ r.name → AreRefsWords rest refs more → AreNumsWords more nums
-    → AreRowWords counts (w ∷ rest) r → HasHubFields (record { name = name; refs = refs; nums = nums })
+pub row_fields : (counts w : List ℕ) (rest more : List (List ℕ)) (name : Name) (refs : List Reference) (nums : List ℕ) (row : Row) → name ≡ row.name → AreRefsWords rest refs more → AreNumsWords more nums
+    → AreRowWords counts (w ∷ rest) row → HasHubFields (record { name = name; refs = refs; nums = nums })
 row_fields counts w rest more name refs nums r same all numbers row is =
     let once = refs_once rest more (map decimal r.nums) refs r.refs all (row_rest counts w rest r row) in
-    let sizes : length nums ≡ length r.nums = sym (len_map decimal nums) ∙ ap length (sym numbers.words_are ∙ once.1) ∙ len_map decimal r.nums in
+    let sizes : length nums ≡ length r.nums = sym (length_map decimal nums) ∙ ap length (sym numbers.words_are ∙ once.1) ∙ length_map decimal r.nums in
     (once.0 ∙ row.row.fields.hub_refs (sym same ∙ is), sizes ∙ row.row.fields.hub_nums (sym same ∙ is))
 
 -- and numbers behind the stroke
-pub row_numbers : (counts w : List ℕ) (rest more : List (List ℕ)) (refs : List Reference) (r : Row) → AreRefsWords rest refs more → AreRowWords counts (w ∷ rest) r → AreNumsWords more r.nums
+pub row_numbers : (counts w : List ℕ) (rest more : List (List ℕ)) (refs : List Reference) (row : Row) → AreRefsWords rest refs more → AreRowWords counts (w ∷ rest) row → AreNumsWords more row.nums
 row_numbers counts w rest more refs r all row = record {
   few = row.row.fields.few_nums;
   fit = row.row.fields.fit;

@@ -4,6 +4,7 @@ use Rattle.std.specs.Prelude.{slice_index}
 use Rattle.std.specs.Fmt.{decimal}
 use Rattle.std.proofs.lemmas.List.{map-append}
 use Rattle.std.proofs.lemmas.List.Elements.{All-push, All-nil}
+use Rattle.shen_graph.proofs.Lists.{length_map}
 use Rattle.heap_words.specs.declared.config.Config.{Config}
 use Rattle.shen_graph.specs.declared.name.Name.{Name}
 use Rattle.shen_graph.specs.GraphText.{Row, Text, names_of, with_whole_row}
@@ -17,7 +18,6 @@ use Rattle.heap_dump.specs.HeldReferences.{held, held_row}
 use Rattle.heap_dump.specs.ObjectWords.{AreRowWords, IsBehindLast}
 use Rattle.heap_dump.specs.Listing.{separators, listed, HasTakenRows}
 use Rattle.heap_dump.proofs.References.{named_small}
-use Rattle.heap_dump.proofs.RowWords.{len_map}
 use Rattle.heap_dump.proofs.Strokes.{length_refs}
 use Rattle.heap_dump.proofs.Steps.{leads_none, leads_one, leads_both}
 use Rattle.heap_dump.proofs.Lined.{words_line, object_words, roots_words, mark_words, object_is_no_roots, object_is_no_mark, names_held, order_more, order_behind, names_more, parts_room, separators_line}
@@ -48,7 +48,7 @@ object_room rest text behind words spare cut first room =
     let sizes = ap length first in
     omega (arith, room, whole, sizes, parts_room text)
 
-row_length : (counts : List ℕ) (words : List (List ℕ)) (r : Row) → AreRowWords counts words r → length words ≡ 2 + length r.refs + length r.nums
+row_length : (counts : List ℕ) (words : List (List ℕ)) (row : Row) → AreRowWords counts words row → length words ≡ 2 + length row.refs + length row.nums
 row_length counts words r row =
     let sizes = ap length row.words_are in
     omega (
@@ -56,12 +56,12 @@ row_length counts words r row =
       sizes,
       length-append row.spelled (codes "/" ∷ map decimal r.nums),
       length_refs row.spelled r.refs row.are,
-      len_map decimal r.nums,
+      length_map decimal r.nums,
     )
 
-pub rows_more : (counts bytes rest behind : List ℕ) (lines : ℕ) (before now after : Text) (text words : List ℕ) (r : Row) → HasTakenRows counts bytes rest lines before now
+pub rows_more : (counts bytes rest behind : List ℕ) (lines : ℕ) (before now after : Text) (text words : List ℕ) (row : Row) → HasTakenRows counts bytes rest lines before now
     → parts 10 rest ≡ text ∷ parts 10 behind → parts 32 text ≡ codes "object" ∷ parts_behind 32 words → length behind < length rest
-    → AreRowWords counts (parts_behind 32 words) r → IsBehindLast (names_of now) r.name → after ≡ with_whole_row now (held_row r)
+    → AreRowWords counts (parts_behind 32 words) row → IsBehindLast (names_of now) row.name → after ≡ with_whole_row now (held_row row)
     → HasTakenRows counts bytes behind (lines + 1) before after
 rows_more counts bytes rest behind lines before now after text words r taken cut first less row last made =
     let rows = taken.rows ++ r ∷ [] in
@@ -83,7 +83,7 @@ rows_more counts bytes rest behind lines before now after text words r taken cut
         object_room rest text behind words now.spare cut first taken.room,
         row_length counts (parts_behind 32 words) r row,
         ap (λ (text : Text). text.spare) made,
-        len_map held r.refs,
+        length_map held r.refs,
       ));
       shorter = omega (arith, taken.shorter, less);
     }
@@ -91,8 +91,8 @@ rows_more counts bytes rest behind lines before now after text words r taken cut
 pub rows_refused : (counts bytes rest behind : List ℕ) (lines : ℕ) (before now : Text) (text words : List ℕ) (config : Config) → (taken : HasTakenRows counts bytes rest lines before now)
     → parts 32 text ≡ codes "object" ∷ parts_behind 32 words → length counts ≤ 8 → ((index : ℕ) → slice_index counts index < 2 ^ 32)
     → ((row : Row) → AreRowWords counts (parts_behind 32 words) row → IsBehindLast (names_of now) row.name → ⊥) → (next : DumpStage) → DumpFollows (Listed (listed config counts taken.rows [])) text next → ⊥
-rows_refused counts bytes rest behind lines before now text words config taken first few each none next (inl f) =
-    let small = named_small counts f.0.name few each f.3.name in
+rows_refused counts bytes rest behind lines before now text words config taken first at_most each none next (inl f) =
+    let small = named_small counts f.0.name at_most each f.3.name in
     let all = object_words text f.0 f.1 (omega (arith, small.0)) (omega (arith, small.1)) f.5 f.3.fields.fit f.6 in
     let same = (heads (codes "object") (codes "object") (parts_behind 32 words) (name_word f.0.name ∷ (f.1 ++ codes "/" ∷ map decimal f.0.nums)) (sym first ∙ all)).1 in
     none f.0 (record { row = f.3; spelled = f.1; are = f.5; words_are = same })
@@ -100,7 +100,7 @@ rows_refused counts bytes rest behind lines before now text words config taken f
   where
     heads : {A : Type 0} (x y : A) (xs ys : List A) → x ∷ xs ≡ y ∷ ys → (x ≡ y) × (xs ≡ ys)
     heads x y xs ys e = (cc, cc)
-rows_refused counts bytes rest behind lines before now text words config taken first few each none next (inr (inl f)) =
+rows_refused counts bytes rest behind lines before now text words config taken first at_most each none next (inr (inl f)) =
     object_is_no_roots (parts_behind 32 words) (decimal 1 ∷ f.1) (sym first ∙ roots_words text 1 f.0 f.1 (lit< tt) f.4 f.5)
-rows_refused counts bytes rest behind lines before now text words config taken first few each none next (inr (inr f)) =
+rows_refused counts bytes rest behind lines before now text words config taken first at_most each none next (inr (inr f)) =
     object_is_no_mark (parts_behind 32 words) [] (sym first ∙ mark_words text f.1)

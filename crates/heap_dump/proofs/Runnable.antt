@@ -11,7 +11,7 @@ use Rattle.trace_reading.specs.Spelling.{line, schedule_line}
 use Rattle.trace_reading.specs.Grammar.{scripts_of}
 use Rattle.heap_dump.specs.Dumped.{Dumped, most_made}
 use Rattle.heap_dump.specs.DumpText.{dump_text}
-use Rattle.heap_dump.specs.Resumes.{run_version, Resumes, mark_line}
+use Rattle.heap_dump.specs.DumpsToRun.{run_version, Resumes, mark_line}
 use Rattle.heap_dump.specs.Resumed.{IsRunnableAfter}
 use Rattle.heap_dump.proofs.ScriptLines.{count_scripts, valid_script, short_script, items_in_seats}
 

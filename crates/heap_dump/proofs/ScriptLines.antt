@@ -18,9 +18,9 @@ use Rattle.trace_reading.specs.Grammar.{scripts_of, items_of, commands_in}
 -- the commands of lines in range are valid
 valid_lines : (version threads : ℕ) (lines : List TraceLine) (t : ℕ) → AllByRecursion (IsLine version threads) lines → AllByRecursion IsValid (commands_in lines t)
 valid_lines version threads [] t all = tt
-valid_lines version threads (l ∷ lines) t all = by_thread (eqb l.thread t) (valid_lines version threads lines t all.1)
+valid_lines version threads (trace_line ∷ lines) t all = by_thread (eqb trace_line.thread t) (valid_lines version threads lines t all.1)
   where
-    by_thread : (own : Bool) → AllByRecursion IsValid (commands_in lines t) → AllByRecursion IsValid (map (λ x. x.command) (cond own (l ∷ filter (λ x. eqb x.thread t) lines) (filter (λ x. eqb x.thread t) lines)))
+    by_thread : (own : Bool) → AllByRecursion IsValid (commands_in lines t) → AllByRecursion IsValid (map (λ x. x.command) (cond own (trace_line ∷ filter (λ x. eqb x.thread t) lines) (filter (λ x. eqb x.thread t) lines)))
     by_thread true others = (all.0.valid, others)
     by_thread false others = others
 
@@ -38,21 +38,21 @@ valid_script version threads lines index in_range below =
 
 pub valid_scripts : (version threads : ℕ) (lines : List TraceLine) → AllByRecursion (IsLine version threads) lines → All (All IsValid) (scripts_of threads lines)
 valid_scripts version threads lines in_range =
-    All-from_get_or (All IsValid) (scripts_of threads lines) [] (λ t within. let count = count_scripts threads lines in valid_script version threads lines t in_range (omega (arith, within, count)))
+    All-from_get_or (All IsValid) (scripts_of threads lines) [] (λ index within. let count = count_scripts threads lines in valid_script version threads lines index in_range (omega (arith, within, count)))
 
 -- a script has no more commands than its lines have bytes
-some_bytes : (l : TraceLine) → 1 ≤ length (line l)
-some_bytes l = omega (arith, length-append (decimal l.thread) (space ∷ (command_word l.command ++ (numbers (numbers_of l.command) ++ newline ∷ []))))
+some_bytes : (trace_line : TraceLine) → 1 ≤ length (line trace_line)
+some_bytes trace_line = omega (arith, length-append (decimal trace_line.thread) (space ∷ (command_word trace_line.command ++ (numbers (numbers_of trace_line.command) ++ newline ∷ []))))
 
 few_lines : (lines : List TraceLine) → length lines ≤ length (flat_map line lines)
 few_lines [] = omega arith
-few_lines (l ∷ lines) = omega (arith, few_lines lines, some_bytes l, length-append (line l) (flat_map line lines))
+few_lines (other_line ∷ lines) = omega (arith, few_lines lines, some_bytes other_line, length-append (line other_line) (flat_map line lines))
 
 few_of_thread : (lines : List TraceLine) (t : ℕ) → length (commands_in lines t) ≤ length lines
 few_of_thread [] t = omega arith
-few_of_thread (l ∷ lines) t = by_thread (eqb l.thread t) (few_of_thread lines t)
+few_of_thread (trace_line ∷ lines) t = by_thread (eqb trace_line.thread t) (few_of_thread lines t)
   where
-    by_thread : (own : Bool) → length (commands_in lines t) ≤ length lines → length (map (λ x. x.command) (cond own (l ∷ filter (λ x. eqb x.thread t) lines) (filter (λ x. eqb x.thread t) lines))) ≤ length (l ∷ lines)
+    by_thread : (own : Bool) → length (commands_in lines t) ≤ length lines → length (map (λ x. x.command) (cond own (trace_line ∷ filter (λ x. eqb x.thread t) lines) (filter (λ x. eqb x.thread t) lines))) ≤ length (trace_line ∷ lines)
     by_thread true others = omega arith
     by_thread false others = omega arith
 
@@ -70,7 +70,7 @@ in_seats config (Replies number count) good = good.0
 
 items_append : (config : Config) (xs ys : List Item) → AllByRecursion (IsItem config) xs → AllByRecursion (IsInSeats config) ys → AllByRecursion (IsInSeats config) (xs ++ ys)
 items_append config [] ys all others = others
-items_append config (x ∷ xs) ys all others = (in_seats config x all.0, items_append config xs ys all.1 others)
+items_append config (item ∷ rest) ys all others = (in_seats config item all.0, items_append config rest ys all.1 others)
 
 turns_in_seats : (config : Config) (turns : List (List Item)) → AllByRecursion (IsScheduleLine config) turns → AllByRecursion (IsInSeats config) (items_of turns)
 turns_in_seats config [] all = tt

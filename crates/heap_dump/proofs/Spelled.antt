@@ -29,7 +29,7 @@ abbrev pub ended : List ℕ → List ℕ
 ended text = text ++ newline ∷ []
 
 join_more : (t : List ℕ) (rest : List (List ℕ)) (x : List ℕ) (xs : List (List ℕ)) → rest ≡ x ∷ xs → join_with_byte 10 (t ∷ rest) ≡ t ++ 10 ∷ join_with_byte 10 rest
-join_more t rest x xs e = rw e refl
+join_more t rest x xs same = rw same refl
 
 some_more : (ts : List (List ℕ)) (rest : List ℕ) → (x : List ℕ) × (xs : List (List ℕ)) × (ts ++ parts 10 rest ≡ x ∷ xs)
 some_more [] rest = (_, _, cut_parts 10 rest)
@@ -45,8 +45,8 @@ join_lines (t ∷ ts) rest =
     ∙ sym (append_assoc (ended t) (flat_map ended ts) rest)
     ∙ ap (λ (bs : List ℕ). bs ++ rest) (sym (flat_map-cons ended t ts))
 
-pub leads_bytes : (stage other_stage : DumpStage) (bytes rest : List ℕ) (n : ℕ) → (led : Leads stage bytes rest n other_stage) → bytes ≡ flat_map ended led.texts ++ rest
-leads_bytes stage other_stage bytes rest n led = sym (join_with_byte-slice_split 10 bytes) ∙ ap (join_with_byte 10) led.cut ∙ join_lines led.texts rest
+pub leads_bytes : (stage other_stage : DumpStage) (bytes rest : List ℕ) (lines : ℕ) → (led : Leads stage bytes rest lines other_stage) → bytes ≡ flat_map ended led.texts ++ rest
+leads_bytes stage other_stage bytes rest lines led = sym (join_with_byte-slice_split 10 bytes) ∙ ap (join_with_byte 10) led.cut ∙ join_lines led.texts rest
 
 -- ---- the head
 
@@ -67,7 +67,7 @@ third_spelled stage given config version_text heap_text threads_text version_is 
     ∙ ap (λ (bs : List ℕ). heap_line config ++ bs) (flat_map-cons ended threads_text [] ∙ append-nil (ended threads_text) ∙ threads_are))
 
 second_spelled : (stage other_stage : DumpStage) (config : Config) (version_text heap_text threads_text : List ℕ) → Spells version_text (titled (codes "dump") (1 ∷ [])) → DumpFollows Heap heap_text stage → DumpFollows stage threads_text other_stage → other_stage ≡ Counts config → flat_map ended (version_text ∷ heap_text ∷ threads_text ∷ []) ≡ sizes_head config
-second_spelled stage other_stage config version_text heap_text threads_text version_is f g is = third_spelled other_stage f.0 config version_text heap_text threads_text version_is f.2 (subst (λ (stage : DumpStage). DumpFollows stage threads_text other_stage) f.3 g) is
+second_spelled stage other_stage config version_text heap_text threads_text version_is dump_follows g is = third_spelled other_stage dump_follows.0 config version_text heap_text threads_text version_is dump_follows.2 (subst (λ (stage : DumpStage). DumpFollows stage threads_text other_stage) dump_follows.3 g) is
 
 head_lines : (texts : List (List ℕ)) (config : Config) → length texts ≡ 3 → DumpLead Version texts (Counts config) → flat_map ended texts ≡ sizes_head config
 head_lines [] config size lead = absurd (omega (arith, size))
@@ -82,9 +82,9 @@ head_spelled bytes rest config led = leads_bytes Version (Counts config) bytes r
 
 -- its heap is of a size that a trace can have
 third_narrow : (stage : DumpStage) (config other_config : Config) (text : List ℕ) → IsNarrow config → DumpFollows (Threads config) text stage → stage ≡ Counts other_config → IsNarrow other_config
-third_narrow stage config other_config text narrow f is =
-    let same : f.0 ≡ other_config = let x = f.3 in cc in
-    subst IsNarrow same (omega (arith, narrow, f.1.region_words))
+third_narrow stage config other_config text narrow dump_follows is =
+    let same : dump_follows.0 ≡ other_config = let x = dump_follows.3 in cc in
+    subst IsNarrow same (omega (arith, narrow, dump_follows.1.region_words))
 
 narrow_lines : (texts : List (List ℕ)) (config : Config) → length texts ≡ 3 → DumpLead Version texts (Counts config) → IsNarrow config
 narrow_lines [] config size lead = absurd (omega (arith, size))
@@ -115,9 +115,9 @@ counts_spelled bytes rest config dump led = leads_bytes (Counts config) (Listed 
 abbrev pub AreSmall : List Reference → Type 0
 AreSmall refs = (index : ℕ) (name : Name) → get_or refs index None ≡ Some name → (name.thread < 2 ^ 64) × (name.count < 2 ^ 64)
 
-words_are : (ws : List (List ℕ)) (rs : List Reference) → AreReferences ws rs → AreSmall rs → ws ≡ map reference_word rs
+words_are : (ws : List (List ℕ)) (references : List Reference) → AreReferences ws references → AreSmall references → ws ≡ map reference_word references
 words_are [] [] are small = refl
-words_are [] (r ∷ rs) are small = absurd are
+words_are [] (reference ∷ references) are small = absurd are
 words_are (w ∷ ws) [] are small = absurd are
 words_are (w ∷ ws) (None ∷ rs) are small =
     ap (λ (v : List ℕ). v ∷ ws) are.0 ∙ ap (λ (vs : List (List ℕ)). codes "-" ∷ vs) (words_are ws rs are.1 (λ k. small (suc k)))
@@ -128,7 +128,7 @@ words_are (w ∷ ws) (Some n ∷ rs) are small =
 -- the lines of roots of the threads behind the first so many
 abbrev pub roots_lines : ℕ → List (List Reference) → List ℕ
 roots_lines n [] = []
-roots_lines n (r ∷ rs) = line_of (codes "roots" ∷ decimal (n + 1) ∷ map reference_word r) ++ roots_lines (n + 1) rs
+roots_lines n (references ∷ rest) = line_of (codes "roots" ∷ decimal (n + 1) ∷ map reference_word references) ++ roots_lines (n + 1) rest
 
 pub record Adds (dump other_dump : Dumped) (texts : List (List ℕ)) : Type 0 where
   pub rows : List Row
@@ -147,7 +147,7 @@ seam {A = A} xs ys x d =
     let none : length xs - length xs ≡ 0 = omega arith in
     ap (λ (zs : List A). get_or zs (length xs) d) (append_assoc xs (x ∷ []) ys)
     ∙ get_or-append_right xs (x ∷ ys) (length xs) (length xs) d refl (omega arith)
-    ∙ ap (λ k. get_or (x ∷ ys) k d) none
+    ∙ ap (λ index. get_or (x ∷ ys) index d) none
 
 adds : (texts : List (List ℕ)) (dump other_dump : Dumped) → DumpLead (Listed dump) texts (Listed other_dump) → ((k : ℕ) → AreSmall (get_or other_dump.rows k (bare hub)).refs) → ((k : ℕ) → AreSmall (get_or other_dump.roots k [])) → Adds dump other_dump texts
 adds [] dump other_dump lead small roots_small =
@@ -204,12 +204,12 @@ adds (t ∷ ts) dump other_dump lead small roots_small = by_kind (λ from led. a
 
 -- ---- the roots of all threads
 
-root_words : (references : List Reference) → length references ≡ 16 → map reference_word references ≡ root_spellings (λ i. get_or references i None)
+root_words : (references : List Reference) → length references ≡ 16 → map reference_word references ≡ root_spellings (λ index. get_or references index None)
 unfolding root_spellings
 root_words references size =
-    ap (map reference_word) (fill_by_all (λ j. get_or references j None) references 16 None size (λ k h. refl)) ∙ twice (range_with_len 0 16)
+    ap (map reference_word) (fill_by_all (λ index. get_or references index None) references 16 None size (λ k h. refl)) ∙ twice (range_with_len 0 16)
   where
-    twice : (is : List ℕ) → map reference_word (map (λ j. get_or references j None) is) ≡ map (λ i. reference_word (get_or references i None)) is
+    twice : (is : List ℕ) → map reference_word (map (λ index. get_or references index None) is) ≡ map (λ index. reference_word (get_or references index None)) is
     twice [] = refl
     twice (i ∷ is) = ap (λ (ws : List (List ℕ)). reference_word (get_or references i None) ∷ ws) (twice is)
 
@@ -218,25 +218,25 @@ range_more from n = grind arith
 
 pub all_roots : (all rs : List (List Reference)) (n : ℕ) → ((index : ℕ) → get_or all (n + index) [] ≡ get_or rs index []) → All (λ (references : List Reference). length references ≡ 16) rs → roots_lines n rs ≡ flat_map (roots_line_in all) (range_with_len (n + 1) (length rs))
 all_roots all [] n at full = refl
-all_roots all (r ∷ rs) n at full =
+all_roots all (other_references ∷ rest) n at full =
     let zero_more : n + 1 - 1 ≡ n + 0 = omega arith in
-    let here : get_or all (n + 1 - 1) [] ≡ r = ap (λ index. get_or all index []) zero_more ∙ at 0 in
-    let words = root_words r (All-head (λ (references : List Reference). length references ≡ 16) r rs full) ∙ ap (λ (references : List Reference). root_spellings (λ i. get_or references i None)) (sym here) in
+    let here : get_or all (n + 1 - 1) [] ≡ other_references = ap (λ index. get_or all index []) zero_more ∙ at 0 in
+    let words = root_words other_references (All-head (λ (references : List Reference). length references ≡ 16) other_references rest full) ∙ ap (λ (references : List Reference). root_spellings (λ index. get_or references index None)) (sym here) in
     let first = ap (λ (ws : List (List ℕ)). line_of (codes "roots" ∷ decimal (n + 1) ∷ ws)) words in
-    ap (λ (bs : List ℕ). bs ++ roots_lines (n + 1) rs) first
-    ∙ ap (λ (bs : List ℕ). roots_line_in all (n + 1) ++ bs) (all_roots all rs (n + 1) (λ index. let next : n + 1 + index ≡ n + suc index = omega arith in ap (λ j. get_or all j []) next ∙ at (suc index)) (All-tail (λ (references : List Reference). length references ≡ 16) r rs full))
-    ∙ sym (flat_map-cons (roots_line_in all) (n + 1) (range_with_len (n + 1 + 1) (length rs)))
-    ∙ ap (flat_map (roots_line_in all)) (sym (range_more (n + 1) (length rs)))
+    ap (λ (bs : List ℕ). bs ++ roots_lines (n + 1) rest) first
+    ∙ ap (λ (bs : List ℕ). roots_line_in all (n + 1) ++ bs) (all_roots all rest (n + 1) (λ index. let next : n + 1 + index ≡ n + suc index = omega arith in ap (λ index. get_or all index []) next ∙ at (suc index)) (All-tail (λ (references : List Reference). length references ≡ 16) other_references rest full))
+    ∙ sym (flat_map-cons (roots_line_in all) (n + 1) (range_with_len (n + 1 + 1) (length rest)))
+    ∙ ap (flat_map (roots_line_in all)) (sym (range_more (n + 1) (length rest)))
 
-pub listed_spelled : (bytes rest : List ℕ) (n : ℕ) (dump other_dump : Dumped) → Leads (Listed dump) bytes rest n (Listed other_dump) → dump.rows ≡ [] → dump.roots ≡ [] → length other_dump.roots ≡ other_dump.config.mutators → All (λ (references : List Reference). length references ≡ 16) other_dump.roots
+pub listed_spelled : (bytes rest : List ℕ) (lines : ℕ) (dump other_dump : Dumped) → Leads (Listed dump) bytes rest lines (Listed other_dump) → dump.rows ≡ [] → dump.roots ≡ [] → length other_dump.roots ≡ other_dump.config.mutators → All (λ (references : List Reference). length references ≡ 16) other_dump.roots
     → ((k : ℕ) → AreSmall (get_or other_dump.rows k (bare hub)).refs) → ((k : ℕ) → AreSmall (get_or other_dump.roots k []))
     → bytes ≡ (flat_map object_line other_dump.rows ++ flat_map (roots_line_in other_dump.roots) (thread_numbers other_dump.config.mutators)) ++ rest
-listed_spelled bytes rest n dump other_dump led rows_none roots_none size full small roots_small =
+listed_spelled bytes rest lines dump other_dump led rows_none roots_none size full small roots_small =
     let a = adds led.texts dump other_dump led.lead small roots_small in
     let rows : a.rows ≡ other_dump.rows = sym (a.rows_are ∙ ap (λ (rs : List Row). rs ++ a.rows) rows_none) in
     let roots : a.roots ≡ other_dump.roots = sym (a.roots_are ∙ ap (λ (rs : List (List Reference)). rs ++ a.roots) roots_none) in
     let from : length dump.roots ≡ 0 = ap length roots_none in
-    leads_bytes (Listed dump) (Listed other_dump) bytes rest n led
+    leads_bytes (Listed dump) (Listed other_dump) bytes rest lines led
     ∙ ap (λ (bs : List ℕ). bs ++ rest)
     (a.text ∙ ap (λ (rs : List Row). flat_map object_line rs ++ roots_lines (length dump.roots) a.roots) rows
     ∙ ap (λ (bs : List ℕ). flat_map object_line other_dump.rows ++ bs)

@@ -33,12 +33,12 @@ use Rattle.heap_machines.specs.FromImage.{control_from, machine_from, actor_from
 use Rattle.shen_core.specs.WholeRun.{HasRun, RunsSchedule}
 use Rattle.heap_dump.specs.Dumped.{most_made}
 use Rattle.heap_dump.specs.Resumed.{IsRunnableAfter, IsLeftBusy}
-use Rattle.heap_dump.specs.Resuming.{HasEndedFrom}
+use Rattle.heap_dump.specs.RunFromStage.{HasEndedFrom}
 
 -- nothing was done of a script
 progress_first : (scripts : Scripts) (index : ℕ) → index < length scripts → length scripts ≤ 8 → work.progress_of (work.opened scripts) index ≡ Some (work.begun (nth_script scripts index))
-progress_first scripts index below few =
-    get_or-map-range_with_len (λ m. option_map work.begun (slice_get scripts m)) 0 8 index index None (omega arith) (omega arith)
+progress_first scripts index below at_most =
+    get_or-map-range_with_len (λ index. option_map work.begun (slice_get scripts index)) 0 8 index index None (omega arith) (omega arith)
     ∙ ap (option_map work.begun) (slice_get-get_or scripts index [] below)
 
 module _ (config : Config) (words counts : List ℕ) where
@@ -102,7 +102,7 @@ module _ (config : Config) (words counts : List ℕ) where
   tells_from scripts count =
       let few : length scripts ≤ 8 = omega (arith, count) in
       record {
-        scripts_are = λ t below. ap (λ o. (unwrap_or o (work.begun [])).script) (progress_first scripts t (omega (arith, below, count)) few);
+        scripts_are = λ index below. ap (λ o. (unwrap_or o (work.begun [])).script) (progress_first scripts index (omega (arith, below, count)) few);
         replies = λ t a below here.
             ap (λ o. (unwrap_or o (work.begun [])).replies) (progress_first scripts t (omega (arith, below, count)) few) ∙ ap (λ b. map (λ e. e.reply) b.calls) (actor_is t a here (omega (arith, below)));
       }

@@ -14,13 +14,13 @@ use Rattle.trace_reading.proofs.Commands.{line_words, line_is}
 use Rattle.trace_reading.proofs.ScheduleWords.{words_of_turn, turn_is}
 use Rattle.trace_reading.proofs.Leads.{line_in_front}
 use Rattle.trace_reading.specs.Stops.{StopsBody}
-use Rattle.heap_dump.specs.Resumes.{run_version}
+use Rattle.heap_dump.specs.DumpsToRun.{run_version}
 use Rattle.heap_dump.specs.DumpLines.{DumpStage, Version, Behind, DumpRefused}
 use Rattle.heap_dump.specs.Steps.{Leads, StopsAt}
 use Rattle.heap_dump.proofs.Steps.{leads_none, leads_one, leads_both}
 
 pub refused : (bytes : List ℕ) (n : ℕ) (why : Why) → length bytes ≤ most_bytes → StopsAt Version 1 bytes n why → DumpRefused bytes n why
-refused bytes n why few stops = (
+refused bytes n why at_most stops = (
   record {
     before = stops.led.texts;
     from_it = parts newline stops.rest;
@@ -30,34 +30,34 @@ refused bytes n why few stops = (
     lead = stops.led.lead;
     cause = stops.cause;
   },
-  few,
+  at_most,
 )
 
 -- ---- lines of a trace behind a dump
 
 front_line : (text whole rest : List ℕ) → text ++ newline ∷ [] ≡ whole → text ++ 10 ∷ rest ≡ whole ++ rest
-front_line text whole rest e = sym (append_assoc text (newline ∷ []) rest) ∙ ap (λ (t : List ℕ). t ++ rest) e
+front_line text whole rest same = sym (append_assoc text (newline ∷ []) rest) ∙ ap (λ (t : List ℕ). t ++ rest) same
 
 behind_one : (stage next : LineStage) (text whole rest : List ℕ) → text ++ newline ∷ [] ≡ whole → LineFollows stage text next → Leads (Behind stage) (whole ++ rest) rest 1 (Behind next)
-behind_one stage next text whole rest e f =
-    subst (λ (bs : List ℕ). Leads (Behind stage) bs rest 1 (Behind next)) (front_line text whole rest e)
-    (leads_one (Behind stage) (Behind next) (text ++ 10 ∷ rest) text rest (line_in_front stage text rest next f) (next, f, refl))
+behind_one stage next text whole rest same line_follows =
+    subst (λ (bs : List ℕ). Leads (Behind stage) bs rest 1 (Behind next)) (front_line text whole rest same)
+    (leads_one (Behind stage) (Behind next) (text ++ 10 ∷ rest) text rest (line_in_front stage text rest next line_follows) (next, line_follows, refl))
 
 one_more : (stage other_stage : DumpStage) (bytes rest : List ℕ) (n : ℕ) → Leads stage bytes rest (1 + n) other_stage → Leads stage bytes rest (suc n) other_stage
 one_more stage other_stage bytes rest n led =
     let same : 1 + n ≡ suc n = omega arith in
-    subst (λ (k : ℕ). Leads stage bytes rest k other_stage) same led
+    subst (λ (lines : ℕ). Leads stage bytes rest lines other_stage) same led
 
 pub behind_lines : (config : Config) (lines : List TraceLine) (rest : List ℕ) → AllByRecursion (IsLine run_version config.mutators) lines → Leads (Behind (Commands run_version config)) (flat_map line lines ++ rest) rest (length lines) (Behind (Commands run_version config))
 behind_lines config [] rest all = leads_none (Behind (Commands run_version config)) rest
-behind_lines config (l ∷ lines) rest all =
+behind_lines config (other_line ∷ lines) rest all =
     let here = Behind (Commands run_version config) in
     let others = flat_map line lines ++ rest in
-    let front : line l ++ others ≡ flat_map line (l ∷ lines) ++ rest = sym (append_assoc (line l) (flat_map line lines) rest) ∙ ap (λ (t : List ℕ). t ++ rest) (sym (flat_map-cons line l lines)) in
-    let text = join_with_byte 32 (line_words l) in
-    let one = behind_one (Commands run_version config) (Commands run_version config) text (line l) others (line_is l) (inl ((l, all.0, line_is l), refl)) in
+    let front : line other_line ++ others ≡ flat_map line (other_line ∷ lines) ++ rest = sym (append_assoc (line other_line) (flat_map line lines) rest) ∙ ap (λ (t : List ℕ). t ++ rest) (sym (flat_map-cons line other_line lines)) in
+    let text = join_with_byte 32 (line_words other_line) in
+    let one = behind_one (Commands run_version config) (Commands run_version config) text (line other_line) others (line_is other_line) (inl ((other_line, all.0, line_is other_line), refl)) in
     subst (λ (bs : List ℕ). Leads here bs rest (suc (length lines)) here) front
-    (one_more here here (line l ++ others) rest (length lines) (leads_both here here here (line l ++ others) others rest 1 (length lines) one (behind_lines config lines rest all.1)))
+    (one_more here here (line other_line ++ others) rest (length lines) (leads_both here here here (line other_line ++ others) others rest 1 (length lines) one (behind_lines config lines rest all.1)))
 
 behind_turns : (config : Config) (turns : List (List Item)) (rest : List ℕ) → AllByRecursion (IsScheduleLine config) turns → Leads (Behind (Turns config)) (flat_map schedule_line turns ++ rest) rest (length turns) (Behind (Turns config))
 behind_turns config [] rest all = leads_none (Behind (Turns config)) rest

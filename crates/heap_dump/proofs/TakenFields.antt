@@ -8,6 +8,7 @@ use Rattle.std.specs.Prelude.{Option, true, false}
 use Rattle.std.specs.Option.{is_some}
 use Rattle.std.specs.Str.Parse.{digits_value}
 use Rattle.std.proofs.lemmas.Bool.{false≢true}
+use Rattle.shen_graph.proofs.Lists.{cons_injective}
 use Rattle.trace_reading.specs.declared.why.Why.{Why}
 use Rattle.trace_reading.specs.Causes.{is_plain_number, number_cause}
 use Rattle.trace_reading.proofs.Words.{number_fine}
@@ -39,7 +40,7 @@ no_refs words text room = record { refs = []; spelled = []; are = tt; size = ref
 
 pub refs_more : (words rest : List (List ℕ)) (count : ℕ) (before now after : Text) (w : List ℕ) (reference : Reference) → TakenRefs words (w ∷ rest) count before now → count < 16 → 1 ≤ now.spare → IsDumpReference w reference
     → after ≡ with_reference now (held reference) → length after.rows ≡ length now.rows → TakenRefs words rest (count + 1) before after
-refs_more words rest count before now after w reference taken low some is made rows = record {
+refs_more words rest count before now after w reference taken low positive is made rows = record {
   refs = taken.refs ++ reference ∷ [];
   spelled = taken.spelled ++ w ∷ [];
   are = references_more taken.spelled taken.refs w reference taken.are is;
@@ -116,16 +117,13 @@ nums_more words rest count before now after w x taken low fit is made rows = rec
   rows = rows ∙ taken.rows;
 }
 
-heads : {A : Type 0} (x y : A) (xs ys : List A) → x ∷ xs ≡ y ∷ ys → (x ≡ y) × (xs ≡ ys)
-heads x y xs ys e = (cc, cc)
-
 -- the word behind the first of the numbers is one of the numbers
 next_number : (xs ys : List ℕ) (w : List ℕ) (rest : List (List ℕ)) → map decimal xs ++ w ∷ rest ≡ map decimal ys → (length xs < length ys) × (y : ℕ) × (index : ℕ) × (index < length ys) × (y ≡ get_or ys index 0) × (w ≡ decimal y)
-next_number [] [] w rest e = absurd (let sizes = ap length e in omega (arith, sizes))
-next_number [] (y ∷ ys) w rest e = (omega arith, y, 0, omega arith, refl, (heads w (decimal y) rest (map decimal ys) e).0)
-next_number (x ∷ xs) [] w rest e = absurd (let sizes = ap length e in omega (arith, sizes))
-next_number (x ∷ xs) (y ∷ ys) w rest e =
-    let later = next_number xs ys w rest (heads (decimal x) (decimal y) (map decimal xs ++ w ∷ rest) (map decimal ys) e).1 in
+next_number [] [] w rest same = absurd (let sizes = ap length same in omega (arith, sizes))
+next_number [] (y ∷ ys) w rest same = (omega arith, y, 0, omega arith, refl, (cons_injective w (decimal y) rest (map decimal ys) same).0)
+next_number (x ∷ xs) [] w rest same = absurd (let sizes = ap length same in omega (arith, sizes))
+next_number (x ∷ xs) (y ∷ ys) w rest same =
+    let later = next_number xs ys w rest (cons_injective (decimal x) (decimal y) (map decimal xs ++ w ∷ rest) (map decimal ys) same).1 in
     (omega (arith, later.0), later.1, suc later.2, omega (arith, later.3), later.4, later.5)
 
 pub nums_refused : (words rest : List (List ℕ)) (count : ℕ) (before now : Text) (w : List ℕ) → TakenNums words (w ∷ rest) count before now → (16 ≤ count) ⊎ ((x : ℕ) → x < 2 ^ 64 → w ≡ decimal x → ⊥)
@@ -141,22 +139,22 @@ nums_refused words rest count before now w taken why nums all =
 -- ---- words of numbers
 
 none_of : {A : Type 0} (found : Option A) → false ≡ is_some found → found ≡ None
-none_of None e = refl
-none_of (Some x) e = absurd (false≢true e)
+none_of None same = refl
+none_of (Some x) same = absurd (false≢true same)
 
 some_of : {A : Type 0} (found : Option A) → true ≡ is_some found → found ≡ None → ⊥
-some_of None e n = false≢true (sym e)
-some_of (Some x) e n = absurd cc
+some_of None same none = false≢true (sym same)
+some_of (Some x) same none = absurd cc
 
 abbrev pub most : ℕ
 most = 18446744073709551615
 
 pub no_number : (w : List ℕ) (found : Option Why) → found ≡ number_cause 0 most w → true ≡ is_some found → (x : ℕ) → x < 2 ^ 64 → w ≡ decimal x → ⊥
-no_number w found is some x fit e =
-    some_of found some (is ∙ ap (number_cause 0 most) e ∙ number_again 0 most x fit (omega arith) (omega (arith, fit)))
+no_number w found is some x fit same =
+    some_of found some (is ∙ ap (number_cause 0 most) same ∙ number_again 0 most x fit (omega arith) (omega (arith, fit)))
 
 pub is_number : (w : List ℕ) (found : Option Why) → found ≡ number_cause 0 most w → false ≡ is_some found → (is_plain_number w ≡ true) × (digits_value 10 w ≤ most)
 is_number w found is none = let fine = number_fine 0 most w (sym is ∙ none_of found none) in (fine.0, fine.2)
 
-pub number_is : (w : List ℕ) (x : ℕ) → is_plain_number w ≡ true → x < 2 ^ 64 → x ≡ digits_value 10 w → w ≡ decimal x
-number_is w x plain fit is = number_spelled w plain (subst (λ (n : ℕ). n < 2 ^ 64) is fit) ∙ ap decimal (sym is)
+pub number_is : (digits : List ℕ) (x : ℕ) → is_plain_number digits ≡ true → x < 2 ^ 64 → x ≡ digits_value 10 digits → digits ≡ decimal x
+number_is digits x plain fit is = number_spelled digits plain (subst (λ (n : ℕ). n < 2 ^ 64) is fit) ∙ ap decimal (sym is)

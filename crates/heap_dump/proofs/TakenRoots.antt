@@ -8,15 +8,15 @@ use Rattle.std.specs.Str.Parse.{digits_value}
 use Rattle.std.proofs.Common.{eqb}
 use Rattle.std.proofs.lemmas.Bool.{false≢true, eqb-true}
 use Rattle.std.proofs.lemmas.Fmt.{digits_value-decimal}
+use Rattle.shen_graph.proofs.Lists.{cons_injective, length_map}
+use Rattle.shen_graph.proofs.Bools.{true_parts}
 use Rattle.trace_reading.proofs.GrammarNumbers.{own}
 use Rattle.trace_reading.specs.Causes.{is_same}
-use Rattle.trace_reading.proofs.Words.{both}
 use Rattle.shen_graph.specs.Graph.{Reference}
 use Rattle.shen_graph.specs.GraphText.{Text, roots_of, with_root_of}
 use Rattle.heap_dump.specs.DumpLines.{IsDumpReference, AreReferences}
 use Rattle.heap_dump.specs.HeldReferences.{held}
 use Rattle.heap_dump.specs.ObjectWords.{AreRootsWords}
-use Rattle.heap_dump.proofs.RowWords.{len_map}
 use Rattle.heap_dump.proofs.Strokes.{references_more, length_refs}
 
 -- the roots that were set so far, and those of before behind them
@@ -49,7 +49,7 @@ set_next roots before reference low =
     let rest = drop (suc (length roots)) before in
     let next : suc (length roots) ≡ length (roots ++ reference ∷ []) = omega (arith, length-append roots (reference ∷ [])) in
     ap (λ t. set (hs ++ t) (length roots) (held reference)) (drop-cons before (length roots) None low)
-    ∙ ap (λ k. set (hs ++ y ∷ rest) k (held reference)) (sym (len_map held roots))
+    ∙ ap (λ k. set (hs ++ y ∷ rest) k (held reference)) (sym (length_map held roots))
     ∙ set-append_seam hs y rest (held reference)
     ∙ sym (append_assoc hs (held reference ∷ []) rest)
     ∙ ap (λ t. t ++ rest) (sym (map-append held roots (reference ∷ [])))
@@ -88,18 +88,15 @@ roots_end words count thread before now long all taken =
           ∙ ap (λ (references : List Reference). record before { roots = set before.roots (thread - 1) references }) (append-nil (map held taken.roots))),
     )
 
-heads : {A : Type 0} (x y : A) (xs ys : List A) → x ∷ xs ≡ y ∷ ys → (x ≡ y) × (xs ≡ ys)
-heads x y xs ys e = (cc, cc)
-
 -- a word behind the first of the roots is that of a root, where there are more roots
-next_root : (ws vs : List (List ℕ)) (rs qs : List Reference) (w : List ℕ) (rest : List (List ℕ)) → AreReferences ws rs → AreReferences vs qs → ws ++ w ∷ rest ≡ vs → (reference : Reference) × IsDumpReference w reference
-next_root [] [] rs qs w rest a b e = absurd (let sizes = ap length e in omega (arith, sizes))
-next_root [] (v ∷ vs) rs [] w rest a b e = absurd b
-next_root [] (v ∷ vs) rs (reference ∷ qs) w rest a b e = (reference, subst (λ (t : List ℕ). IsDumpReference t reference) (sym (heads w v rest vs e).0) b.0)
-next_root (u ∷ ws) vs [] qs w rest a b e = absurd a
-next_root (u ∷ ws) [] (r ∷ rs) qs w rest a b e = absurd (let sizes = ap length e in omega (arith, sizes))
-next_root (u ∷ ws) (v ∷ vs) (r ∷ rs) [] w rest a b e = absurd b
-next_root (u ∷ ws) (v ∷ vs) (r ∷ rs) (reference ∷ qs) w rest a b e = next_root ws vs rs qs w rest a.1 b.1 (heads u v (ws ++ w ∷ rest) vs e).1
+next_root : (ws vs : List (List ℕ)) (references other_references : List Reference) (w : List ℕ) (rest : List (List ℕ)) → AreReferences ws references → AreReferences vs other_references → ws ++ w ∷ rest ≡ vs → (reference : Reference) × IsDumpReference w reference
+next_root [] [] references other_references w rest a b same = absurd (let sizes = ap length same in omega (arith, sizes))
+next_root [] (v ∷ vs) references [] w rest a b same = absurd b
+next_root [] (v ∷ vs) references (reference ∷ qs) w rest a b same = (reference, subst (λ (t : List ℕ). IsDumpReference t reference) (sym (cons_injective w v rest vs same).0) b.0)
+next_root (u ∷ ws) vs [] references w rest a b same = absurd a
+next_root (u ∷ ws) [] (reference ∷ other_references) references w rest a b same = absurd (let sizes = ap length same in omega (arith, sizes))
+next_root (u ∷ ws) (v ∷ vs) (reference ∷ other_references) [] w rest references b same = absurd b
+next_root (u ∷ ws) (v ∷ vs) (other_reference ∷ other_references) (reference ∷ qs) w rest references b same = next_root ws vs other_references qs w rest references.1 b.1 (cons_injective u v (ws ++ w ∷ rest) vs same).1
 
 pub roots_refused : (words rest : List (List ℕ)) (count thread : ℕ) (before now : Text) (w : List ℕ) → TakenRoots words (w ∷ rest) count thread before now → ((reference : Reference) → IsDumpReference w reference → ⊥)
     → (roots : List Reference) → AreRootsWords words [] roots → ⊥
@@ -124,14 +121,14 @@ behind_first w v rest front roots is all = record {
 }
 
 pub first_is : (w v : List ℕ) (rest front : List (List ℕ)) (roots : List Reference) → AreRootsWords (w ∷ rest) (v ∷ front) roots → w ≡ v
-first_is w v rest front roots all = (heads w v rest (front ++ all.spelled) all.words_are).0
+first_is w v rest front roots all = (cons_injective w v rest (front ++ all.spelled) all.words_are).0
 
 pub behind_it : (w v : List ℕ) (rest front : List (List ℕ)) (roots : List Reference) → AreRootsWords (w ∷ rest) (v ∷ front) roots → AreRootsWords rest front roots
 behind_it w v rest front roots all = record {
   spelled = all.spelled;
   are = all.are;
   each = all.each;
-  words_are = (heads w v rest (front ++ all.spelled) all.words_are).1;
+  words_are = (cons_injective w v rest (front ++ all.spelled) all.words_are).1;
 }
 
 pub none_first : (v : List ℕ) (front : List (List ℕ)) (roots : List Reference) → AreRootsWords [] (v ∷ front) roots → ⊥
@@ -141,17 +138,17 @@ none_first v front roots all = let sizes = ap length all.words_are in omega (ari
 pub both_ways : (holds : Bool) (w v : List ℕ) (rest front : List (List ℕ)) (G : List Reference → Type 0) → w ≡ v
     → MatchBool holds ((roots : List Reference) × AreRootsWords rest front roots × G roots) ((roots : List Reference) → AreRootsWords rest front roots → ⊥)
     → MatchBool holds ((roots : List Reference) × AreRootsWords (w ∷ rest) (v ∷ front) roots × G roots) ((roots : List Reference) → AreRootsWords (w ∷ rest) (v ∷ front) roots → ⊥)
-both_ways true w v rest front G is h = (h.0, behind_first w v rest front h.0 is h.1, h.2)
-both_ways false w v rest front G is h = λ roots all. h roots (behind_it w v rest front roots all)
+both_ways true w v rest front G is match_bool = (match_bool.0, behind_first w v rest front match_bool.0 is match_bool.1, match_bool.2)
+both_ways false w v rest front G is match_bool = λ roots all. match_bool roots (behind_it w v rest front roots all)
 
 pub decimal_once : (n m : ℕ) → n < 2 ^ 64 → m < 2 ^ 64 → decimal n ≡ decimal m → n ≡ m
-decimal_once n m low high e = sym (digits_value-decimal own n low) ∙ ap (digits_value 10) e ∙ digits_value-decimal own m high
+decimal_once n m low high same = sym (digits_value-decimal own n low) ∙ ap (digits_value 10) same ∙ digits_value-decimal own m high
 
 -- bytes that are told to be the same
 pub same_bytes : (v w : List ℕ) → true ≡ is_same v w → v ≡ w
-same_bytes [] [] e = refl
-same_bytes [] (y ∷ ys) e = absurd (false≢true (sym e))
-same_bytes (x ∷ xs) [] e = absurd (false≢true (sym e))
-same_bytes (x ∷ xs) (y ∷ ys) e =
-    let parts = both (eqb x y) (is_same xs ys) (sym e) in
+same_bytes [] [] same = refl
+same_bytes [] (y ∷ ys) same = absurd (false≢true (sym same))
+same_bytes (x ∷ xs) [] same = absurd (false≢true (sym same))
+same_bytes (x ∷ xs) (y ∷ ys) same =
+    let parts = true_parts (eqb x y) (is_same xs ys) (sym same) in
     ap (λ (z : ℕ). z ∷ xs) (eqb-true x y parts.0) ∙ ap (λ (zs : List ℕ). y ∷ zs) (same_bytes xs ys (sym parts.1))

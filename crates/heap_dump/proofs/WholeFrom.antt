@@ -9,6 +9,7 @@ use Rattle.std.proofs.lemmas.List.{append-nil, ext_get_or, get_or_past}
 use Rattle.std.proofs.lemmas.List.Elements.{All-head, All-tail}
 use Rattle.std.proofs.lemmas.List.FromFn.{get_or-map-range_with_len}
 use Rattle.std.proofs.lemmas.Option.{slice_get-map, slice_get-get_or, get_or_from_slice_get}
+use Rattle.shen_graph.proofs.Options.{none_before_map}
 use Rattle.heap_words.specs.declared.config.Config.{Config}
 use Rattle.heap_words.specs.declared.schedule.Item.{Item}
 use Rattle.heap_words.specs.Ranges.{seat_count}
@@ -17,7 +18,7 @@ use Rattle.shen_graph.specs.Graph.{Reference, Graph}
 use Rattle.shen_graph.specs.GraphText.{Text, Row, names_of, root_of, pin_of, row_in}
 use Rattle.shen_graph.specs.Step.{name_in}
 use Rattle.shen_graph.specs.Crowd.{AreCrowded}
-use Rattle.shen_graph.specs.History.{Entry, after, of_thread, commands_of, EachIsLegal}
+use Rattle.shen_graph.specs.History.{Entry, after, of_thread, commands_of}
 use Rattle.shen_graph.specs.History as history
 use Rattle.shen_graph.specs.Work as work
 use Rattle.shen_graph.specs.declared.command.Command.{Command}
@@ -51,17 +52,17 @@ use Rattle.shen_core.specs.Calls.{HasCalled, AllHaveCalled}
 use Rattle.trace_text.specs.Answer.{answer_text}
 use Rattle.trace_text.proofs.AnswerLemmas.{answer_text_same}
 use Rattle.heap_dump.specs.Resumed.{led_to, history_from, IsWholeFrom, IsAnswerFrom}
-use Rattle.heap_dump.specs.Resuming.{HasEndedFrom}
+use Rattle.heap_dump.specs.RunFromStage.{HasEndedFrom}
 
 -- ---- the entries of each thread
 
 -- a thread that is none has no entry
 none_of : (threads : ℕ) (entries : List Entry) (thread : ℕ) → All (IsSettled threads) entries → (thread ≡ 0) ⊎ (threads < thread) → of_thread entries thread ≡ []
 none_of threads [] thread all out = refl
-none_of threads (e ∷ entries) thread all out = rw (other e.thread (All-head (IsSettled threads) e entries all).least (All-head (IsSettled threads) e entries all).most out) (none_of threads entries thread (All-tail (IsSettled threads) e entries all) out)
+none_of threads (entry ∷ entries) thread all out = rw (other entry.thread (All-head (IsSettled threads) entry entries all).least (All-head (IsSettled threads) entry entries all).most out) (none_of threads entries thread (All-tail (IsSettled threads) entry entries all) out)
   where
     other : (n : ℕ) → 1 ≤ n → n ≤ threads → (thread ≡ 0) ⊎ (threads < thread) → eqb n thread ≡ false
-    other n least most (inl e) = grind (arith, nat_tests)
+    other n least most (inl entry) = grind (arith, nat_tests)
     other n least most (inr lt) = grind (arith, nat_tests)
 
 -- a mutator that has called its script has begun these commands
@@ -90,52 +91,48 @@ gone_stores_none _ image idle = refl
 
 -- a machine that is idle stores no image
 idle_stores_none : (script : List Command) (calls : List Entry) (machine : Machine) → order_by script calls machine ≡ None → image_read machine ≡ None
-idle_stores_none script calls (controlling k) idle = gone_stores_none k.spot k.image idle
+idle_stores_none script calls (controlling control) idle = gone_stores_none control.spot control.image idle
 idle_stores_none script calls _ idle = refl
-
-nothing_of : {A B : Type 0} (f : A → B) (found : Option A) → option_map f found ≡ None → found ≡ None
-nothing_of f None h = refl
-nothing_of f (Some x) h = absurd cc
 
 -- in the end no image is stored
 none_stored : (config : Config) (scripts : Scripts) (stage : Stage Actor) (plain : Plain) → length stage.machines ≡ seat_count config.mutators config.helpers → AreIdle config scripts stage → Shows plain stage → image_read (machine_at plain (control_number config)) ≡ None
 none_stored config scripts stage plain seats idle shows =
-    let a : Actor = get_or stage.machines (control_number config) other in
-    let here : slice_get stage.machines (control_number config) ≡ Some a = slice_get-get_or stage.machines (control_number config) other (omega (arith, seats)) in
+    let actor : Actor = get_or stage.machines (control_number config) other in
+    let here : slice_get stage.machines (control_number config) ≡ Some actor = slice_get-get_or stage.machines (control_number config) other (omega (arith, seats)) in
     let no_turn = ap (turn_of scripts (control_number config)) (sym here) ∙ idle (control_number config) (omega arith) in
-    ap image_read (machine_shown plain stage (control_number config) a shows here)
-    ∙ idle_stores_none (nth_script scripts (control_number config)) a.calls a.machine (nothing_of _ (order_by (nth_script scripts (control_number config)) a.calls a.machine) no_turn)
+    ap image_read (machine_shown plain stage (control_number config) actor shows here)
+    ∙ idle_stores_none (nth_script scripts (control_number config)) actor.calls actor.machine (none_before_map _ (order_by (nth_script scripts (control_number config)) actor.calls actor.machine) no_turn)
   where
     other : Actor
     other = record { machine = no_machine; command = Gc; calls = [] }
 
 root_shown : (text : Text) (graph : Graph) (thread other_thread index : ℕ) → 1 ≤ other_thread → other_thread ≤ thread → index < 16 → text.roots ≡ root_rows graph.root thread → root_of text other_thread index ≡ graph.root other_thread index
-root_shown text graph thread other_thread index low high lt e =
+root_shown text graph thread other_thread index low high lt same =
     let none : List Reference = [] in
-    ap (λ (rows : List (List Reference)). get_or (get_or rows (other_thread - 1) none) index None) e
-    ∙ ap (λ (row : List Reference). get_or row index None) (get_or-map-range_with_len (λ k. map (graph.root k) (range_with_len 0 16)) 1 thread (other_thread - 1) other_thread none (omega arith) (omega arith))
+    ap (λ (rows : List (List Reference)). get_or (get_or rows (other_thread - 1) none) index None) same
+    ∙ ap (λ (row : List Reference). get_or row index None) (get_or-map-range_with_len (λ thread. map (graph.root thread) (range_with_len 0 16)) 1 thread (other_thread - 1) other_thread none (omega arith) (omega arith))
     ∙ get_or-map-range_with_len (graph.root other_thread) 0 16 index index None lt (omega arith)
 
-pin_shown : (text : Text) (graph : Graph) (n thread index : ℕ) → 1 ≤ thread → thread ≤ n → index < 4 → text.pins ≡ pin_rows (λ u slot. name_in (graph.pin u slot)) n → pin_of text thread index ≡ name_in (graph.pin thread index)
-pin_shown text graph n thread index low high lt e =
+pin_shown : (text : Text) (graph : Graph) (n thread index : ℕ) → 1 ≤ thread → thread ≤ n → index < 4 → text.pins ≡ pin_rows (λ thread slot. name_in (graph.pin thread slot)) n → pin_of text thread index ≡ name_in (graph.pin thread index)
+pin_shown text graph n thread index low high lt same =
     let none : List Reference = [] in
-    ap (λ (rows : List (List Reference)). get_or (get_or rows (thread - 1) none) index None) e
-    ∙ ap (λ (row : List Reference). get_or row index None) (get_or-map-range_with_len (λ k. map (λ slot. name_in (graph.pin k slot)) (range_with_len 0 4)) 1 n (thread - 1) thread none (omega arith) (omega arith))
+    ap (λ (rows : List (List Reference)). get_or (get_or rows (thread - 1) none) index None) same
+    ∙ ap (λ (row : List Reference). get_or row index None) (get_or-map-range_with_len (λ thread. map (λ slot. name_in (graph.pin thread slot)) (range_with_len 0 4)) 1 n (thread - 1) thread none (omega arith) (omega arith))
     ∙ get_or-map-range_with_len (λ slot. name_in (graph.pin thread slot)) 0 4 index index None lt (omega arith)
 
-text_shown : (n : ℕ) (jobs : Jobs) (entries : List Entry) (text : Text) (graph : Graph) → length text.roots ≡ n → texts.ShowsGraph text n graph
-    → ((thread : ℕ) → 1 ≤ thread → thread ≤ n → work.replies_of jobs (thread - 1) ≡ history.replies_of (of_thread entries thread))
+text_shown : (threads : ℕ) (jobs : Jobs) (entries : List Entry) (text : Text) (graph : Graph) → length text.roots ≡ threads → texts.ShowsGraph text threads graph
+    → ((thread : ℕ) → 1 ≤ thread → thread ≤ threads → work.replies_of jobs (thread - 1) ≡ history.replies_of (of_thread entries thread))
     → answer_text 2 (length text.roots) (λ thread. work.replies_of jobs (thread - 1)) text.rows (root_of text) (pin_of text)
-    ≡ answer_text 2 n (λ thread. history.replies_of (of_thread entries thread)) (map (row_in graph) (names_of text)) graph.root (λ thread slot. name_in (graph.pin thread slot))
-text_shown n jobs entries text graph count shows told =
+    ≡ answer_text 2 threads (λ thread. history.replies_of (of_thread entries thread)) (map (row_in graph) (names_of text)) graph.root (λ thread slot. name_in (graph.pin thread slot))
+text_shown threads jobs entries text graph count shows told =
     let rows : text.rows ≡ map (row_in graph) (names_of text) = shows.rows in
     let pin : ℕ → ℕ → Reference = λ thread slot. name_in (graph.pin thread slot) in
-    ap (λ (k : ℕ). answer_text 2 k (λ thread. work.replies_of jobs (thread - 1)) text.rows (root_of text) (pin_of text)) count
-    ∙ ap (λ (rs : List Row). answer_text 2 n (λ thread. work.replies_of jobs (thread - 1)) rs (root_of text) (pin_of text)) rows
-    ∙ answer_text_same 2 n (λ thread. work.replies_of jobs (thread - 1)) (λ thread. history.replies_of (of_thread entries thread)) (map (row_in graph) (names_of text)) (root_of text) graph.root (pin_of text) pin
+    ap (λ (threads : ℕ). answer_text 2 threads (λ thread. work.replies_of jobs (thread - 1)) text.rows (root_of text) (pin_of text)) count
+    ∙ ap (λ (rs : List Row). answer_text 2 threads (λ thread. work.replies_of jobs (thread - 1)) rs (root_of text) (pin_of text)) rows
+    ∙ answer_text_same 2 threads (λ thread. work.replies_of jobs (thread - 1)) (λ thread. history.replies_of (of_thread entries thread)) (map (row_in graph) (names_of text)) (root_of text) graph.root (pin_of text) pin
     (λ thread low high. told thread (omega arith) (omega arith))
-    (λ thread i low high lt. root_shown text graph n thread i (omega arith) (omega arith) lt shows.roots)
-    (λ thread i low high lt. pin_shown text graph n thread i (omega arith) (omega arith) lt shows.pins)
+    (λ thread index low high lt. root_shown text graph threads thread index (omega arith) (omega arith) lt shows.roots)
+    (λ thread index low high lt. pin_shown text graph threads thread index (omega arith) (omega arith) lt shows.pins)
 
 module _ (config : Config) (start : Stage Actor) (graph : Graph) (begins : Begins config start graph) where
   -- the run of some events
@@ -146,27 +143,27 @@ module _ (config : Config) (start : Stage Actor) (graph : Graph) (begins : Begin
   sound events = run_sound pause_image heap_pauses config (run_of events)
 
   module _ (scripts : Scripts) (count : length scripts ≡ config.mutators) (events : List (Event Order)) (called : AllHaveCalled config scripts (led_to config start events)) where
-    abbrev h : List Entry
-    h = history_from config start events
+    abbrev entries : List Entry
+    entries = history_from config start events
 
     -- the entries of a mutator that has called its script are its calls
-    entries_called : (t : ℕ) (it : HasCalled scripts (led_to config start events) t) → of_thread h (t + 1) ≡ it.actor.calls
+    entries_called : (t : ℕ) (it : HasCalled scripts (led_to config start events) t) → of_thread entries (t + 1) ≡ it.actor.calls
     entries_called t it = entries_at_rest config (run_of events) t it.actor it.here it.called.rest
 
-    crowded : AreCrowded config.regions config.region_words graph scripts h
-    crowded = subst (λ (begun_then : Scripts). AreCrowded config.regions config.region_words graph begun_then h) (begun_scripts config scripts (led_to config start events) count (sound events).of_heap.machines called) (sound events).crowded
+    crowded : AreCrowded config.regions config.region_words graph scripts entries
+    crowded = subst (λ (begun_then : Scripts). AreCrowded config.regions config.region_words graph begun_then entries) (begun_scripts config scripts (led_to config start events) count (sound events).of_heap.machines called) (sound events).crowded
 
-    follows : (thread : ℕ) → commands_of (of_thread h thread) ≡ history.script_of scripts thread
-    follows zero = ap commands_of (none_of config.mutators h 0 (sound events).entries (inl refl))
-    follows (suc t) = by_thread (cases_lt t config.mutators)
+    follows : (thread : ℕ) → commands_of (of_thread entries thread) ≡ history.script_of scripts thread
+    follows zero = ap commands_of (none_of config.mutators entries 0 (sound events).entries (inl refl))
+    follows (suc mutator) = by_thread (cases_lt mutator config.mutators)
       where
-        by_thread : (t < config.mutators) ⊎ (config.mutators ≤ t) → commands_of (of_thread h (suc t)) ≡ slice_index_or scripts t []
+        by_thread : (mutator < config.mutators) ⊎ (config.mutators ≤ mutator) → commands_of (of_thread entries (suc mutator)) ≡ slice_index_or scripts mutator []
         by_thread (inl below) =
-            let it = called t below in
-            let next : suc t ≡ t + 1 = omega arith in
-            ap (λ (n : ℕ). commands_of (of_thread h n)) next ∙ ap commands_of (entries_called t it) ∙ it.called.commands
+            let it = called mutator below in
+            let next : suc mutator ≡ mutator + 1 = omega arith in
+            ap (λ (n : ℕ). commands_of (of_thread entries n)) next ∙ ap commands_of (entries_called mutator it) ∙ it.called.commands
         by_thread (inr past_all) =
-            ap commands_of (none_of config.mutators h (suc t) (sound events).entries (inr (omega arith))) ∙ sym (get_or_past scripts t [] (omega arith))
+            ap commands_of (none_of config.mutators entries (suc mutator) (sound events).entries (inr (omega arith))) ∙ sym (get_or_past scripts mutator [] (omega arith))
 
     pub whole_from : AreIdle config scripts (led_to config start events) → IsWholeFrom config start graph scripts events
     whole_from idle = record { idle = idle; follows = follows; each = (sound events).legal; crowded = crowded }

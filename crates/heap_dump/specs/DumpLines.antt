@@ -16,7 +16,7 @@ use Rattle.trace_reading.specs.Refused.{LineStage, LineFollows, cause_of}
 use Rattle.trace_reading.specs.Refused.LineStage.{Commands}
 use Rattle.trace_text.specs.Answer.{line_of, name_word}
 use Rattle.heap_dump.specs.Dumped.{Dumped, names_in, most_made, IsRow, IsDump}
-use Rattle.heap_dump.specs.Resumes.{run_version, mark_line}
+use Rattle.heap_dump.specs.DumpsToRun.{run_version, mark_line}
 
 -- what was read, and so what is to stand on the next line
 pub data DumpStage : Type 0 where
@@ -67,9 +67,9 @@ IsDumpReference w (Some n) =
 
 abbrev pub AreReferences : List (List ℕ) → List Reference → Type 0
 AreReferences [] [] = Unit {0}
-AreReferences [] (r ∷ rs) = ⊥
+AreReferences [] (reference ∷ references) = ⊥
 AreReferences (w ∷ ws) [] = ⊥
-AreReferences (w ∷ ws) (r ∷ rs) = IsDumpReference w r × AreReferences ws rs
+AreReferences (w ∷ ws) (reference ∷ references) = IsDumpReference w reference × AreReferences ws references
 
 -- An object's line: its fields and its name are in range, and its name is behind all before. It may name anything.
 abbrev pub ObjectFollows : Dumped → List ℕ → DumpStage → Type 0
@@ -91,11 +91,11 @@ MarkFollows dump text next = IsDump dump × Spells text mark_line × (next ≡ B
 abbrev pub DumpFollows : DumpStage → List ℕ → DumpStage → Type 0
 DumpFollows Version text next = Spells text (titled (codes "dump") (1 ∷ [])) × (next ≡ Heap)
 DumpFollows Heap text next = (config : Config) × IsNarrow config × Spells text (heap_line config) × (next ≡ Threads config)
-DumpFollows (Threads h) text next = (config : Config) × IsHeapOf h config × Spells text (threads_line config) × (next ≡ Counts config)
+DumpFollows (Threads sizes) text next = (config : Config) × IsHeapOf sizes config × Spells text (threads_line config) × (next ≡ Counts config)
 DumpFollows (Counts config) text next =
     (counts : List ℕ) × (length counts ≡ config.mutators) × All (λ n. n ≤ most_made) counts × Spells text (titled (codes "counts") counts)
     × (next ≡ Listed (record { config = config; counts = counts; rows = []; roots = [] }))
-DumpFollows (Listed d) text next = ObjectFollows d text next ⊎ (RootsFollow d text next ⊎ MarkFollows d text next)
+DumpFollows (Listed dump) text next = ObjectFollows dump text next ⊎ (RootsFollow dump text next ⊎ MarkFollows dump text next)
 DumpFollows (Behind stage) text next = (after : LineStage) × LineFollows stage text after × (next ≡ Behind after)
 
 -- these lines follow one on the other

@@ -90,7 +90,7 @@ unpinned graph = record graph { pin = λ _ _. None }
 
 -- the roots of the threads 1 to `threads`, 16 each
 abbrev pub root_rows : Graph → ℕ → List (List Reference)
-root_rows graph threads = map (λ t. map (graph.root t) (range_with_len 0 16)) (range_with_len 1 threads)
+root_rows graph threads = map (λ thread. map (graph.root thread) (range_with_len 0 16)) (range_with_len 1 threads)
 
 -- the dump of a graph, with rows for these names
 abbrev pub dump_of : Config → Graph → List Name → Dumped

@@ -1,7 +1,7 @@
 pub mod Dumped
 pub mod DumpText
 pub mod RowsReached
-pub mod Resumes
+pub mod DumpsToRun
 pub mod DumpLines
 pub mod HeldReferences
 pub mod ObjectWords
@@ -9,4 +9,4 @@ pub mod Steps
 pub mod Listing
 pub mod ObjectsMade
 pub mod Resumed
-pub mod Resuming
+pub mod RunFromStage

@@ -32,7 +32,7 @@ pub record AreRowWords (counts : List ℕ) (words : List (List ℕ)) (r : Row) :
 -- the name is behind the last of these
 abbrev pub IsBehindLast : List Name → Name → Type 0
 IsBehindLast [] name = Unit {0}
-IsBehindLast (m ∷ []) name = IsBefore m name
+IsBehindLast (other_name ∷ []) name = IsBefore other_name name
 IsBehindLast (m ∷ k ∷ ns) name = IsBehindLast (k ∷ ns) name
 
 -- the hub has 16 references and no number

@@ -45,7 +45,7 @@ pub record IsAnswerFrom (graph : Graph) (threads : ℕ) (entries : List Entry) (
   pub names : List Name
   pub reach : IsReach (after graph entries) names
   pub text : out ≡ answer_text 2 threads (λ t. replies_of (of_thread entries t)) (map (row_in (after graph entries)) names)
-      (after graph entries).root (λ t slot. name_in ((after graph entries).pin t slot))
+      (after graph entries).root (λ thread slot. name_in ((after graph entries).pin thread slot))
 
 -- a script of commands in range, that are no more than there are names left for a thread of a dump
 abbrev pub IsRunnableAfter : List Command → Type 0

@@ -57,4 +57,4 @@ pub record MarksReached (text : Text) (marks : List Bool) : Type 0 where
 abbrev pub marked_rows : List Bool → List Row → List Row
 marked_rows [] rows = []
 marked_rows (mark ∷ marks) [] = []
-marked_rows (mark ∷ marks) (r ∷ rows) = if mark then r ∷ marked_rows marks rows else marked_rows marks rows
+marked_rows (mark ∷ marks) (row ∷ rows) = if mark then row ∷ marked_rows marks rows else marked_rows marks rows

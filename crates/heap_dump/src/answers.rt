@@ -3,9 +3,9 @@ ghost use Rattle.shen_graph.specs.Work.{HasScript};
 ghost use Rattle.trace_text.specs.Answer.{spelled_answer};
 ghost use Rattle.graph_placing.specs.ByName.{Fits};
 ghost use Rattle.heap_dump.specs.Dumped.{dumped};
-ghost use Rattle.heap_dump.specs.Resumes.{Resumes};
+ghost use Rattle.heap_dump.specs.DumpsToRun.{Resumes};
 ghost use Rattle.heap_dump.specs.Resumed.{IsResumed, IsCutFrom};
-ghost use Rattle.heap_dump.specs.Resuming.{IfAnswered};
+ghost use Rattle.heap_dump.specs.RunFromStage.{IfAnswered};
 
 use crate::Resumed as Read;
 use crate::goes_on::{Continued, resume};

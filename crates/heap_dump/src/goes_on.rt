@@ -13,7 +13,7 @@ ghost use Rattle.graph_placing.specs.ByName.{Fits};
 ghost use Rattle.graph_placing.specs.PlacedHeap.{IsPlaced};
 ghost use Rattle.heap_dump.specs.Dumped.{dumped, graph_in, IsDump};
 ghost use Rattle.heap_dump.specs.Resumed.{IsRunnableAfter, IsResumed, IsLeftBusy, IsCutFrom};
-ghost use Rattle.heap_dump.specs.Resuming.{IfAnswered, HasEndedFrom};
+ghost use Rattle.heap_dump.specs.RunFromStage.{IfAnswered, HasEndedFrom};
 
 use crate::Dump;
 use crate::placing::place;

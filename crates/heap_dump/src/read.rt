@@ -12,7 +12,7 @@ ghost use Rattle.trace_reading.specs.declared.why.Why.{Why as Cause};
 ghost use Rattle.trace_reading.specs.Calls.{HasFewCalls};
 ghost use Rattle.trace_reading.specs.Faults.{IsTextFault};
 ghost use Rattle.heap_dump.specs.Dumped.{Dumped, dumped};
-ghost use Rattle.heap_dump.specs.Resumes.{Resumes, run_version, mark_line};
+ghost use Rattle.heap_dump.specs.DumpsToRun.{Resumes, run_version, mark_line};
 ghost use Rattle.heap_dump.specs.DumpLines.{DumpRefused, Listed, Spells};
 ghost use Rattle.heap_dump.specs.Steps.{IsStop};
 ghost use Rattle.heap_dump.specs.Listing.{separators, listed, HasTakenRows, HasTakenRoots, NoObjectLine, IsHeldDump};

@@ -8,7 +8,7 @@ ghost use Rattle.trace_reading.specs.Grammar.{most_bytes, scripts_of, items_of};
 ghost use Rattle.trace_reading.specs.declared.why.Why.{Why};
 ghost use Rattle.heap_dump.specs.Dumped.{Dumped, IsDump};
 ghost use Rattle.heap_dump.specs.DumpText.{dump_text};
-ghost use Rattle.heap_dump.specs.Resumes.{Resumes, IsSameReading, run_version, mark_line};
+ghost use Rattle.heap_dump.specs.DumpsToRun.{Resumes, IsSameReading, run_version, mark_line};
 ghost use Rattle.heap_dump.specs.DumpLines.{DumpRefused};
 
 /// A law: the text of a dump, the line `trace`, lines of commands of version 2 and lines of a schedule, if they are not too long together, are read

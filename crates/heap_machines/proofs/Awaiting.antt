@@ -150,7 +150,7 @@ control_away _ = refl
 
 -- a word that is not 0
 some_word : (got : ℕ) → got ≢ 0 → (got == 0) ≡ false
-some_word got some = grind (arith, nat_tests, some)
+some_word got positive = grind (arith, nat_tests, positive)
 
 module _ (config : Config) where
   -- a mutator
@@ -175,15 +175,15 @@ module _ (config : Config) where
     refuses = λ words. refl;
   }
   mutator_awaits seat made kept (spot.Entering _ next) there = absurd (false≢true there)
-  mutator_awaits seat made kept (spot.Loading at) there = absurd (false≢true (sym (load_away at) ∙ there))
-  mutator_awaits seat made kept (spot.OnField object at) there = absurd (false≢true (sym (field_away at) ∙ there))
-  mutator_awaits seat made kept (spot.Resolving address at next) there = absurd (false≢true (sym (resolve_away at) ∙ there))
-  mutator_awaits seat made kept (spot.Recording at address next) there = absurd (false≢true (sym (satb_away at) ∙ there))
-  mutator_awaits seat made kept (spot.OnNumber object refs at) there = absurd (false≢true (sym (number_away at) ∙ there))
-  mutator_awaits seat made kept (spot.Showing value at) there = absurd (false≢true (sym (show_away at) ∙ there))
-  mutator_awaits seat made kept (spot.Making at) there = absurd (false≢true (sym (make_away at) ∙ there))
-  mutator_awaits seat made kept (spot.Pinning value at) there = absurd (false≢true (sym (pin_away at) ∙ there))
-  mutator_awaits seat made kept (spot.Waiting at) there = absurd (false≢true (sym (wait_away at) ∙ there))
+  mutator_awaits seat made kept (spot.Loading other_spot) there = absurd (false≢true (sym (load_away other_spot) ∙ there))
+  mutator_awaits seat made kept (spot.OnField object other_spot) there = absurd (false≢true (sym (field_away other_spot) ∙ there))
+  mutator_awaits seat made kept (spot.Resolving address other_spot next) there = absurd (false≢true (sym (resolve_away other_spot) ∙ there))
+  mutator_awaits seat made kept (spot.Recording other_spot address next) there = absurd (false≢true (sym (satb_away other_spot) ∙ there))
+  mutator_awaits seat made kept (spot.OnNumber object refs other_spot) there = absurd (false≢true (sym (number_away other_spot) ∙ there))
+  mutator_awaits seat made kept (spot.Showing value other_spot) there = absurd (false≢true (sym (show_away other_spot) ∙ there))
+  mutator_awaits seat made kept (spot.Making other_spot) there = absurd (false≢true (sym (make_away other_spot) ∙ there))
+  mutator_awaits seat made kept (spot.Pinning value other_spot) there = absurd (false≢true (sym (pin_away other_spot) ∙ there))
+  mutator_awaits seat made kept (spot.Waiting other_spot) there = absurd (false≢true (sym (wait_away other_spot) ∙ there))
   mutator_awaits seat made kept _ there = absurd (false≢true there)
 
   -- a helper
@@ -203,8 +203,8 @@ module _ (config : Config) where
 
   -- the control never does
   pub awaits_there : (machine : Machine) → is_machine_at E4 machine (order_for None machine) ≡ true → Awaits config machine
-  awaits_there (mutating m) there = mutator_awaits m.seat m.made m.kept m.spot there
-  awaits_there (helping h) there = helper_awaits h.seat h.hints h.spot there
+  awaits_there (mutating mutator) there = mutator_awaits mutator.seat mutator.made mutator.kept mutator.spot there
+  awaits_there (helping helper) there = helper_awaits helper.seat helper.hints helper.spot there
   awaits_there (controlling k) there = absurd (by_gone (is_gone k.spot) there)
     where
       by_gone : (gone : Bool) → is_machine_at E4 (controlling k) (if gone then None else Some Nothing) ≡ true → ⊥

@@ -54,11 +54,11 @@ between_calls mutator (inl rest) = rest
 between_calls mutator (inr other) = absurd (let none = other.0 in cc)
 
 is_outside : (machine : Machine) → HasComeToRest machine → is_within (standing_of machine) ≡ false
-is_outside (mutating m) rests = mutator_outside m.spot (between_calls m rests)
-is_outside (helping h) (inl rest) = absurd cc
-is_outside (helping h) (inr none) = helper_outside h.spot none.1
-is_outside (controlling k) (inl rest) = absurd cc
-is_outside (controlling k) (inr none) = control_outside k.spot none.1
+is_outside (mutating mutator) rests = mutator_outside mutator.spot (between_calls mutator rests)
+is_outside (helping helper) (inl rest) = absurd cc
+is_outside (helping helper) (inr none) = helper_outside helper.spot none.1
+is_outside (controlling control) (inl rest) = absurd cc
+is_outside (controlling control) (inr none) = control_outside control.spot none.1
 
 has_ended : (control : Controlling) → HasComeToRest (controlling control) → (if is_gone control.spot then false else true) ≡ false
 has_ended control (inl rest) = absurd cc
@@ -66,8 +66,8 @@ has_ended control (inr none) = none.1
 
 pub all_at_rest : (config : Config) (stage : Stage Actor) → ((number : ℕ) (actor : Actor) → slice_get stage.machines number ≡ Some actor → HasComeToRest actor.machine) → IsAtRest config stage
 all_at_rest config stage rests = record {
-  calls = λ number actor m mutator. between_calls m (subst HasComeToRest mutator.is (rests number actor mutator.here));
+  calls = λ number actor other_mutator mutator. between_calls other_mutator (subst HasComeToRest mutator.is (rests number actor mutator.here));
   outside = λ number actor here other. is_outside actor.machine (rests number actor here);
-  no_unit = λ number actor k here is. control_free k.spot (has_ended k (subst HasComeToRest is (rests number actor here)));
-  no_image = λ number actor k here is. control_calm k.spot k.image (has_ended k (subst HasComeToRest is (rests number actor here)));
+  no_unit = λ number actor control here is. control_free control.spot (has_ended control (subst HasComeToRest is (rests number actor here)));
+  no_image = λ number actor control here is. control_calm control.spot control.image (has_ended control (subst HasComeToRest is (rests number actor here)));
 }

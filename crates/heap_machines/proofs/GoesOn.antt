@@ -54,11 +54,11 @@ either : (holds : Bool) (spot other_spot : Spot) → InCall spot → InCall othe
 either true spot other_spot one other = one
 either false spot other_spot one other = other
 
-in_enter : (next : Entered) (at : EnterSpot) → InCall (after_enter next at)
+in_enter : (next : Entered) (spot : EnterSpot) → InCall (after_enter next spot)
 in_enter Call Inside = refl
 in_enter Waited Inside = refl
-in_enter Call at = refl
-in_enter Waited at = refl
+in_enter Call spot = refl
+in_enter Waited spot = refl
 
 in_first_spot : (command : Command) → InCall (first_spot command)
 in_first_spot (New dst refs nums) = refl
@@ -102,7 +102,7 @@ in_take (take_spot.Ended (At address) end) = refl
 in_take (take_spot.Ended NoRoom end) = refl
 in_take _ = refl
 
-in_load : (phase : ℕ) (command : Command) (at : LoadSpot) (got : ℕ) → InCall (load_next phase command at got)
+in_load : (phase : ℕ) (command : Command) (spot : LoadSpot) (got : ℕ) → InCall (load_next phase command spot got)
 in_load phase command load.First got = in_root command got
 in_load phase command (load.Second first) got = in_second command first got
 in_load phase command (load.Third first second) got = in_roots command first second got
@@ -116,7 +116,7 @@ in_recording found overwrites.Cas = refl
 in_overwritten : (phase found : ℕ) (next : Overwritten) → InCall (overwritten phase found next)
 in_overwritten phase found next = either (is_to_record phase found) (Recording LoadCount found next) (after_recording found next) refl (in_recording found next)
 
-in_remember : (address : ℕ) (next : Overwritten) (at : RememberSpot) → InCall (after_remember address next at)
+in_remember : (address : ℕ) (next : Overwritten) (spot : RememberSpot) → InCall (after_remember address next spot)
 in_remember address next Recorded = in_recording address next
 in_remember address next _ = refl
 
@@ -130,14 +130,14 @@ in_resolved found answer (ToCompare object expect value) = in_expected object ex
 in_loaded : (config : Config) (phase cset found : ℕ) (next : Loaded) → InCall (with_loaded config phase cset found next)
 in_loaded config phase cset found next = either (must_resolve config phase cset found) (Resolving found LoadHeader next) (after_resolved found found next) refl (in_resolved found found next)
 
-in_resolve : (found : ℕ) (next : Loaded) (at : ResolveSpot) → InCall (after_resolve found next at)
+in_resolve : (found : ℕ) (next : Loaded) (spot : ResolveSpot) → InCall (after_resolve found next spot)
 in_resolve found next (Resolved answer) = in_resolved found answer next
 in_resolve found next _ = refl
 
 in_swap : (config : Config) (phase cset found : ℕ) → InCall (after_swap config phase cset found)
 in_swap config phase cset found = either (is_to_record phase found) (Recording LoadCount found overwrites.Xchg) (with_loaded config phase cset found ForRoot) refl (in_loaded config phase cset found ForRoot)
 
-in_field : (config : Config) (phase cset object : ℕ) (at : FieldSpot) (got : ℕ) → InCall (field_next config phase cset object at got)
+in_field : (config : Config) (phase cset object : ℕ) (spot : FieldSpot) (got : ℕ) → InCall (field_next config phase cset object spot got)
 in_field config phase cset object fields.Load got = in_loaded config phase cset got ForRoot
 in_field config phase cset object (fields.LoadExpected expect value) got = in_loaded config phase cset got (ToCompare object expect value)
 in_field config phase cset object (fields.LoadOld value) got = in_overwritten phase got (overwrites.Set object value)
@@ -146,24 +146,24 @@ in_field config phase cset object (fields.Exchange found expect value) got =
     either (got == found) (overwritten phase found overwrites.Cas) (OnField object (fields.LoadExpected expect value)) (in_overwritten phase found overwrites.Cas) refl
 in_field config phase cset object _ got = refl
 
-in_numbers : (at : NumberSpot) (got : ℕ) → InCall (number_next at got)
+in_numbers : (spot : NumberSpot) (got : ℕ) → InCall (number_next spot got)
 in_numbers number.Load got = refl
 in_numbers number.Store got = refl
 
-in_show : (value : ℕ) (at : ShowSpot) (got : ℕ) → InCall (show_next value at got)
+in_show : (value : ℕ) (spot : ShowSpot) (got : ℕ) → InCall (show_next value spot got)
 in_show value show.LoadName got = refl
 in_show value (show.StoreRoot reply) got = refl
 
-in_pin : (value : ℕ) (command : Command) (at : PinSpot) (got : ℕ) → InCall (pin_next value command at got)
+in_pin : (value : ℕ) (command : Command) (spot : PinSpot) (got : ℕ) → InCall (pin_next value command spot got)
 in_pin value command pin.Look got = either (fits_slot command got) (Pinning value pin.Store) (Leave reply.Bad) refl refl
 in_pin value command pin.Store got = refl
 
-in_make : (config : Config) (seat made : ℕ) (command : Command) (at : MakeSpot) (got : ℕ) → InCall (make_next config seat made command at got)
+in_make : (config : Config) (seat made : ℕ) (command : Command) (spot : MakeSpot) (got : ℕ) → InCall (make_next config seat made command spot got)
 in_make config seat made command (make.Taking take) got = in_take (take_next config command take got)
 in_make config seat made command (make.StoreWord address done) got = refl
 in_make config seat made command (make.StoreRoot address) got = refl
 
-in_wait : (seat made : ℕ) (at : WaitSpot) (got : ℕ) → InCall (wait_next seat made at got)
+in_wait : (seat made : ℕ) (spot : WaitSpot) (got : ℕ) → InCall (wait_next seat made spot got)
 in_wait seat made wait.Poll got = either (got == 0) (Waiting wait.Poll) (Entering Raise Waited) refl refl
 in_wait seat made _ got = refl
 
@@ -172,18 +172,18 @@ pub call_goes_on : (config : Config) (mutator : Mutating) (got : ℕ) (spot : Sp
 call_goes_on config mutator got Rest busy none = absurd (cc (busy))
 call_goes_on config mutator got (Ended reply) busy none = absurd (cc (busy))
 call_goes_on config mutator got Gone busy none = absurd (cc (busy))
-call_goes_on config mutator got (Entering at next) busy none = in_enter next (enter_next at got)
+call_goes_on config mutator got (Entering spot next) busy none = in_enter next (enter_next spot got)
 call_goes_on config mutator got LoadPhase busy none = refl
 call_goes_on config mutator got LoadSet busy none = in_first_spot mutator.kept.command
-call_goes_on config mutator got (Loading at) busy none = in_load mutator.kept.phase mutator.kept.command at got
-call_goes_on config mutator got (OnField object at) busy none = in_field config mutator.kept.phase mutator.kept.cset object at got
-call_goes_on config mutator got (Resolving address at next) busy none = in_resolve address next (resolves.next_at config address mutator.kept.phase at got)
-call_goes_on config mutator got (Recording at address next) busy none = in_remember address next (satb.next_at at got)
-call_goes_on config mutator got (OnNumber object refs at) busy none = in_numbers at got
-call_goes_on config mutator got (Showing value at) busy none = in_show value at got
+call_goes_on config mutator got (Loading spot) busy none = in_load mutator.kept.phase mutator.kept.command spot got
+call_goes_on config mutator got (OnField object spot) busy none = in_field config mutator.kept.phase mutator.kept.cset object spot got
+call_goes_on config mutator got (Resolving address spot next) busy none = in_resolve address next (resolves.next_at config address mutator.kept.phase spot got)
+call_goes_on config mutator got (Recording spot address next) busy none = in_remember address next (satb.next_at spot got)
+call_goes_on config mutator got (OnNumber object refs spot) busy none = in_numbers spot got
+call_goes_on config mutator got (Showing value spot) busy none = in_show value spot got
 call_goes_on config mutator got (StoreRoot value) busy none = refl
-call_goes_on config mutator got (Making at) busy none = in_make config mutator.seat mutator.made mutator.kept.command at got
+call_goes_on config mutator got (Making spot) busy none = in_make config mutator.seat mutator.made mutator.kept.command spot got
 call_goes_on config mutator got AskCycle busy none = refl
-call_goes_on config mutator got (Pinning value at) busy none = in_pin value mutator.kept.command at got
-call_goes_on config mutator got (Waiting at) busy none = in_wait mutator.seat mutator.made at got
+call_goes_on config mutator got (Pinning value spot) busy none = in_pin value mutator.kept.command spot got
+call_goes_on config mutator got (Waiting spot) busy none = in_wait mutator.seat mutator.made spot got
 call_goes_on config mutator got (Leave reply) busy none = absurd (cc (none))

@@ -39,26 +39,26 @@ control_goes config seen phase cset hints image (StoreWord index Whole) inside =
 control_goes config seen phase cset hints image _ inside = absurd (false≢true inside)
 
 pub goes_inside : (config : Config) (machine : Machine) → is_inside_image config machine ≡ true → GoesInside config machine
-goes_inside config (mutating m) inside = absurd (false≢true inside)
-goes_inside config (helping h) inside = absurd (false≢true inside)
-goes_inside config (controlling k) inside = control_goes config k.seen k.phase k.cset k.hints k.image k.spot inside
+goes_inside config (mutating mutator) inside = absurd (false≢true inside)
+goes_inside config (helping helper) inside = absurd (false≢true inside)
+goes_inside config (controlling control) inside = control_goes config control.seen control.phase control.cset control.hints control.image control.spot inside
 
 -- so it is where words are left to load, or to store
 loads_in : (config : Config) (spot : ControlSpot) → 0 < controls.loads_left config spot → controls.is_inside_image config spot ≡ true
-loads_in config (LoadWord index Whole) some = lt-ltb (index + 1) (image_words config) (omega (arith, some))
-loads_in config _ some = absurd (omega (arith, some))
+loads_in config (LoadWord index Whole) positive = lt-ltb (index + 1) (image_words config) (omega (arith, positive))
+loads_in config _ positive = absurd (omega (arith, positive))
 
 stores_in : (config : Config) (spot : ControlSpot) → 0 < controls.stores_left config spot → controls.is_inside_image config spot ≡ true
-stores_in config (StoreWord index Whole) some = lt-ltb (index + 1) (image_words config) (omega (arith, some))
-stores_in config _ some = absurd (omega (arith, some))
+stores_in config (StoreWord index Whole) positive = lt-ltb (index + 1) (image_words config) (omega (arith, positive))
+stores_in config _ positive = absurd (omega (arith, positive))
 
 pub loads_inside : (config : Config) (machine : Machine) → 0 < loads_left config machine → is_inside_image config machine ≡ true
-loads_inside config (controlling k) some = loads_in config k.spot some
-loads_inside config _ some = absurd (omega (arith, some))
+loads_inside config (controlling control) positive = loads_in config control.spot positive
+loads_inside config _ positive = absurd (omega (arith, positive))
 
 pub stores_inside : (config : Config) (machine : Machine) → 0 < stores_left config machine → is_inside_image config machine ≡ true
-stores_inside config (controlling k) some = stores_in config k.spot some
-stores_inside config _ some = absurd (omega (arith, some))
+stores_inside config (controlling control) positive = stores_in config control.spot positive
+stores_inside config _ positive = absurd (omega (arith, positive))
 
 -- A step inside the image leaves one word fewer.
 whole_after : (phase index got : ℕ) → extent_after phase index Whole got ≡ Whole
@@ -89,12 +89,12 @@ left_control config seen phase cset got image _ inside = absurd (false≢true in
 pub left_after : (config : Config) (machine : Machine) (got : ℕ) → is_inside_image config machine ≡ true
     → loads_left config (machine_after pause_image config Nothing got machine) + stores_left config (machine_after pause_image config Nothing got machine) + 1 ≡ loads_left config machine + stores_left config machine
 left_after config (mutating machine) got inside = absurd (false≢true inside)
-left_after config (helping h) got inside = absurd (false≢true inside)
-left_after config (controlling k) got inside = left_control config k.seen k.phase k.cset got k.image k.spot inside
+left_after config (helping helper) got inside = absurd (false≢true inside)
+left_after config (controlling control) got inside = left_control config control.seen control.phase control.cset got control.image control.spot inside
 
 -- it is inside the image where it has words left
 pub left_inside : (config : Config) (machine : Machine) → 0 < loads_left config machine + stores_left config machine → is_inside_image config machine ≡ true
-left_inside config machine some = ⊎_elim
+left_inside config machine positive = ⊎_elim
     (λ (loads : 0 < loads_left config machine). loads_inside config machine loads)
-    (λ (none : loads_left config machine ≤ 0). stores_inside config machine (omega (arith, some, none)))
+    (λ (none : loads_left config machine ≤ 0). stores_inside config machine (omega (arith, positive, none)))
     (cases_lt 0 (loads_left config machine))

@@ -1,7 +1,8 @@
 -- Names that are left for what the commands of a script may make that are still to come.
-use Rattle.std.proofs.Common.{◌≡◌, ◌<◌, ℕ, ◌+◌, true, List, length, All, Option, Some, None, refl, subst, arith}
+use Rattle.std.proofs.Common.{◌≡◌, ◌<◌, ℕ, ◌+◌, true, List, length, All, Option, Some, None, refl, arith}
 use Rattle.std.specs.Prelude.{slice_get, IfSome}
-use Rattle.std.proofs.lemmas.Option.{slice_get_within, get_or_from_slice_get}
+use Rattle.std.proofs.lemmas.Option.{slice_get_within}
+use Rattle.shen_graph.proofs.Lists.{element_of_all}
 use Rattle.heap_words.specs.declared.config.Config.{Config}
 use Rattle.shen_graph.specs.declared.command.Command.{Command}
 use Rattle.shen_graph.specs.declared.command.Reply.{Reply}
@@ -32,10 +33,6 @@ module _ (change : Change) (config : Config) (order : Order) (got : ℕ) (machin
       let at_hand_before = step.was_at_hand in
       omega (arith, made, at_hand_before, names)
 
--- a command that is there is one of the list
-one_of_these : {A : Type 0} (P : A → Type 0) (xs : List A) (index : ℕ) (x : A) → All P xs → slice_get xs index ≡ Some x → P x
-one_of_these P xs index x all here = subst P (get_or_from_slice_get xs index x x here) (all index x (slice_get_within xs index x here))
-
 -- the command that follows in its script can be given
 pub command_fits : (machine : Machine) (script : List Command) (replies : ℕ) → All IsValid script → HasNames machine (length script) replies → may_begin machine ≡ true
     → IfSome (slice_get script replies) (λ command. IsValid command × (made_of_machine machine < most_objects))
@@ -44,7 +41,7 @@ command_fits machine script replies commands names may = by_next (slice_get scri
     by_next : (found : Option Command) → slice_get script replies ≡ found → IfSome found (λ command. IsValid command × (made_of_machine machine < most_objects))
     by_next None here = tt
     by_next (Some command) here = (
-      one_of_these IsValid script replies command commands here,
+      element_of_all IsValid script replies command commands here,
       (let more = slice_get_within script replies command here in
           let none = rest_at_hand machine (begins_at_rest machine may) in
           omega (arith, names, more, none)),

@@ -25,21 +25,21 @@ use Rattle.heap_machines.proofs.Replies.{given_after, ended_none, ended_some, bu
 
 -- the first elements and the next are one more
 take_next : {A : Type 0} (xs : List A) (index : ℕ) (x : A) → slice_get xs index ≡ Some x → take index xs ++ x ∷ [] ≡ take (index + 1) xs
-take_next [] index x e = absurd cc
-take_next (y ∷ xs) zero x e = ap (λ z. z ∷ []) (sym (same_Some y x e))
-take_next (y ∷ xs) (suc index) x e = rw add-one (ap (λ zs. y ∷ zs) (take_next xs index x e ∙ rw add-one refl))
+take_next [] index x found = absurd cc
+take_next (y ∷ xs) zero x found = ap (λ z. z ∷ []) (sym (same_Some y x found))
+take_next (y ∷ xs) (suc index) x found = rw add-one (ap (λ zs. y ∷ zs) (take_next xs index x found ∙ rw add-one refl))
 
 -- all elements, where there is no next one
-past_end : (xs : List Command) (index : ℕ) → slice_get xs index ≡ None → take index xs ≡ xs
-past_end [] zero e = refl
-past_end [] (suc index) e = refl
-past_end (x ∷ xs) zero e = absurd cc
-past_end (x ∷ xs) (suc index) e = ap (λ ys. x ∷ ys) (past_end xs index e)
+past_end : (script : List Command) (index : ℕ) → slice_get script index ≡ None → take index script ≡ script
+past_end [] zero none = refl
+past_end [] (suc index) none = refl
+past_end (command ∷ script) zero none = absurd cc
+past_end (command ∷ script) (suc index) none = ap (λ ys. command ∷ ys) (past_end script index none)
 
 -- whose command follows in the script
 followed : (next : Option Command) (order : Order) (before : Command) → next_order next ≡ order → (command : Command) → next ≡ Some command → (order ≡ Begin command) × (command_by order before ≡ command)
-followed next order before is command some =
-    let this : order ≡ Begin command = sym is ∙ ap next_order some in
+followed next order before is command found =
+    let this : order ≡ Begin command = sym is ∙ ap next_order found in
     (this, ap (λ (order : Order). command_by order before) this)
 
 -- a mutator that begins something has a next command
@@ -135,7 +135,7 @@ module _ (change : Change) (config : Config) (script : List Command) (actor : Ac
 
 -- and where it has no turn, it has called the whole script
 pub script_done : (script : List Command) (actor : Actor) → is_mutating actor.machine ≡ true → IsOnScript script actor → order_for (slice_get script (length actor.calls)) actor.machine ≡ None → HasDoneScript script actor
-script_done script actor role on idle = by_may (may_begin actor.machine) refl
+script_done script actor role on_script idle = by_may (may_begin actor.machine) refl
   where
     next : Option Command
     next = slice_get script (length actor.calls)
@@ -152,7 +152,7 @@ script_done script actor role on idle = by_may (may_begin actor.machine) refl
     goes_on _ role busy none = cc
 
     by_rest : may_begin actor.machine ≡ false → (holds : Bool) → is_resting actor.machine ≡ holds → HasDoneScript script actor
-    by_rest may true rest = record { rest = rest; commands = on.done ∙ past_end script (length actor.calls) (on.ended rest may) }
+    by_rest may true rest = record { rest = rest; commands = on_script.done ∙ past_end script (length actor.calls) (on_script.ended rest may) }
     by_rest may false busy = absurd (goes_on actor.machine role busy idle)
 
     by_may : (holds : Bool) → may_begin actor.machine ≡ holds → HasDoneScript script actor

@@ -29,14 +29,14 @@ use Rattle.heap_machines.proofs.GoesOn.{call_goes_on}
 
 -- a step that ends a call gives a reply
 pub done_gives : (config : Config) (order : Order) (machine : Machine) (got : ℕ) → answer_of config order machine got ≡ Some Done → (reply : Reply) × (reply_of_step machine ≡ Some reply)
-done_gives config order (mutating m) got done = ends.done_gives config m.kept m.spot got (let said = done in cc)
+done_gives config order (mutating mutator) got done = ends.done_gives config mutator.kept mutator.spot got (let said = done in cc)
 done_gives config order other got done = absurd (others_go_on config order other got refl done)
 
 -- no other step does
 pub other_gives : (config : Config) (order : Order) (machine : Machine) (got : ℕ) → (answer_of config order machine got ≡ Some Done → ⊥) → reply_of_step machine ≡ None
-other_gives config order (mutating m) got other = by_spot m.spot other
+other_gives config order (mutating mutator) got other = by_spot mutator.spot other
   where
-    by_spot : (spot : Spot) → (Some (answer_at config m.kept spot got) ≡ Some Done → ⊥) → given_at spot ≡ None
+    by_spot : (spot : Spot) → (Some (answer_at config mutator.kept spot got) ≡ Some Done → ⊥) → given_at spot ≡ None
     by_spot (Leave r) other = absurd (other refl)
     by_spot _ other = refl
 other_gives config order _ got other = refl
@@ -52,25 +52,25 @@ pub record HasGiven (machine next : Machine) (reply : Reply) : Type 0 where
   pub was_at_hand : at_hand_of machine ≡ 1
 
 pub given_after : (change : Change) (config : Config) (order : Order) (got : ℕ) (machine : Machine) (reply : Reply) → reply_of_step machine ≡ Some reply → HasGiven machine (machine_after change config order got machine) reply
-given_after change config order got (mutating m) reply gives = record {
-  replied = replied m.spot gives;
-  rest = rest m.spot gives;
-  free = free m.spot gives;
-  busy = busy m.spot gives;
+given_after change config order got (mutating mutator) reply gives = record {
+  replied = replied mutator.spot gives;
+  rest = rest mutator.spot gives;
+  free = free mutator.spot gives;
+  busy = busy mutator.spot gives;
   role = refl;
-  made = made m.spot gives;
-  was_at_hand = at_hand_then m.spot gives;
+  made = made mutator.spot gives;
+  was_at_hand = at_hand_then mutator.spot gives;
 }
   where
-    replied : (spot : Spot) → given_at spot ≡ Some reply → reply_at (next_at config m order got spot).spot ≡ Some reply
+    replied : (spot : Spot) → given_at spot ≡ Some reply → reply_at (next_at config mutator order got spot).spot ≡ Some reply
     replied (Leave q) is = is
     replied _ is = absurd cc
 
-    rest : (spot : Spot) → given_at spot ≡ Some reply → is_between_calls (next_at config m order got spot).spot ≡ true
+    rest : (spot : Spot) → given_at spot ≡ Some reply → is_between_calls (next_at config mutator order got spot).spot ≡ true
     rest (Leave q) is = refl
     rest _ is = absurd cc
 
-    free : (spot : Spot) → given_at spot ≡ Some reply → takes_commands (next_at config m order got spot).spot ≡ true
+    free : (spot : Spot) → given_at spot ≡ Some reply → takes_commands (next_at config mutator order got spot).spot ≡ true
     free (Leave q) is = refl
     free _ is = absurd cc
 
@@ -78,7 +78,7 @@ given_after change config order got (mutating m) reply gives = record {
     busy (Leave q) is = refl
     busy _ is = absurd cc
 
-    made : (spot : Spot) → given_at spot ≡ Some reply → (next_at config m order got spot).made ≡ m.made
+    made : (spot : Spot) → given_at spot ≡ Some reply → (next_at config mutator order got spot).made ≡ mutator.made
     made (Leave q) is = refl
     made _ is = absurd cc
 
@@ -89,7 +89,7 @@ given_after change config order got _ reply gives = absurd cc
 
 -- between two calls no reply is at hand
 pub rest_at_hand : (machine : Machine) → is_resting machine ≡ true → at_hand_of machine ≡ 0
-rest_at_hand (mutating m) rest = by_spot m.spot rest
+rest_at_hand (mutating mutator) rest = by_spot mutator.spot rest
   where
     by_spot : (spot : Spot) → is_between_calls spot ≡ true → at_hand spot ≡ 0
     by_spot (Leave q) is = absurd cc
@@ -106,7 +106,7 @@ begun_made End mutator = refl
 begun_made (Hint address) mutator = refl
 
 -- who records what its Cas has overwritten has the reply at hand until it leaves
-stays_at_hand : (address : ℕ) (next : Overwritten) (at : RememberSpot) → recorded_at_hand next ≤ at_hand (after_remember address next at)
+stays_at_hand : (address : ℕ) (next : Overwritten) (spot : RememberSpot) → recorded_at_hand next ≤ at_hand (after_remember address next spot)
 stays_at_hand address (overwrites.Set object value) Recorded = omega arith
 stays_at_hand address overwrites.Xchg Recorded = omega arith
 stays_at_hand address overwrites.Cas Recorded = omega arith
@@ -115,11 +115,11 @@ stays_at_hand address next _ = omega arith
 -- A machine that gives no reply makes at most one object in a step, and then a reply is at hand that was not before.
 pub none_after : (change : Change) (config : Config) (order : Order) (got : ℕ) (machine : Machine) → reply_of_step machine ≡ None
     → made_of_machine (machine_after change config order got machine) + at_hand_of machine ≤ made_of_machine machine + at_hand_of (machine_after change config order got machine)
-none_after change config order got (mutating m) none = by_spot m.spot none
+none_after change config order got (mutating mutator) none = by_spot mutator.spot none
   where
-    by_spot : (spot : Spot) → given_at spot ≡ None → (next_at config m order got spot).made + at_hand spot ≤ m.made + at_hand (next_at config m order got spot).spot
-    by_spot Rest none = omega (arith, begun_made order m)
-    by_spot (Ended reply) none = omega (arith, begun_made order m)
+    by_spot : (spot : Spot) → given_at spot ≡ None → (next_at config mutator order got spot).made + at_hand spot ≤ mutator.made + at_hand (next_at config mutator order got spot).spot
+    by_spot Rest none = omega (arith, begun_made order mutator)
+    by_spot (Ended reply) none = omega (arith, begun_made order mutator)
     by_spot (Recording at address next) none = omega (arith, stays_at_hand address next (satb.next_at at got))
     by_spot (Making (make.StoreRoot address)) none = omega arith
     by_spot (Making at) none = omega arith
@@ -132,14 +132,14 @@ none_after change config order got _ none = omega arith
 
 -- a machine in a call goes on with it, if it gives no reply
 pub busy_after : (change : Change) (config : Config) (got : ℕ) (machine : Machine) → is_resting machine ≡ false → reply_of_step machine ≡ None → is_resting (machine_after change config Nothing got machine) ≡ false
-busy_after change config got (mutating m) busy none = call_goes_on config m got m.spot busy none
+busy_after change config got (mutating mutator) busy none = call_goes_on config mutator got mutator.spot busy none
 busy_after change config got _ busy none = refl
 
 -- a mutator that begins a command is in a call then
 pub begun_after : (change : Change) (config : Config) (command : Command) (got : ℕ) (machine : Machine) → may_begin machine ≡ true → is_resting (machine_after change config (Begin command) got machine) ≡ false
-begun_after change config command got (mutating m) may = by_spot m.spot may
+begun_after change config command got (mutating mutator) may = by_spot mutator.spot may
   where
-    by_spot : (spot : Spot) → takes_commands spot ≡ true → is_between_calls (next_at config m (Begin command) got spot).spot ≡ false
+    by_spot : (spot : Spot) → takes_commands spot ≡ true → is_between_calls (next_at config mutator (Begin command) got spot).spot ≡ false
     by_spot Rest may = refl
     by_spot (Ended reply) may = refl
     by_spot _ may = absurd cc
@@ -147,9 +147,9 @@ begun_after change config command got _ may = refl
 
 -- and one that ends is in none
 pub ended_after : (change : Change) (config : Config) (got : ℕ) (machine : Machine) → may_begin machine ≡ true → is_resting (machine_after change config End got machine) ≡ true
-ended_after change config got (mutating m) may = by_spot m.spot may
+ended_after change config got (mutating mutator) may = by_spot mutator.spot may
   where
-    by_spot : (spot : Spot) → takes_commands spot ≡ true → is_between_calls (next_at config m End got spot).spot ≡ true
+    by_spot : (spot : Spot) → takes_commands spot ≡ true → is_between_calls (next_at config mutator End got spot).spot ≡ true
     by_spot Rest may = refl
     by_spot (Ended reply) may = refl
     by_spot _ may = absurd cc
@@ -157,23 +157,23 @@ ended_after change config got _ may = absurd cc
 
 -- the call that a step ends has the reply that it gives
 pub ended_none : (command : Command) (machine : Machine) → reply_of_step machine ≡ None → ended_by command machine ≡ []
-ended_none command (mutating m) none = ap (entries_of m.seat command) none
+ended_none command (mutating mutator) none = ap (entries_of mutator.seat command) none
 ended_none command _ none = refl
 
 pub ended_some : (command : Command) (machine : Machine) (reply : Reply) → reply_of_step machine ≡ Some reply → (entry : Entry) × (ended_by command machine ≡ entry ∷ []) × (entry.command ≡ command) × (entry.reply ≡ reply)
-ended_some command (mutating m) reply gives = (record { thread = m.seat + 1; command = command; reply = reply }, ap (entries_of m.seat command) gives, refl, refl)
+ended_some command (mutating mutator) reply gives = (record { thread = mutator.seat + 1; command = command; reply = reply }, ap (entries_of mutator.seat command) gives, refl, refl)
 ended_some command _ reply gives = absurd cc
 
 -- a reply as a list
 abbrev pub listed : Option Reply → List Reply
 listed None = []
-listed (Some r) = r ∷ []
+listed (Some reply) = reply ∷ []
 
 -- the replies of the calls that a step ends
 pub ended_replies : (command : Command) (machine : Machine) → map (λ e. e.reply) (ended_by command machine) ≡ listed (reply_of_step machine)
-ended_replies command (mutating m) = by_given (given_at m.spot)
+ended_replies command (mutating mutator) = by_given (given_at mutator.spot)
   where
-    by_given : (found : Option Reply) → map (λ e. e.reply) (entries_of m.seat command found) ≡ listed found
+    by_given : (found : Option Reply) → map (λ e. e.reply) (entries_of mutator.seat command found) ≡ listed found
     by_given None = refl
     by_given (Some r) = refl
 ended_replies command _ = refl

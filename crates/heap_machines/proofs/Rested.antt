@@ -20,42 +20,42 @@ use Rattle.step_core.proofs.Theorem.EveryList.{run_sound, run_rests}
 use Rattle.heap_machines.specs.Reopened.{words_reopened, AreMadeBy}
 
 module _ (config : Config) (run : Run config) (rest : IsAtRest config (ending pause_image config run)) (counts : List ℕ) (made : AreMadeBy config.mutators (ending pause_image config run) counts) where
-  abbrev s : Stage Actor
-  s = ending pause_image config run
+  abbrev stage : Stage Actor
+  stage = ending pause_image config run
 
-  abbrev g : Graph
-  g = graph_after pause_image config run
+  abbrev graph : Graph
+  graph = graph_after pause_image config run
 
-  sound : IsSound config run.graph s (history_in pause_image config run)
+  sound : IsSound config run.graph stage (history_in pause_image config run)
   sound = run_sound pause_image heap_pauses config run
 
   -- no machine stores an image
-  no_image : (actor : Actor) (machine : Machine) → slice_get s.machines (control_number config) ≡ Some actor → actor.machine ≡ machine → image_read machine ≡ None
-  no_image actor (controlling k) here is = rest.no_image (control_number config) actor k here is
+  no_image : (actor : Actor) (machine : Machine) → slice_get stage.machines (control_number config) ≡ Some actor → actor.machine ≡ machine → image_read machine ≡ None
+  no_image actor (controlling control) here is = rest.no_image (control_number config) actor control here is
   no_image actor _ here is = refl
 
-  is_calm : image_of (slice_get s.machines (control_number config)) ≡ None
-  is_calm = by_actor (slice_get s.machines (control_number config)) refl
+  is_calm : image_of (slice_get stage.machines (control_number config)) ≡ None
+  is_calm = by_actor (slice_get stage.machines (control_number config)) refl
     where
-      by_actor : (found : Option Actor) → slice_get s.machines (control_number config) ≡ found → image_of found ≡ None
+      by_actor : (found : Option Actor) → slice_get stage.machines (control_number config) ≡ found → image_of found ≡ None
       by_actor None here = refl
       by_actor (Some a) here = no_image a a.machine here refl
 
   -- the words of the table count
-  counted : settled config s ≡ view config s.words
-  counted = ap (settled_by config s.words) is_calm
+  counted : settled config stage ≡ view config stage.words
+  counted = ap (settled_by config stage.words) is_calm
 
-  represents : Represents config (view config s.words) g (λ t. nothing)
-  represents = subst (λ (memory : Word → ℕ). Represents config memory g (λ t. nothing)) counted (run_rests pause_image heap_pauses config run.start run.graph run.begins run.events rest)
+  represents : Represents config (view config stage.words) graph (λ t. nothing)
+  represents = subst (λ (memory : Word → ℕ). Represents config memory graph (λ t. nothing)) counted (run_rests pause_image heap_pauses config run.start run.graph run.begins run.events rest)
 
-  made_is : (mutator : ℕ) → mutator < config.mutators → g.count (mutator + 1) ≡ slice_index counts mutator
+  made_is : (mutator : ℕ) → mutator < config.mutators → graph.count (mutator + 1) ≡ slice_index counts mutator
   made_is mutator below =
       let there = sound.of_heap.mutators mutator below in
       let seat : there.mutator.seat ≡ mutator = (sound.of_heap.numbers mutator there.actor there.mutator there.here).0 in
-      subst (λ (n : ℕ). g.count (n + 1) ≡ there.mutator.made) seat (sound.stands.mutators mutator there.actor there.mutator there.here).made
+      subst (λ (n : ℕ). graph.count (n + 1) ≡ there.mutator.made) seat (sound.stands.mutators mutator there.actor there.mutator there.here).made
       ∙ sym (made.each mutator there.actor below there.here.here ∙ ap made_of_machine there.here.is)
 
-  pub can_begin_again : CanBeginFrom config (words_reopened config (view config s.words)) counts g
+  pub can_begin_again : CanBeginFrom config (words_reopened config (view config stage.words)) counts graph
   can_begin_again =
       let r = represents in
       record {

@@ -83,16 +83,16 @@ module _ (config : Config) (run : Run config) (rest : (t : ℕ) (a : Actor) → 
       let m = some.mutator in
       let seat : m.seat ≡ mutator = (sound.of_heap.numbers mutator some.actor m some.here).0 in
       let at_rest : is_between_calls m.spot ≡ true = subst (λ machine. is_resting machine ≡ true) some.here.is (rest mutator some.actor below some.here.here) in
-      let w : World = world_of config (ending pause_image config run) sound.stands.block sound.stands.ghost graph in
-      subst (λ k. Points sound.stands.block (settled config (ending pause_image config run) (Root k index)) (graph.root (k + 1) index)) seat
-      (subst (λ word. Points sound.stands.block word (graph.root (m.seat + 1) index)) (root_between_calls w m.seat index m.kept m.spot at_rest)
+      let world : World = world_of config (ending pause_image config run) sound.stands.block sound.stands.ghost graph in
+      subst (λ mutator. Points sound.stands.block (settled config (ending pause_image config run) (Root mutator index)) (graph.root (mutator + 1) index)) seat
+      (subst (λ word. Points sound.stands.block word (graph.root (m.seat + 1) index)) (root_between_calls world m.seat index m.kept m.spot at_rest)
       ((sound.stands.mutators mutator some.actor m some.here).roots index small))
 
   -- the words stand for the graph after the run
   pub words_stand : WordsStand config.region_words (heap_in config (ending pause_image config run).words) (roots_in config (ending pause_image config run).words) (pins_in config (ending pause_image config run).words) names graph
   words_stand = table_stands config (ending pause_image config run).words sound.stands.block sound.stands.ghost graph sound.of_heap.words
       (subst (λ (memory : Word → ℕ). Shared config (record { memory = memory; block = sound.stands.block; ghost = sound.stands.ghost; graph = graph })) table_counts sound.stands.shared)
-      (λ t i below small. subst (λ (memory : Word → ℕ). Points sound.stands.block (memory (Root t i)) (graph.root (t + 1) i)) table_counts (own_roots t i below small))
+      (λ mutator index below small. subst (λ (memory : Word → ℕ). Points sound.stands.block (memory (Root mutator index)) (graph.root (mutator + 1) index)) table_counts (own_roots mutator index below small))
       sound.no_more sound.no_more_pins
 
   -- the words of the image, as the table has them

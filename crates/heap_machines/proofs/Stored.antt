@@ -12,7 +12,7 @@ none_at memory (State seat) = grind (arith, nat_tests)
 none_at memory _ = refl
 
 pub none_out : (memory : Word → ℕ) → memory ≡ words_left_out 0 memory
-none_out memory = fun_ext (λ w. none_at memory w)
+none_out memory = fun_ext (λ word. none_at memory word)
 
 one_more : (seats seat x : ℕ) → (if seats == seat then 0 else (if nat_lt seat seats then 0 else x)) ≡ (if nat_lt seat (seats + 1) then 0 else x)
 one_more seats seat x = grind (arith, nat_tests)
@@ -22,7 +22,7 @@ next_at seats memory (State seat) = one_more seats seat (memory (State seat))
 next_at seats memory _ = refl
 
 pub next_out : (seats : ℕ) (memory : Word → ℕ) → write (words_left_out seats memory) (State seats) 0 ≡ words_left_out (seats + 1) memory
-next_out seats memory = fun_ext (λ w. next_at seats memory w)
+next_out seats memory = fun_ext (λ word. next_at seats memory word)
 
 -- a seat that there is not has no word
 all_out : (below : Bool) (x : ℕ) → (if below then 0 else (if below then x else 0)) ≡ 0
@@ -37,4 +37,4 @@ stored_at config words End = refl
 stored_at config words _ = refl
 
 pub all_stored : (config : Config) (words : List ℕ) → write (write (write (words_left_out (config.mutators + config.helpers) (view config words)) Pause 0) Left config.mutators) End 0 ≡ words_reopened config (view config words)
-all_stored config words = fun_ext (λ w. stored_at config words w)
+all_stored config words = fun_ext (λ word. stored_at config words word)

@@ -45,22 +45,22 @@ order_of_script script calls machine = refl
 
 -- it keeps its role
 pub role_stays : (change : Change) (config : Config) (order : Order) (got : ℕ) (machine : Machine) → is_mutating (machine_after change config order got machine) ≡ is_mutating machine
-role_stays change config order got (mutating m) = refl
+role_stays change config order got (mutating mutator) = refl
 role_stays change config order got _ = refl
 
 -- only a mutator rests between calls
 pub rest_is_mutating : (machine : Machine) → is_resting machine ≡ true → is_mutating machine ≡ true
-rest_is_mutating (mutating m) rest = refl
+rest_is_mutating (mutating mutator) rest = refl
 rest_is_mutating _ rest = absurd cc
 
 -- whom no command is for does the same whatever would follow
 pub order_alike : (machine : Machine) (found other_found : Option Command) → is_mutating machine ≡ false → order_for found machine ≡ order_for other_found machine
-order_alike (mutating m) found other_found other = absurd cc
+order_alike (mutating mutator) found other_found other = absurd cc
 order_alike _ found other_found other = refl
 
 -- who may be given a command rests
 pub begins_at_rest : (machine : Machine) → may_begin machine ≡ true → is_resting machine ≡ true
-begins_at_rest (mutating m) may = by_spot m.spot may
+begins_at_rest (mutating mutator) may = by_spot mutator.spot may
   where
     by_spot : (spot : Spot) → takes_commands spot ≡ true → is_between_calls spot ≡ true
     by_spot Rest may = refl
@@ -77,14 +77,14 @@ turn_is_some machine next holds busy takes = ap is_some (turn_in_call machine ne
     by_takes false = refl
 
 pub turn_at_rest : (machine : Machine) (next : Option Command) → may_begin machine ≡ true → order_for next machine ≡ Some (next_order next)
-turn_at_rest (mutating m) next rest = rw rest refl
+turn_at_rest (mutating mutator) next rest = rw rest refl
 turn_at_rest _ next rest = absurd cc
 
 -- between two calls nothing is done without an order
 pub rest_takes : (machine : Machine) → is_resting machine ≡ true → takes_of machine Nothing ≡ false
-rest_takes (mutating m) rest = by_spot m.spot rest
+rest_takes (mutating mutator) rest = by_spot mutator.spot rest
   where
-    by_spot : (spot : Spot) → is_between_calls spot ≡ true → takes_at spot m.made Nothing ≡ false
+    by_spot : (spot : Spot) → is_between_calls spot ≡ true → takes_at spot mutator.made Nothing ≡ false
     by_spot Rest rest = refl
     by_spot (Ended reply) rest = refl
     by_spot Gone rest = refl
@@ -105,5 +105,5 @@ stands_in_call mutator next place busy = ap (is_machine_at place (mutating mutat
 
 -- a mutator that is not idle and has no order is in a call
 pub busy_without_order : (holds : Bool) (order : Order) → order ≡ Nothing → holds && is_nothing order ≡ false → holds ≡ false
-busy_without_order true order none busy = absurd (let e : is_nothing order ≡ true = ap is_nothing none in cc)
+busy_without_order true order none busy = absurd (let same : is_nothing order ≡ true = ap is_nothing none in cc)
 busy_without_order false order none busy = refl

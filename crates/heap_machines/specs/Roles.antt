@@ -10,7 +10,7 @@ pub use Rattle.step_core.specs.Machines.{is_mutating, reply_of_step}
 -- the phase that the control's last pause has chosen, if it is the control
 abbrev pub phase_by : Option Controlling → Option ℕ
 phase_by None = None
-phase_by (Some k) = Some k.phase
+phase_by (Some control) = Some control.phase
 
 abbrev pub phase_in : Machine → Option ℕ
 phase_in machine = phase_by (control_in machine)
@@ -18,7 +18,7 @@ phase_in machine = phase_by (control_in machine)
 -- of the control, if it is one
 abbrev pub CanShowBy : Config → List ℕ → Option Controlling → Type 0
 CanShowBy config table None = ⊥
-CanShowBy config table (Some k) = IsLoadedFrom config table k.spot k.image
+CanShowBy config table (Some control) = IsLoadedFrom config table control.spot control.image
 
 -- It is the control, and can work on all words of the image of a table: it has loaded no other words, and stores none.
 abbrev pub CanShow : Config → List ℕ → Machine → Type 0

@@ -14,17 +14,17 @@ use Rattle.step_core.specs.Actor.{Machine, mutating, controlling}
 
 -- of a mutator, the reply of its call in progress
 abbrev pub reply_settled : (Word → ℕ) → Machine → Option Reply
-reply_settled memory (mutating m) = told_of memory m
+reply_settled memory (mutating mutator) = told_of memory mutator
 reply_settled memory _ = None
 
 -- the command of its last call
 abbrev pub command_in : Machine → Option Command
-command_in (mutating m) = Some m.kept.command
+command_in (mutating mutator) = Some mutator.kept.command
 command_in _ = None
 
 -- The mutator to which the heap is said to be full, where a number is stored over a word: the answer 1 over none.
 abbrev pub refused_word : Word → (before after : ℕ) → Option ℕ
-refused_word (Answer t) before after = if (before == 0) && (after == 1) then Some t else None
+refused_word (Answer mutator) before after = if (before == 0) && (after == 1) then Some mutator else None
 refused_word _ before after = None
 
 -- by an access
@@ -39,5 +39,5 @@ refused_at config words _ image = None
 
 -- and by that of a machine
 abbrev pub refused_by : Config → List ℕ → Machine → Option ℕ
-refused_by config words (controlling k) = refused_at config words k.spot k.image
+refused_by config words (controlling control) = refused_at config words control.spot control.image
 refused_by config words _ = None

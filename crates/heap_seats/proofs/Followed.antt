@@ -36,7 +36,7 @@ use Rattle.heap_seats.specs.declared.renewing.Renewal.TheVariants.{Renewed, Pinn
 use Rattle.heap_seats.specs.declared.seat.Seat.{Seat}
 use Rattle.heap_seats.specs.FreshSeats.{AreFreshSeats}
 use Rattle.heap_seats.specs.Renewed.{KeepsNames, Becomes, BeginSeats, IsGraphLeft}
-use Rattle.heap_seats.specs.Renewing.{IsLeftRenewable, IsLeftKept}
+use Rattle.heap_seats.specs.RenewalStage.{IsLeftRenewable, IsLeftKept}
 
 pub if_ok : {A E : Type 0} (r : Result A E) (P Q : A → Type 0) → ((x : A) → P x → Q x) → IfOk r P → IfOk r Q
 if_ok (Ok x) P Q goes is = goes x is
@@ -95,10 +95,10 @@ module _ (config : Config) (image : Image) (sizes : images.config_of image ≡ c
       start = start_of_image;
       fresh = fresh_seats seats fresh;
       goes_on = start_word End ∙ placed.others End refl;
-      graphs = λ g shows. record {
+      graphs = λ before shows. record {
         graph = text_graph (text_anew text) counts;
         begins = image_begins (text_graph (text_anew text) counts) new_can;
-        becomes = record { unpinned = nothing_pinned text config.mutators g shows whole.threads none; names = name_anew (names_of text); same = same_anew config text whole threads counts are g shows; no_pins = text_unpinned (text_anew text) counts };
+        becomes = record { unpinned = nothing_pinned text config.mutators before shows whole.threads none; names = name_anew (names_of text); same = same_anew config text whole threads counts are before shows; no_pins = text_unpinned (text_anew text) counts };
       };
     }
 
@@ -126,5 +126,5 @@ module _ (config : Config) (image : Image) (sizes : images.config_of image ≡ c
       start = start_of_image;
       fresh = fresh_seats seats fresh;
       goes_on = start_word End ∙ ap (λ (memory : Word → ℕ). memory End) words;
-      graphs = λ g kept. record { graph = g; begins = image_begins g (again g kept.is_left); becomes = becomes_kept why g kept.keeps };
+      graphs = λ before kept. record { graph = before; begins = image_begins before (again before kept.is_left); becomes = becomes_kept why before kept.keeps };
     }

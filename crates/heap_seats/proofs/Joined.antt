@@ -13,6 +13,9 @@ use Rattle.shen_graph.specs.Order.{is_nothing, hinting}
 use Rattle.mutator.specs.Orders.{is_between_calls}
 use Rattle.shared_table.specs.Views.{View, machine_of, whole, merged, whichever_is_there}
 use Rattle.std.proofs.lemmas.List.{length-map}
+use Rattle.shen_graph.proofs.Options.{none_if_never, same_some}
+use Rattle.shen_graph.proofs.Lists.{element_before, last_element}
+use Rattle.heap_words.proofs.Lists.{element_at}
 use Rattle.shared_table.proofs.Kept.{kept_here, length-kept}
 use Rattle.shared_table.proofs.ViewsShow.{machine_of-merged, machine_of-whole}
 use Rattle.heap_machines.specs.Pause.{pause_image}
@@ -45,21 +48,13 @@ use Rattle.heap_seats.specs.GivenUp.{AreMachinesOf, AreJoined, AreAllSeats, AreO
 use Rattle.heap_seats.specs.Histories.{BeginsRenewable, led, OfEachBegun}
 use Rattle.heap_seats.proofs.Histories.{run_is_legal}
 use Rattle.heap_seats.proofs.Known.{has_seen}
-use Rattle.heap_seats.proofs.Opened.{get_last, get_init}
 
 -- the machine of a seat
 seat_there : (seat : Seat) → machine_of (view_of seat.bundle) seat.number ≡ Some (actor_in seat)
 seat_there seat = let a = in_view seat.bundle seat.number seat.here in a.1 ∙ ap (λ (actor : Actor). Some actor) (sym (ap (λ o. unwrap_or o nobody) a.1))
 
-seat_only : (seat : Seat) (k : ℕ) (actor : Actor) → machine_of (view_of seat.bundle) k ≡ Some actor → k ≡ seat.number
-seat_only seat k actor there = seat.only k (has_seen seat.bundle k ∙ ap is_some there)
-
-none_at : {A : Type 0} (found : Option A) → ((a : A) → found ≡ Some a → ⊥) → found ≡ None
-none_at None never = refl
-none_at (Some a) never = absurd (never a refl)
-
-pub same_some : {A : Type 0} (x y : A) → Some x ≡ Some y → x ≡ y
-same_some x y is = cc
+seat_only : (seat : Seat) (number : ℕ) (actor : Actor) → machine_of (view_of seat.bundle) number ≡ Some actor → number ≡ seat.number
+seat_only seat number actor there = seat.only number (has_seen seat.bundle number ∙ ap is_some there)
 
 one_of : {A : Type 0} (y : A) (index : ℕ) (x : A) → slice_get (y ∷ []) index ≡ Some x → y ≡ x
 one_of y zero x is = same_some y x is
@@ -68,8 +63,8 @@ one_of y (suc index) x is = absurd cc
 -- one seat alone
 pub machines_one : (seat : Seat) → AreMachinesOf (seat ∷ []) (view_of seat.bundle)
 machines_one other_seat = record {
-  each = λ k t there. let seat = one_of other_seat k t there in subst (λ (seat : Seat). machine_of (view_of other_seat.bundle) seat.number ≡ Some (actor_in seat)) seat (seat_there other_seat);
-  only = λ number absent. none_at (machine_of (view_of other_seat.bundle) number) (λ a is. absent 0 other_seat refl (sym (seat_only other_seat number a is)));
+  each = λ index t there. let seat = one_of other_seat index t there in subst (λ (seat : Seat). machine_of (view_of other_seat.bundle) seat.number ≡ Some (actor_in seat)) seat (seat_there other_seat);
+  only = λ number absent. none_if_never (machine_of (view_of other_seat.bundle) number) (λ actor is. absent 0 other_seat refl (sym (seat_only other_seat number actor is)));
 }
 
 pub joined_one : (seat : Seat) → AreJoined (arc_value seat.heap) (seat ∷ []) seat.bundle
@@ -108,22 +103,17 @@ module _ (before : List Seat) (seat : Seat) (old new : View Actor) (theirs : Are
 
   only_these : (number : ℕ) → HaveNot (before ++ seat ∷ []) number → machine_of new number ≡ None
   only_these number none =
-      under number ∙ none_there (machine_of old number) (machine_of (view_of seat.bundle) number) (theirs.only number (λ k t is. none k t (get_init before (seat ∷ []) k t is)))
-      (none_at (machine_of (view_of seat.bundle) number) (λ a is. none (length before) seat (get_last before seat) (sym (seat_only seat number a is))))
+      under number ∙ none_there (machine_of old number) (machine_of (view_of seat.bundle) number) (theirs.only number (λ index t is. none index t (element_before before (seat ∷ []) index t is)))
+      (none_if_never (machine_of (view_of seat.bundle) number) (λ actor is. none (length before) seat (last_element before seat) (sym (seat_only seat number actor is))))
 
   pub machines_more : AreMachinesOf (before ++ seat ∷ []) new
   machines_more = record { each = λ k t there. each_there k t (in_both before (seat ∷ []) k t there); only = only_these }
 
 pub joined_more : (heap : Heap) (before : List Seat) (seat : Seat) (old new : Bundle) → AreJoined heap before old → HaveNot before seat.number → IsBundleOf new heap → view_of new ≡ merged (view_of old) (view_of seat.bundle)
     → AreJoined heap (before ++ seat ∷ []) new
-joined_more heap before seat old new joined absent of view = record { of = of; machines = machines_more before seat (view_of old) (view_of new) joined.machines absent view }
+joined_more heap before seat old new joined absent bundle_of view = record { of = bundle_of; machines = machines_more before seat (view_of old) (view_of new) joined.machines absent view }
 
 -- ---- all of them
-
-pub some_at : {A : Type 0} (xs : List A) (index : ℕ) → index < length xs → (x : A) × (slice_get xs index ≡ Some x)
-some_at [] index below = absurd (omega (arith, below))
-some_at (x ∷ xs) zero below = (x, refl)
-some_at (x ∷ xs) (suc index) below = some_at xs index (omega (arith, below))
 
 -- A machine that is no mutator and makes no step has ended, also where it was given a hint: a hint stands only where it is taken.
 no_hint_left : (hints : Bool) (hint : Option ℕ) (goes : Bool) → ((address : ℕ) → hint ≡ Some address → hints ≡ true) → (is_for_working hints (hinting hint) && goes) ≡ false → goes ≡ false
@@ -192,7 +182,7 @@ module _ (config : Config) (heap : Heap) (all : List Seat) (view : View Actor) (
 
   -- the seat of each number
   seat_under : (other_seat : ℕ) → other_seat < seat_count config.mutators config.helpers → (seat : Seat) × (slice_get all other_seat ≡ Some seat)
-  seat_under seat inside = some_at all seat (let count = seats.count in omega (arith, inside, count))
+  seat_under seat inside = element_at all seat (let count = seats.count in omega (arith, inside, count))
 
   -- the heap has these sizes
   heap_is : (index : ℕ) (seat : Seat) → slice_get all index ≡ Some seat → heap.config ≡ config
@@ -267,7 +257,7 @@ module _ (config : Config) (heap : Heap) (all : List Seat) (bundle : Bundle) (se
   pub control_idle : AreOver config all → closed.IsControlIdle bundle
   control_idle over a there =
       let at = control_number config in
-      let s = some_at all at (let count = seats.count in omega (arith, count)) in
+      let s = element_at all at (let count = seats.count in omega (arith, count)) in
       let here : machine_of (view_of bundle) at ≡ Some a = ap (λ (config : Config). machine_of (view_of bundle) (control_number config)) (sym sizes) ∙ there in
       let same : actor_in s.0 ≡ a = same_some (actor_in s.0) a (sym (each_is config heap all (view_of bundle) seats joined.machines at s.0 s.1) ∙ here) in
       let number = seats.number at s.0 s.1 in

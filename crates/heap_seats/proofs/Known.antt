@@ -23,7 +23,7 @@ use Rattle.heap_seats.specs.Histories.{BeginsRenewable}
 use Rattle.heap_seats.specs.Known.{HaveRun, HasOnly}
 
 pub stays_of : (heap : Heap) (old new : Bundle) → IsSameBundle old new → IsBundleOf old heap → IsBundleOf new heap
-stays_of heap old new same of = record { table = same.table ∙ of.table; config = same.config ∙ of.config; key = ap (λ k. k.value) same.key ∙ of.key }
+stays_of heap old new same bundle_of = record { table = same.table ∙ bundle_of.table; config = same.config ∙ bundle_of.config; key = ap (λ k. k.value) same.key ∙ bundle_of.key }
 
 -- memory has the machines of the view
 pub has_seen : (bundle : Bundle) (number : ℕ) → is_some (machine_of (machines_of bundle) number) ≡ is_some (machine_of (view_of bundle) number)

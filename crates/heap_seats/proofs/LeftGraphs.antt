@@ -1,10 +1,11 @@
 -- The graph that a heap was left with can be named anew, and its text placed.
-use Rattle.std.proofs.Common.{◌≡◌, ◌≢◌, ◌<◌, ◌+◌, ℕ, Bool, true, false, ◌&&◌, List, length, refl, sym, ap, ◌∙◌, subst, arith}
+use Rattle.std.proofs.Common.{◌≡◌, ◌≢◌, ◌<◌, ◌+◌, ℕ, Bool, true, false, List, length, refl, sym, ap, ◌∙◌, subst, arith}
 use Rattle.std.specs.Prelude.{◌==◌, slice_index, slice_set}
 use Rattle.std.proofs.lemmas.Bool.Decides.{nat_tests}
 use Rattle.std.proofs.lemmas.List.{get_or-set_same, get_or-set_other}
 use Rattle.std.proofs.Math.Logic.{∥∥₁_map}
 use Rattle.std.proofs.lemmas.List.Elements.{All-weaker}
+use Rattle.heap_words.proofs.Bools.{first_true}
 use Rattle.heap_words.specs.declared.config.Config.{Config}
 use Rattle.shen_graph.specs.declared.order.Order.{Order}
 use Rattle.shen_graph.specs.GraphText.{Text, names_of}
@@ -26,12 +27,8 @@ use Rattle.graph_placing.proofs.Renewables.{history_renewable}
 use Rattle.graph_placing.proofs.ShownRenewable.{placeable, of_threads}
 use Rattle.table_heap.proofs.Core.{run_from}
 use Rattle.heap_seats.specs.Histories.{BeginsRenewable, led}
-use Rattle.heap_seats.specs.Renewing.{IsLeftRenewable}
+use Rattle.heap_seats.specs.RenewalStage.{IsLeftRenewable}
 use Rattle.heap_seats.proofs.Merely.{placeable_merely, threads_merely}
-
-first_true : (holds other_holds : Bool) → (holds && other_holds) ≡ true → holds ≡ true
-first_true true holds is = refl
-first_true false holds is = is
 
 entry_of : (threads : ℕ) (entry : Entry) → IsSettled threads entry → IsEntryOf threads entry
 entry_of threads entry settled = record {
@@ -52,17 +49,17 @@ left_renewable config start left events ends some = ∥∥₁_map some (λ b.
     })
 
 module _ (config : Config) (left : Stage Actor) (some : ∥ IsLeftRenewable config left ∥₁) (text : Text) (shows : (run : Run config) → ending pause_image config run ≡ left → ShowsGraph text config.mutators (graph_after pause_image config run)) where
-  can : (l : IsLeftRenewable config left) → IsRenewable config.mutators (graph_after pause_image config l.is_left.run)
-  can l = subst (IsRenewable config.mutators) (sym l.is_left.graph) l.renewable
+  can : (left_renewable : IsLeftRenewable config left) → IsRenewable config.mutators (graph_after pause_image config left_renewable.is_left.run)
+  can left_renewable = subst (IsRenewable config.mutators) (sym left_renewable.is_left.graph) left_renewable.renewable
 
   pub left_placeable : IsPlaceable config text
-  left_placeable = placeable_merely config text (∥∥₁_map some (λ l. placeable config text (graph_after pause_image config l.is_left.run) (can l) (shows l.is_left.run l.is_left.ends)))
+  left_placeable = placeable_merely config text (∥∥₁_map some (λ left_renewable. placeable config text (graph_after pause_image config left_renewable.is_left.run) (can left_renewable) (shows left_renewable.is_left.run left_renewable.is_left.ends)))
 
   pub left_threads : AreOfThreads config.mutators (names_of text)
-  left_threads = threads_merely config.mutators (names_of text) (∥∥₁_map some (λ l. of_threads config text (graph_after pause_image config l.is_left.run) (can l) (shows l.is_left.run l.is_left.ends)))
+  left_threads = threads_merely config.mutators (names_of text) (∥∥₁_map some (λ left_renewable. of_threads config text (graph_after pause_image config left_renewable.is_left.run) (can left_renewable) (shows left_renewable.is_left.run left_renewable.is_left.ends)))
 
 -- one mutator's count more is noted
-pub noted_next : (counts : List ℕ) (made : ℕ → ℕ) (at x : ℕ) → at < length counts → x ≡ made at → ((index : ℕ) → index < at → slice_index counts index ≡ made index) → (index : ℕ) → index < at + 1 → slice_index (slice_set counts at x) index ≡ made index
+pub noted_next : (counts : List ℕ) (made : ℕ → ℕ) (other_index x : ℕ) → other_index < length counts → x ≡ made other_index → ((index : ℕ) → index < other_index → slice_index counts index ≡ made index) → (index : ℕ) → index < other_index + 1 → slice_index (slice_set counts other_index x) index ≡ made index
 noted_next counts made at x within is so_far index below = by_number (index == at) refl
   where
     by_number : (holds : Bool) → (index == at) ≡ holds → slice_index (slice_set counts at x) index ≡ made index

@@ -36,7 +36,7 @@ pub record GoesOn (first now : Seat) (made : ℕ) : Type 0 where
   pub moved : 0 < made → may_begin (machine_of_seat now) ≡ false
 
 was_then : (first now new : Seat) → IsAsItWas first now → IsAsItWas now new → IsAsItWas first new
-was_then first now new one two = record { actor = two.actor ∙ one.actor; machine = two.machine ∙ one.machine; order = two.order ∙ one.order; steps = two.steps ∙ one.steps }
+was_then first now new as_it_was two = record { actor = two.actor ∙ as_it_was.actor; machine = two.machine ∙ as_it_was.machine; order = two.order ∙ as_it_was.order; steps = two.steps ∙ as_it_was.steps }
 
 pub goes_first : (seat : Seat) → GoesOn seat seat 0
 goes_first seat = record {
@@ -50,7 +50,7 @@ goes_first seat = record {
 }
 
 pub same_on : (first now new : Seat) → IsSameSeat first now → IsSameSeat now new → IsSameSeat first new
-same_on first now new one two = record { config = two.config ∙ one.config; number = two.number ∙ one.number; heap = two.heap ∙ one.heap }
+same_on first now new same_seat two = record { config = two.config ∙ same_seat.config; number = two.number ∙ same_seat.number; heap = two.heap ∙ same_seat.heap }
 
 -- where its heap began
 pub start_is : (seat : Seat) → start_in seat.bundle ≡ start_of_seat seat
@@ -84,7 +84,7 @@ goes_more first now new made said on same step is = record {
   calls = calls_after first now new made said None on step (ap (λ (x : Stepped). given_by x (machine_of_seat new)) is) ∙ append-nil (calls_of first);
   doing = step.doing ∙ on.doing;
   steps = let steps = step.steps in let before = on.steps in omega (arith, steps, before);
-  went = subst (Went first new (made + 1)) (ap (λ (x : Stepped). replicate made stepped.More ++ x ∷ []) is ∙ replicate_more made stepped.More) (went_more first now new made (replicate made stepped.More) said on.same on.went step);
+  went = subst (Went first new (made + 1)) (ap (λ (other_stepped : Stepped). replicate made stepped.More ++ other_stepped ∷ []) is ∙ replicate_more made stepped.More) (went_more first now new made (replicate made stepped.More) said on.same on.went step);
   unmoved = λ none. absurd (omega (arith, none));
   moved = λ some.
       ap may_begin step.machine ∙ busy_step (config_of now) (order_in now) (machine_of_seat now) step.got (sym step.answers ∙ is);
@@ -116,11 +116,11 @@ seat_role seat =
 
 -- only a mutator has a reply, or may be given an order
 reply_is_mutators : (machine : Machine) (reply : Reply) → reply_in machine ≡ Some reply → is_mutating machine ≡ true
-reply_is_mutators (mutating m) reply is = refl
+reply_is_mutators (mutating mutator) reply is = refl
 reply_is_mutators _ reply is = absurd cc
 
 begins_is_mutators : (machine : Machine) → may_begin machine ≡ true → is_mutating machine ≡ true
-begins_is_mutators (mutating m) may = refl
+begins_is_mutators (mutating mutator) may = refl
 begins_is_mutators _ may = absurd cc
 
 may_of_free : (turn may : Bool) → progress_at (state_by turn may) ≡ progress.Idle → may ≡ true

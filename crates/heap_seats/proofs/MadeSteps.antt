@@ -70,8 +70,8 @@ went_more first now new made before said same went step =
       each =
           said_more config order went.words step.got start
           ∙ ap (λ (machine : Machine). said_through config order went.words start ++ said_of_step config (order_left order went.words) machine step.got ∷ []) (sym went.machine)
-          ∙ ap (λ (o : Order). said_through config order went.words start ++ said_of_step config o (machine_of_seat now) step.got ∷ []) (sym went.order)
-          ∙ ap (λ (k : Config). said_through config order went.words start ++ said_of_step k (order_in now) (machine_of_seat now) step.got ∷ []) (sym same.config)
+          ∙ ap (λ (other_order : Order). said_through config order went.words start ++ said_of_step config other_order (machine_of_seat now) step.got ∷ []) (sym went.order)
+          ∙ ap (λ (other_config : Config). said_through config order went.words start ++ said_of_step other_config (order_in now) (machine_of_seat now) step.got ∷ []) (sym same.config)
           ∙ ap (λ (x : Stepped). said_through config order went.words start ++ x ∷ []) (sym step.answers) ∙ ap (λ (xs : List Stepped). xs ++ said ∷ []) went.each;
     }
 
@@ -104,7 +104,7 @@ gone_then config mutator got (Ended reply) takes = refl
 gone_then config mutator got _ takes = absurd cc
 
 busy_takes_none : (machine : Machine) → is_resting machine ≡ false → may_begin machine ≡ false
-busy_takes_none (mutating m) busy = by_spot m.spot busy
+busy_takes_none (mutating mutator) busy = by_spot mutator.spot busy
   where
     by_spot : (spot : Spot) → is_between_calls spot ≡ false → takes_commands spot ≡ false
     by_spot Rest busy = absurd cc
@@ -125,7 +125,7 @@ goes_on_busy config End got mutator takes more = gone_then config mutator got mu
 goes_on_busy config (Hint address) got mutator takes more = absurd (never_hinted mutator.spot mutator.made address takes)
 
 by_role : (config : Config) (order : Order) (machine : Machine) (got : ℕ) → takes_of machine order ≡ true → says config order machine got ≡ stepped.More → may_begin (machine_after pause_image config order got machine) ≡ false
-by_role config order (mutating m) got takes more = goes_on_busy config order got m takes more
+by_role config order (mutating mutator) got takes more = goes_on_busy config order got mutator takes more
 by_role config order _ got takes more = refl
 
 pub busy_step : (config : Config) (order : Order) (machine : Machine) (got : ℕ) → said_of_step config order machine got ≡ stepped.More → may_begin (machine_after pause_image config order got machine) ≡ false

@@ -15,19 +15,19 @@ use Rattle.shen_graph.proofs.PlainLemmas.{same_name-true, same_name-itself}
 use Rattle.graph_placing.specs.PlaceableText.{IsPlaceable}
 use Rattle.graph_placing.specs.Renaming.{AreOfThreads}
 
-later : (name : Name) (ms : List Name) (other_name : Name) → same_name name other_name ≡ false → Contains (name ∷ ms) other_name → Contains ms other_name
-later name ms other_name other there = by_place there.0 there.1 there.2
+later : (name : Name) (names : List Name) (other_name : Name) → same_name name other_name ≡ false → Contains (name ∷ names) other_name → Contains names other_name
+later name names other_name other there = by_place there.0 there.1 there.2
   where
-    by_place : (index : ℕ) → index < length (name ∷ ms) → slice_index_or (name ∷ ms) index other_name ≡ other_name → Contains ms other_name
+    by_place : (index : ℕ) → index < length (name ∷ names) → slice_index_or (name ∷ names) index other_name ≡ other_name → Contains names other_name
     by_place zero below is = absurd (false≢true (sym other ∙ ap (λ (name : Name). same_name name other_name) is ∙ same_name-itself other_name))
     by_place (suc index) below is = (index, omega (arith, below), is)
 
 contains_merely : (names : List Name) (name : Name) → ∥ Contains names name ∥₁ → Contains names name
 contains_merely [] name some = absurd (∥∥₁_elim some (hlevel) (λ there. let below = there.1 in omega (arith, below)))
-contains_merely (m ∷ ms) name some = ⊎_elim
-    (λ (same : same_name m name ≡ true). (0, omega arith, same_name-true m name same))
-    (λ (other : same_name m name ≡ false). let rest = contains_merely ms name (∥∥₁_map some (later m ms name other)) in (suc rest.0, omega (arith, rest.1), rest.2))
-    (cases_Bool (same_name m name))
+contains_merely (other_name ∷ names) name some = ⊎_elim
+    (λ (same : same_name other_name name ≡ true). (0, omega arith, same_name-true other_name name same))
+    (λ (other : same_name other_name name ≡ false). let rest = contains_merely names name (∥∥₁_map some (later other_name names name other)) in (suc rest.0, omega (arith, rest.1), rest.2))
+    (cases_Bool (same_name other_name name))
 
 before_merely : (name other_name : Name) → ∥ IsBefore name other_name ∥₁ → IsBefore name other_name
 before_merely name other_name some = ⊎_elim
@@ -40,7 +40,7 @@ before_merely name other_name some = ⊎_elim
 
 in_order_merely : (names : List Name) → ∥ InOrder names ∥₁ → InOrder names
 in_order_merely [] some = tt
-in_order_merely (n ∷ []) some = tt
+in_order_merely (name ∷ []) some = tt
 in_order_merely (n ∷ m ∷ ns) some = (before_merely n m (∥∥₁_map some (λ order. order.0)), in_order_merely (m ∷ ns) (∥∥₁_map some (λ order. order.1)))
 
 pub placeable_merely : (config : Config) (text : Text) → ∥ IsPlaceable config text ∥₁ → IsPlaceable config text

@@ -1,5 +1,5 @@
 -- Seats of a heap before its first event.
-use Rattle.std.proofs.Common.{◌≡◌, ◌<◌, ℕ, zero, suc, ◌+◌, ◌-◌, Bool, true, false, List, [], ◌∷◌, ◌++◌, length, Option, Some, None, refl, sym, ap, ◌∙◌, subst, arith}
+use Rattle.std.proofs.Common.{◌≡◌, ◌<◌, ℕ, ◌+◌, ◌-◌, Bool, true, false, List, [], ◌∷◌, ◌++◌, length, Option, Some, None, refl, sym, ap, ◌∙◌, subst, arith}
 use Rattle.std.specs.Prelude.{slice_get, unwrap_or, ◌%◌, if◌then◌else◌}
 use mathlib.Core.List.{reverse}
 use Rattle.std.specs.Option.{is_some}
@@ -8,6 +8,8 @@ use Rattle.std.proofs.Math.Logic.{∥∥₁_elim, ∥∥₁_map}
 use Rattle.std.proofs.Math.Nat.{mod-eq_of_lt, ℕ_set}
 use Rattle.std.proofs.lemmas.List.{get_or-reverse, length-reverse}
 use Rattle.std.proofs.lemmas.Option.{slice_get_within, slice_get-get_or, get_or_from_slice_get}
+use Rattle.shen_graph.proofs.Options.{some_if_is_some}
+use Rattle.shen_graph.proofs.Lists.{element_before, last_element, each_with}
 use Rattle.heap_words.specs.declared.config.Config.{Config}
 use Rattle.heap_words.specs.Ranges.{seat_count}
 use Rattle.heap_words.specs.Steps.{Stage, HasReached}
@@ -32,10 +34,6 @@ seats_in config = seat_count config.mutators config.helpers
 
 abbrev pub dealt_in : Config → Stage Actor → ℕ → View Actor
 dealt_in config start number = dealt_to (seats_in config) number (whole start.machines)
-
-some_of : {A : Type 0} (found : Option A) → is_some found ≡ true → (a : A) × (found ≡ Some a)
-some_of None is = absurd cc
-some_of (Some a) is = (a, refl)
 
 default_or : {A : Type 0} (found : Option A) (d : A) → ((x : A) → found ≡ Some x → x ≡ d) → unwrap_or found d ≡ d
 default_or None d each = refl
@@ -86,7 +84,7 @@ module _ (config : Config) (start : Stage Actor) (begins : ∥ BeginsRenewable c
   module _ (heap : Heap) (b : Bundle) (number : ℕ) (fresh : IsFresh heap b (dealt_in config start number)) where
     pub fresh_only : HasOnly b number
     fresh_only k here =
-        let a = some_of (machine_of (view_of b) k) (sym (has_seen b k) ∙ here) in
+        let a = some_if_is_some (machine_of (view_of b) k) (sym (has_seen b k) ∙ here) in
         dealt_only number k a.0 (ap (λ v. machine_of v k) (sym fresh.machines) ∙ a.1)
 
     module _ (inside : number < seats_in config) where
@@ -124,15 +122,6 @@ get_reversed {A = A} xs index x there =
     let below : index < length xs = omega (arith, within, length-reverse xs) in
     slice_get-get_or xs (length xs - 1 - index) x (omega (arith, below)) ∙ ap (λ (y : A). Some y) (sym (get_or-reverse xs index x below) ∙ get_or_from_slice_get (reverse xs) index x x there)
 
-pub get_last : {A : Type 0} (xs : List A) (x : A) → slice_get (xs ++ x ∷ []) (length xs) ≡ Some x
-get_last [] x = refl
-get_last (y ∷ ys) x = get_last ys x
-
-pub get_init : {A : Type 0} (xs ys : List A) (index : ℕ) (x : A) → slice_get xs index ≡ Some x → slice_get (xs ++ ys) index ≡ Some x
-get_init [] ys index x there = absurd cc
-get_init (y ∷ xs) ys zero x there = there
-get_init (y ∷ xs) ys (suc index) x there = get_init xs ys index x there
-
 -- the bundles that are left, the last one for the next seat, and the seats so far
 pub record Opens (config : Config) (heap : Heap) (bundles : List Bundle) (seats : List Seat) (number : ℕ) : Type 0 where
   pub count : length bundles + number ≡ seats_in config
@@ -152,7 +141,7 @@ pub last_fresh : (config : Config) (heap : Heap) (before after : List Bundle) (b
 last_fresh config heap before after bundle seats number opens is =
     let long : length before ≡ length after + 1 = ap length is ∙ Rattle.std.proofs.lemmas.List.length-append after (bundle ∷ []) in
     let which : seats_in config - 1 - length after ≡ number = omega (arith, long, opens.count) in
-    subst (λ n. IsFresh heap bundle (dealt_in config (start_of_heap heap) n)) which (opens.left (length after) bundle (ap (λ xs. slice_get xs (length after)) is ∙ get_last after bundle))
+    subst (λ n. IsFresh heap bundle (dealt_in config (start_of_heap heap) n)) which (opens.left (length after) bundle (ap (λ xs. slice_get xs (length after)) is ∙ last_element after bundle))
 
 pub opens_next : (config : Config) (heap : Heap) (before after : List Bundle) (bundle : Bundle) (seats : List Seat) (seat : Seat) (number : ℕ) → Opens config heap before seats number → before ≡ after ++ bundle ∷ [] → IsFreshSeat config heap number seat → Opens config heap after (seats ++ seat ∷ []) (number + 1)
 opens_next config heap before after bundle seats seat number opens is fresh =
@@ -160,7 +149,7 @@ opens_next config heap before after bundle seats seat number opens is fresh =
     let more : length (seats ++ seat ∷ []) ≡ length seats + 1 = Rattle.std.proofs.lemmas.List.length-append seats (seat ∷ []) in
     record {
       count = omega (arith, long, opens.count);
-      left = λ k x there. opens.left k x (ap (λ xs. slice_get xs k) is ∙ get_init after (bundle ∷ []) k x there);
+      left = λ index x there. opens.left index x (ap (λ xs. slice_get xs index) is ∙ element_before after (bundle ∷ []) index x there);
       long = omega (arith, more, opens.long);
-      each = Rattle.table_heap.proofs.Opened.each_more (λ k x. IsFreshSeat config heap k x) seats seat number opens.long opens.each fresh;
+      each = each_with (λ place seat. IsFreshSeat config heap place seat) seats seat number opens.long opens.each fresh;
     }

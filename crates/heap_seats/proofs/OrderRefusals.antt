@@ -23,6 +23,6 @@ pub refused_range : (valid : Bool) (made : ℕ) (state : State) → state ≡ Fr
 refused_range valid made state free is = sym (ap (refused_command valid made) free ∙ ap (λ (holds : Bool). refused_command holds made Free) is)
 
 pub refused_none : (valid : Bool) (made : ℕ) (state : State) → state ≡ Free → valid ≡ true → made ≢ most_objects → None ≡ refused_command valid made state
-refused_none valid made state free is few =
-    let test : (made == most_objects) ≡ false = grind (arith, nat_tests, few) in
+refused_none valid made state free is differs =
+    let test : (made == most_objects) ≡ false = grind (arith, nat_tests, differs) in
     sym (ap (refused_command valid made) free ∙ ap (λ (holds : Bool). refused_command holds made Free) is ∙ ap (λ (holds : Bool). if holds then Some refused.Spent else None) test)

@@ -44,10 +44,10 @@ seat_found key number actor order got finds mutator is = begun key (mutator.seat
 
 -- who gives a reply goes on under no order
 leaves_free : (spot : Spot) (made : ℕ) (order : Order) (command : Command) (reply : Reply) → given_at spot ≡ Some reply → takes_at spot made order ≡ true → command_by order command ≡ command
-leaves_free (Leave q) made Nothing command reply gives takes = refl
-leaves_free (Leave q) made (Begin other) command reply gives takes = absurd cc
-leaves_free (Leave q) made End command reply gives takes = refl
-leaves_free (Leave q) made (Hint address) command reply gives takes = refl
+leaves_free (Leave other_reply) made Nothing command reply gives takes = refl
+leaves_free (Leave other_reply) made (Begin other) command reply gives takes = absurd cc
+leaves_free (Leave other_reply) made End command reply gives takes = refl
+leaves_free (Leave other_reply) made (Hint address) command reply gives takes = refl
 leaves_free _ made order command reply gives takes = absurd cc
 
 -- the call that a step ends, where it gives this reply

@@ -1,6 +1,8 @@
 -- Seats that are gathered: one more, and what follows once all of a heap are there.
-use Rattle.std.proofs.Common.{◌≡◌, ◌⊎◌, ◌<◌, ℕ, zero, suc, List, [], ◌∷◌, ◌++◌, length, Some, refl, sym, ap, ◌∙◌, subst, arith}
+use Rattle.std.proofs.Common.{◌≡◌, ◌⊎◌, ◌<◌, ℕ, List, [], ◌∷◌, ◌++◌, length, Some, refl, sym, ap, ◌∙◌, subst, arith}
 use Rattle.std.specs.Prelude.{slice_get}
+use Rattle.shen_graph.proofs.Lists.{element_before, last_element}
+use Rattle.heap_words.proofs.Lists.{index_in_range}
 use Rattle.heap_words.specs.declared.config.Config.{Config}
 use Rattle.heap_words.specs.Ranges.{seat_count}
 use Rattle.heap_machines.specs.Shown.{shown}
@@ -19,7 +21,6 @@ use Rattle.heap_seats.specs.Seats.{config_of, number_of, heap_shared}
 use Rattle.heap_seats.specs.GivenUp.{AreAllSeats, AreOver, HaveNot}
 use Rattle.heap_seats.specs.Gathered.{heap_begun, sizes_begun, AreTogether, AreBegun, AreNumbered, MakeUpHeap, HaveHistory}
 use Rattle.heap_seats.proofs.Joined.{each_here, history_there, machines_more}
-use Rattle.heap_seats.proofs.Opened.{get_last, get_init}
 
 -- a seat's sizes are those of its heap
 config_of_heap : (seat : Seat) → config_of seat ≡ (heap_shared seat).config
@@ -28,8 +29,8 @@ config_of_heap seat = sym seat.same_config ∙ seat.fits.config
 -- its view has a place for each number
 pub places : (seat : Seat) → length (bundle_view seat.bundle) ≡ seat_count (heap_shared seat).config.mutators (heap_shared seat).config.helpers
 places seat =
-    let b = seat.bundle in
-    sym (length-kept machine_in (bundle_view b)) ∙ ap length b.kept ∙ length-kept shown b.machines.items ∙ b.seats ∙ ap (λ (config : Config). seat_count config.mutators config.helpers) seat.fits.config
+    let bundle = seat.bundle in
+    sym (length-kept machine_in (bundle_view bundle)) ∙ ap length bundle.kept ∙ length-kept shown bundle.machines.items ∙ bundle.seats ∙ ap (λ (config : Config). seat_count config.mutators config.helpers) seat.fits.config
 
 -- ---- one more
 
@@ -42,24 +43,19 @@ together_more before seat old new kept together same absent view = record {
       ∙ together.long ∙ ap (λ (heap : Heap). seat_count heap.config.mutators heap.config.helpers) (sym kept);
 }
 
-inside : {A : Type 0} (xs : List A) (index : ℕ) (x : A) → slice_get xs index ≡ Some x → index < length xs
-inside [] index x there = absurd cc
-inside (y ∷ ys) zero x there = omega arith
-inside (y ∷ ys) (suc index) x there = let below = inside ys index x there in omega (arith, below)
-
 first_of : {A : Type 0} (xs : List A) (y x : A) → slice_get xs 0 ≡ Some x → slice_get (xs ++ y ∷ []) 0 ≡ Some x
-first_of xs y x there = get_init xs (y ∷ []) 0 x there
+first_of xs y x there = element_before xs (y ∷ []) 0 x there
 
 module _ (before : List Seat) (seat : Seat) (old new : Begun) (begun : AreBegun before old) (kept : heap_begun new ≡ heap_begun old)
     (more : AreTogether before old → heap_shared seat ≡ heap_begun old → HaveNot before seat.number → AreTogether (before ++ seat ∷ []) new) where
   last : slice_get (before ++ seat ∷ []) (length before) ≡ Some seat
-  last = get_last before seat
+  last = last_element before seat
 
   no_other : AreNumbered (before ++ seat ∷ []) → HaveNot before seat.number
   no_other numbered k t there same =
       let own : number_of seat ≡ length before = numbered (length before) seat last in
-      let other : number_of t ≡ k = numbered k t (get_init before (seat ∷ []) k t there) in
-      let below = inside before k t there in
+      let other : number_of t ≡ k = numbered k t (element_before before (seat ∷ []) k t there) in
+      let below = index_in_range before k t there in
       absurd (omega (arith, own, other, below, same))
 
   pub begun_more : AreBegun (before ++ seat ∷ []) new
@@ -68,7 +64,7 @@ module _ (before : List Seat) (seat : Seat) (old new : Begun) (begun : AreBegun 
     there = first_of before seat begun.first begun.there;
     heap = begun.heap ∙ sym kept;
     together = λ one numbered.
-        let init : (index : ℕ) (t : Seat) → slice_get before index ≡ Some t → slice_get (before ++ seat ∷ []) index ≡ Some t = λ index t there. get_init before (seat ∷ []) index t there in
+        let init : (index : ℕ) (t : Seat) → slice_get before index ≡ Some t → slice_get (before ++ seat ∷ []) index ≡ Some t = λ index t there. element_before before (seat ∷ []) index t there in
         more (begun.together (λ index j t u at by. one index j t u (init index t at) (init j u by)) (λ index t at. numbered index t (init index t at)))
         (one (length before) 0 seat begun.first last (init 0 begun.first begun.there) ∙ begun.heap) (no_other numbered);
   }
@@ -91,7 +87,7 @@ module _ (b : Begun) (seats : List Seat) (given : AreTogether seats b) (all : Ar
         sizes = sizes_begun b;
         start = start_of_heap (heap_begun b);
         config = all.config;
-        begun = λ k s there. ap (λ (heap : Heap). start_of_heap heap) (all.heap k s there);
+        begun = λ address s there. ap (λ (heap : Heap). start_of_heap heap) (all.heap address s there);
         events = found.0;
         history = found.2;
       }

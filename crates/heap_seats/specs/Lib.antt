@@ -7,4 +7,4 @@ pub mod FreshSeats
 pub mod GivenUp
 pub mod Gathered
 pub mod Renewed
-pub mod Renewing
+pub mod RenewalStage

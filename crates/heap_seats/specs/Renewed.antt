@@ -55,10 +55,10 @@ pub record BeginSeats (config : Config) (Of : Graph → Type 0) (said : Renewal)
   pub graphs : (before : Graph) → Of before → BeginsAfter config start said before
 
 -- some run leads to a stage, and the graph after it is this one
-pub record IsGraphLeft (config : Config) (left : Stage Actor) (g : Graph) : Type 0 where
+pub record IsGraphLeft (config : Config) (left : Stage Actor) (graph_then : Graph) : Type 0 where
   pub run : Run config
   pub ends : ending pause_image config run ≡ left
-  pub graph : graph_after pause_image config run ≡ g
+  pub graph : graph_after pause_image config run ≡ graph_then
 
 -- Some events from where a heap began have the history of its seats, and these seats go on with the graph of the stage to which they lead.
 pub record AreFollowed (config : Config) (old : Stage Actor) (seats : List Seat) (said : Renewal) (following : List Seat) : Type 0 where

@@ -11,7 +11,7 @@ ghost use Rattle.table_heap.specs.Closed as ends;
 ghost use Rattle.table_heap.specs.State.{HasMachine, machine_at};
 ghost use Rattle.heap_seats.specs.declared.renewing.Renewal.{Renewal as Renewals};
 ghost use Rattle.heap_seats.specs.Renewed.{KeepsNames, BeginSeats, IsGraphLeft};
-ghost use Rattle.heap_seats.specs.Renewing.{sizes_for, IsLeftRenewable, IsLeftKept};
+ghost use Rattle.heap_seats.specs.RenewalStage.{sizes_for, IsLeftRenewable, IsLeftKept};
 
 use crate::closing::Closing;
 use crate::opening::open_seats_from;

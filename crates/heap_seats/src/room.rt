@@ -19,7 +19,7 @@ pub struct RenewalRoom {
 
 impl RenewalRoom {
     ghost use Rattle.std.specs.Prelude.{IfOk};
-    ghost use Rattle.heap_seats.specs.Renewing.{sizes_for};
+    ghost use Rattle.heap_seats.specs.RenewalStage.{sizes_for};
 
     /// For a heap of this configuration. The error is that memory was refused.
     pub fn open(alloc: Global, config: Config) -> Result<RenewalRoom, NoMemory>

@@ -35,14 +35,14 @@ outcome_le graph thread Gc other_thread = omega arith
 outcome_le graph thread (Pin slot obj) other_thread = omega arith
 outcome_le graph thread (Unpin slot) other_thread = on_le graph other_thread (graph.pin thread slot) (λ _. answers reply.Ok (with_pin graph thread slot None)) (λ v. omega arith)
 
-pub legal_le : (regions region_words : ℕ) (graph other_graph : Graph) (t : ℕ) (command : Command) (r : Reply) → IsLegal regions region_words graph t command r other_graph → (thread : ℕ) → other_graph.count thread ≤ graph.count thread + 1
-legal_le regions region_words graph other_graph t command r (inl step) thread = omega (arith, ap (λ (o : Outcome). o.graph.count thread) step.1, outcome_le graph t command thread)
-legal_le regions region_words graph other_graph t command r (inr (inl full)) thread = omega (arith, ap (λ (graph : Graph). graph.count thread) full.2)
-legal_le regions region_words graph other_graph t command r (inr (inr pinning)) thread = omega (arith, ap (λ (graph : Graph). graph.count thread) pinning.graph)
+pub legal_le : (regions region_words : ℕ) (graph other_graph : Graph) (other_thread : ℕ) (command : Command) (answer : Reply) → IsLegal regions region_words graph other_thread command answer other_graph → (thread : ℕ) → other_graph.count thread ≤ graph.count thread + 1
+legal_le regions region_words graph other_graph other_thread command answer (inl step) thread = omega (arith, ap (λ (o : Outcome). o.graph.count thread) step.1, outcome_le graph other_thread command thread)
+legal_le regions region_words graph other_graph t command answer (inr (inl full)) thread = omega (arith, ap (λ (graph : Graph). graph.count thread) full.2)
+legal_le regions region_words graph other_graph t command answer (inr (inr pinning)) thread = omega (arith, ap (λ (graph : Graph). graph.count thread) pinning.graph)
 
 -- what was accepted, or was not
-pub accepted_le : (may : Bool) (regions region_words : ℕ) (plain other_plain : Plain) (t : ℕ) (command : Command) (r : Reply)
-    → MatchBool may (IsLegal regions region_words (graph_of plain) t command r (graph_of other_plain) × (r ≢ reply.Full)) (((graph : Graph) → IsLegal regions region_words (graph_of plain) t command r graph → r ≡ reply.Full) × (other_plain ≡ plain))
+pub accepted_le : (may : Bool) (regions region_words : ℕ) (plain other_plain : Plain) (t : ℕ) (command : Command) (answer : Reply)
+    → MatchBool may (IsLegal regions region_words (graph_of plain) t command answer (graph_of other_plain) × (answer ≢ reply.Full)) (((graph : Graph) → IsLegal regions region_words (graph_of plain) t command answer graph → answer ≡ reply.Full) × (other_plain ≡ plain))
     → (thread : ℕ) → (graph_of other_plain).count thread ≤ (graph_of plain).count thread + 1
-accepted_le true regions region_words plain other_plain t command r taken thread = legal_le regions region_words (graph_of plain) (graph_of other_plain) t command r taken.0 thread
-accepted_le false regions region_words plain other_plain t command r left thread = omega (arith, ap (λ (plain : Plain). (graph_of plain).count thread) left.1)
+accepted_le true regions region_words plain other_plain t command answer taken thread = legal_le regions region_words (graph_of plain) (graph_of other_plain) t command answer taken.0 thread
+accepted_le false regions region_words plain other_plain t command answer left thread = omega (arith, ap (λ (plain : Plain). (graph_of plain).count thread) left.1)

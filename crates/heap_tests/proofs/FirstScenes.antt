@@ -34,9 +34,9 @@ use Rattle.heap_tests.specs.Ordered.{IsPlaying}
 -- a heap that one thread has can run them
 pub can_run : (p : Plain) (config : Config) (scripts : List (List Command)) (jobs : Jobs) → plain.config_of p ≡ config → Shows p (opening config) → All (λ order. order ≡ Nothing) (plain.orders_of p) → config.mutators ≡ length scripts → length scripts ≤ 8 → All IsRunnable scripts → jobs ≡ work.opened scripts
     → CanRun p jobs
-can_run p config scripts jobs same shows orders count few served opened =
+can_run p config scripts jobs same shows orders count at_most served opened =
     let mutators = ap (λ (config : Config). config.mutators) same in
-    subst (CanRun p) (sym opened) (can_run_first p scripts (subst (λ (config : Config). Shows p (opening config)) (sym same) shows) orders (omega (arith, mutators, count)) few served)
+    subst (CanRun p) (sym opened) (can_run_first p scripts (subst (λ (config : Config). Shows p (opening config)) (sym same) shows) orders (omega (arith, mutators, count)) at_most served)
 
 -- a machine of a heap whose machines lie in one bundle
 fresh_at : (config : Config) (bundle : Bundle) (number : ℕ) → view_of bundle ≡ dealt_to 1 0 (whole (heap_opening config).machines) → number < seat_count config.mutators config.helpers → machine_of (machines_of bundle) number ≡ Some (opening_machine config number)
@@ -52,21 +52,21 @@ fresh_at config bundle number fresh within =
 
 -- nothing was done of a script
 script_first : (scripts : List (List Command)) (index : ℕ) → index < length scripts → length scripts ≤ 8 → work.progress_of (work.opened scripts) index ≡ Some (work.begun (get_or scripts index []))
-script_first scripts index below few =
-    get_or-map-range_with_len (λ m. option_map work.begun (slice_get scripts m)) 0 8 index index None (omega arith) (omega arith)
+script_first scripts index below at_most =
+    get_or-map-range_with_len (λ index. option_map work.begun (slice_get scripts index)) 0 8 index index None (omega arith) (omega arith)
     ∙ ap (option_map work.begun) (slice_get-get_or scripts index [] below)
 
 -- and one that threads could share can
 pub is_playing : (heap : Heap) (bundle : Bundle) (config : Config) (scripts : List (List Command)) (jobs : Jobs) (between : List Bool) → IsFresh heap bundle (dealt_to 1 0 (whole (heap_opening config).machines)) → heap.config ≡ config → config.mutators ≡ length scripts → length scripts ≤ 8 → All IsRunnable scripts
     → jobs ≡ work.opened scripts → length between ≡ 8 → IsPlaying heap bundle jobs config between
-is_playing heap bundle config scripts jobs between fresh same count few served opened long = record {
+is_playing heap bundle config scripts jobs between fresh same count at_most served opened long = record {
   of = fresh.of;
   works = at_start bundle jobs (fresh_can_start heap bundle config 1 0 jobs fresh (λ number below dealt.
       let within : number < length scripts = omega (arith, below, count) in
       let runs = served number [] within in
-      (get_or scripts number [], ap (λ js. work.progress_of js number) opened ∙ script_first scripts number within few, runs.0, runs.1)));
+      (get_or scripts number [], ap (λ js. work.progress_of js number) opened ∙ script_first scripts number within at_most, runs.0, runs.1)));
   same = fresh.of.config ∙ same;
-  here = λ k within. ap is_some (fresh_at config bundle k fresh.machines within);
+  here = λ number within. ap is_some (fresh_at config bundle number fresh.machines within);
   rests = λ k below set. ap (λ o. may_begin (unwrap_or o no_machine)) (fresh_at config bundle k fresh.machines (omega arith)) ∙ first_free_to_begin config k below;
   long = long;
 }

@@ -56,10 +56,10 @@ LeftGraph config memory made = (graph : Graph) × Represents config memory graph
 
 module _ (config : Config) (words : List ℕ) (machines : List Machine) (free : ℕ) (one : config.mutators ≡ 1) (alone : config.helpers ≡ 0) (rest : is_resting (slice_index_or machines 0 no_machine) ≡ true)
     (control : slice_index_or machines 1 no_machine ≡ fresh_control free) (run : Run config) (shows : WordsShow words machines (ending pause_image config run)) where
-  abbrev s : Stage Actor
-  s = ending pause_image config run
+  abbrev stage : Stage Actor
+  stage = ending pause_image config run
 
-  abbrev sound : IsSound config run.graph s (history_in pause_image config run)
+  abbrev sound : IsSound config run.graph stage (history_in pause_image config run)
   sound = run_sound pause_image heap_pauses config run
 
   rests : (mutator : ℕ) → mutator < config.mutators → is_resting (slice_index_or machines mutator no_machine) ≡ true
@@ -74,36 +74,36 @@ module _ (config : Config) (words : List ℕ) (machines : List Machine) (free : 
   its_control = subst (λ (k : ℕ). slice_index_or machines k no_machine ≡ fresh_control free) last control
 
   -- the machine of an actor
-  machine_is : (number : ℕ) (actor : Actor) → slice_get s.machines number ≡ Some actor → actor.machine ≡ slice_index_or machines number no_machine
+  machine_is : (number : ℕ) (actor : Actor) → slice_get stage.machines number ≡ Some actor → actor.machine ≡ slice_index_or machines number no_machine
   machine_is number actor here =
       let there : slice_get machines number ≡ Some actor.machine =
-      ap (λ ms. slice_get ms number) (sym shows.machines_are) ∙ slice_get-map (λ b. b.machine) s.machines number ∙ ap (option_map (λ b. b.machine)) here in
+      ap (λ ms. slice_get ms number) (sym shows.machines_are) ∙ slice_get-map (λ b. b.machine) stage.machines number ∙ ap (option_map (λ b. b.machine)) here in
       sym (get_or_from_slice_get machines number actor.machine no_machine there)
 
   -- the control stores no image
-  is_calm : image_of (slice_get s.machines (control_number config)) ≡ None
-  is_calm = by_actor (slice_get s.machines (control_number config)) refl
+  is_calm : image_of (slice_get stage.machines (control_number config)) ≡ None
+  is_calm = by_actor (slice_get stage.machines (control_number config)) refl
     where
-      by_actor : (found : Option Actor) → slice_get s.machines (control_number config) ≡ found → image_of found ≡ None
+      by_actor : (found : Option Actor) → slice_get stage.machines (control_number config) ≡ found → image_of found ≡ None
       by_actor None here = refl
       by_actor (Some a) here = ap image_read (machine_is (control_number config) a here) ∙ ap image_read its_control
 
   -- the control is the one with which a heap begins
-  control_is : (number : ℕ) (actor : Actor) (control : Controlling) → slice_get s.machines number ≡ Some actor → actor.machine ≡ controlling control → controlling control ≡ fresh_control free
+  control_is : (number : ℕ) (actor : Actor) (control : Controlling) → slice_get stage.machines number ≡ Some actor → actor.machine ≡ controlling control → controlling control ≡ fresh_control free
   control_is number actor control here is =
       let at : number ≡ config.mutators + config.helpers = subst (HasNumber config number) is (sound.of_heap.roles number actor here) in
       sym is ∙ machine_is number actor here ∙ ap (λ (n : ℕ). slice_index_or machines n no_machine) at ∙ its_control
 
-  at_rest : IsAtRest config s
+  at_rest : IsAtRest config stage
   at_rest = record {
-    calls = λ number a m mutator. ap is_resting (sym mutator.is) ∙ ap is_resting (machine_is number a mutator.here) ∙ rests number (sound.of_heap.numbers number a m mutator).1;
+    calls = λ number actor m mutator. ap is_resting (sym mutator.is) ∙ ap is_resting (machine_is number actor mutator.here) ∙ rests number (sound.of_heap.numbers number actor m mutator).1;
     outside = λ number a here other.
-        let within : number < length s.machines = slice_get_within s.machines number a here in
+        let within : number < length stage.machines = slice_get_within stage.machines number a here in
         let seats = sound.of_heap.machines in
         let below : number < config.mutators = omega (arith, within, seats, other) in
         resting_outside a.machine (ap is_resting (machine_is number a here) ∙ rests number below);
-    no_unit = λ number a k here is. ap (λ (machine : Machine). works_of machine) (control_is number a k here is);
-    no_image = λ number a k here is. ap image_read (control_is number a k here is);
+    no_unit = λ number actor control here is. ap (λ (machine : Machine). works_of machine) (control_is number actor control here is);
+    no_image = λ number actor control here is. ap image_read (control_is number actor control here is);
   }
     where
       works_of : Machine → Bool
@@ -111,8 +111,8 @@ module _ (config : Config) (words : List ℕ) (machines : List Machine) (free : 
       works_of _ = false
 
   -- the words of the table count
-  counts : settled config s ≡ view config s.words
-  counts = ap (settled_by config s.words) is_calm
+  counts : settled config stage ≡ view config stage.words
+  counts = ap (settled_by config stage.words) is_calm
 
   represents : Represents config (view config words) (graph_after pause_image config run) (λ t. nothing)
   represents = subst (λ (ws : List ℕ). Represents config (view config ws) (graph_after pause_image config run) (λ t. nothing)) shows.words_are
@@ -188,10 +188,10 @@ left_can_begin config memory made one alone left =
       };
       outside = record {
         pause = refl;
-        states = λ seat below. let first : 0 ≡ seat = omega (arith, below, one, alone) in subst (λ (k : ℕ). opened memory (State k) ≡ 0) first refl;
+        states = λ seat below. let first : 0 ≡ seat = omega (arith, below, one, alone) in subst (λ (seat : ℕ). opened memory (State seat) ≡ 0) first refl;
         left = sym one;
       };
-      counts_are = λ t below. let first : 0 ≡ t = omega (arith, below, one) in subst (λ (k : ℕ). left.0.count (k + 1) ≡ slice_index (made ∷ []) k) first left.2;
+      counts_are = λ mutator below. let first : 0 ≡ mutator = omega (arith, below, one) in subst (λ (index : ℕ). left.0.count (index + 1) ≡ slice_index (made ∷ []) index) first left.2;
     }
 
 -- a machine of a heap before the first event

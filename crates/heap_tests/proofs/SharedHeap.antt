@@ -71,11 +71,11 @@ fresh_has_all other_config heap bundle after fresh config same number below =
 -- it can start with scripts that a mutator can be given
 pub fresh_can_run : (config : Config) (heap : Heap) (bundle : Bundle) (scripts : List (List Command)) (jobs : Jobs) → IsFresh heap bundle (dealt_to 1 0 (whole (heap_opening config).machines)) → length scripts ≡ config.mutators → length scripts ≤ 8
     → All IsRunnable scripts → jobs ≡ opened scripts → CanStart bundle jobs
-fresh_can_run config heap bundle scripts jobs fresh count few runnable is = fresh_can_start heap bundle config 1 0 jobs fresh (λ number below dealt.
+fresh_can_run config heap bundle scripts jobs fresh count at_most runnable is = fresh_can_start heap bundle config 1 0 jobs fresh (λ number below dealt.
     let within : number < length scripts = omega (arith, below, count) in
     let script = slice_index_or scripts number [] in (
       script,
-      ap (λ k. progress_of k number) is ∙ progress_of-opened scripts number few ∙ ap (option_map begun) (slice_get-get_or scripts number [] within),
+      ap (λ k. progress_of k number) is ∙ progress_of-opened scripts number at_most ∙ ap (option_map begun) (slice_get-get_or scripts number [] within),
       (runnable number [] within).0,
       (runnable number [] within).1,
     ))

@@ -123,12 +123,12 @@ command_between bundle jobs number command work has may next =
 
 -- a machine whose reply is at hand stands between two calls
 pub replied_may : (machine : Machine) → reply_in machine ≢ None → may_begin machine ≡ true
-replied_may (mutating m) some = by_spot m.spot some
+replied_may (mutating mutator) differs = by_spot mutator.spot differs
   where
     by_spot : (spot : Spot) → reply_at spot ≢ None → takes_commands spot ≡ true
-    by_spot (Ended reply) some = refl
-    by_spot _ some = absurd (some refl)
-replied_may _ some = absurd (some refl)
+    by_spot (Ended reply) differs = refl
+    by_spot _ differs = absurd (differs refl)
+replied_may _ differs = absurd (differs refl)
 
 -- its turn
 pub is_turn : (old mid new : Bundle) (next : Option Command) (number : ℕ) (said : Stepped) → IsOrdered old mid next number → has_turn mid number ≡ true → IsBundleStep mid new number said → IsTurn old new next number said
@@ -216,7 +216,7 @@ plays_on heap old new before after config between flags playing same works rests
   of = still_of old new heap same playing.of;
   works = works;
   same = same.config ∙ playing.same;
-  here = λ k within. has_same old new k same (playing.here k within);
+  here = λ number within. has_same old new number same (playing.here number within);
   rests = rests;
   long = long;
 }

@@ -3,6 +3,7 @@ use Rattle.std.proofs.Common.{◌≡◌, ℕ, ◌<◌, zero, suc, Bool, true, fa
 use Rattle.std.proofs.lemmas.Bool.Decides.{Decides-eqb}
 use Rattle.std.proofs.lemmas.Slice.Eq.{bytes_eq-Decides}
 use Rattle.std.specs.Str.{bytes_eq}
+use Rattle.heap_words.proofs.Bools.{first_true, same_truth}
 use denote.Enum.Declared.{tag_of}
 use denote.Enum.Bare.{sameb, same_true, true_same}
 use Rattle.heap_words.specs.contracts.place.Place.{the_type}
@@ -24,14 +25,9 @@ pub row-row_of : (place : Place) → get_or CODES (row_of place) (E1, []) ≡ (p
 row-row_of E1 = refl
 row-row_of _ = refl
 
--- the halves of a test
-first_true : (holds other_holds : Bool) → (holds && other_holds) ≡ true → holds ≡ true
-first_true true other_holds e = refl
-first_true false other_holds e = e
-
 second_true : (holds other_holds : Bool) → (holds && other_holds) ≡ true → other_holds ≡ true
-second_true true other_holds e = e
-second_true false other_holds e = cc
+second_true true holds e = e
+second_true false holds e = cc
 
 -- whether each row of a table has a place with its code
 abbrev spells : List (Place × List ℕ) → Bool
@@ -59,7 +55,7 @@ first_with-code_of E1 = refl
 first_with-code_of _ = refl
 
 pub same_code : (place other_place : Place) → code_of place ≡ code_of other_place → place ≡ other_place
-same_code place other_place e = sym (first_with-code_of place) ∙ ap (first_with CODES) e ∙ first_with-code_of other_place
+same_code place other_place same = sym (first_with-code_of place) ∙ ap (first_with CODES) same ∙ first_with-code_of other_place
 
 -- a code is two letters or digits
 two_listed : (place : Place) → code_of place ≡ get_or (code_of place) 0 0 ∷ get_or (code_of place) 1 0 ∷ []
@@ -72,15 +68,10 @@ same_place-self _ = refl
 
 -- the comparison of two places is true of one place alone
 pub same_place-true : (place other_place : Place) → same_place place other_place ≡ true → place ≡ other_place
-same_place-true place other_place e =
-    let one = (Decides-eqb (get_or (code_of place) 0 0) (get_or (code_of other_place) 0 0)).0 (first_true (eqb (get_or (code_of place) 0 0) (get_or (code_of other_place) 0 0)) (eqb (get_or (code_of place) 1 0) (get_or (code_of other_place) 1 0)) e) in
-    let two = (Decides-eqb (get_or (code_of place) 1 0) (get_or (code_of other_place) 1 0)).0 (second_true (eqb (get_or (code_of place) 0 0) (get_or (code_of other_place) 0 0)) (eqb (get_or (code_of place) 1 0) (get_or (code_of other_place) 1 0)) e) in
+same_place-true place other_place same =
+    let one = (Decides-eqb (get_or (code_of place) 0 0) (get_or (code_of other_place) 0 0)).0 (first_true (eqb (get_or (code_of place) 0 0) (get_or (code_of other_place) 0 0)) (eqb (get_or (code_of place) 1 0) (get_or (code_of other_place) 1 0)) same) in
+    let two = (Decides-eqb (get_or (code_of place) 1 0) (get_or (code_of other_place) 1 0)).0 (second_true (eqb (get_or (code_of place) 0 0) (get_or (code_of other_place) 0 0)) (eqb (get_or (code_of place) 1 0) (get_or (code_of other_place) 1 0)) same) in
     same_code place other_place (two_listed place ∙ ap (λ a. a ∷ get_or (code_of place) 1 0 ∷ []) one ∙ ap (λ b. get_or (code_of other_place) 0 0 ∷ b ∷ []) two ∙ sym (two_listed other_place))
-
-same_truth : (holds other_holds : Bool) → (holds ≡ true → other_holds ≡ true) → (other_holds ≡ true → holds ≡ true) → holds ≡ other_holds
-same_truth true other_holds to from = sym (to refl)
-same_truth false true to from = from refl
-same_truth false false to from = refl
 
 -- and it is the comparison that code makes
 pub sameb-same_place : (place other_place : Place) → sameb the_type place other_place ≡ same_place place other_place

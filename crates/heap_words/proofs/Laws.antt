@@ -2,10 +2,10 @@
 use Rattle.std.proofs.Common.{◌≡◌, ◌≢◌, ℕ, Bool, true, false, length, Option, Some, None, refl, sym, ap, ◌∙◌}
 use Rattle.std.specs.Prelude.{slice_get, slice_index, if◌then◌else◌}
 use Rattle.std.proofs.lemmas.List.{get_or-set_other, length-set}
+use Rattle.heap_words.proofs.Lists.{slice_get-set_other, slice_get-set_same}
 use Rattle.heap_words.specs.Access.{table_index}
 use Rattle.heap_words.specs.Steps.{MachineKind, Stage, Event, moved, act_of, act, IsEvent, Finds, HasReached, RunsAdd, EventsAreSmall}
 use Rattle.heap_words.proofs.Runs.{go-none, go-first, go-append, go-step, reached_more}
-use Rattle.heap_words.proofs.Places.{slice_get-set_same, slice_get-set_other}
 
 module _ {R O : Type 0} (kind : MachineKind R O) where
   -- what holds after an access, and where nothing changes, holds after an event
@@ -31,9 +31,9 @@ module _ {R O : Type 0} (kind : MachineKind R O) where
   pub length-machines : (stage : Stage R) (event : Event O) → length (act kind stage event).machines ≡ length stage.machines
   length-machines stage event = act_cases (λ x. length x.machines ≡ length stage.machines) stage event refl (λ r here takes. length-set _ _ _)
 
-  pub machines_other : (stage : Stage R) (event : Event O) (k : ℕ) → k ≢ event.number → slice_get (act kind stage event).machines k ≡ slice_get stage.machines k
-  machines_other stage event k other =
-      act_cases (λ x. slice_get x.machines k ≡ slice_get stage.machines k) stage event refl (λ r here takes. slice_get-set_other stage.machines event.number k _ other)
+  pub machines_other : (stage : Stage R) (event : Event O) (index : ℕ) → index ≢ event.number → slice_get (act kind stage event).machines index ≡ slice_get stage.machines index
+  machines_other stage event index other =
+      act_cases (λ x. slice_get x.machines index ≡ slice_get stage.machines index) stage event refl (λ r here takes. slice_get-set_other stage.machines event.number index _ other)
 
   pub words_other : (stage : Stage R) (event : Event O) (r : R) (k : ℕ) → IsEvent kind stage event r → k ≢ table_index (kind.plan r event.order) → slice_index (act kind stage event).words k ≡ slice_index stage.words k
   words_other stage event r k is other = ap (λ x. slice_index x.words k) (act-event stage event r is) ∙ get_or-set_other stage.words _ k _ 0 other
@@ -52,10 +52,10 @@ module _ {R O : Type 0} (kind : MachineKind R O) where
 
   -- a machine that finds a word goes on from there
   pub has_next : (start : Stage R) (number : ℕ) (r : R) (order : O) (got : ℕ) → Finds kind start number r order got → HasReached kind start number (kind.took r order got)
-  has_next start number r order got f =
-      let is : IsEvent kind f.stage (record { number = number; order = order }) r = record { here = f.here; takes = f.takes } in
+  has_next start number r order got finds =
+      let is : IsEvent kind finds.stage (record { number = number; order = order }) r = record { here = finds.here; takes = finds.takes } in
       record {
-        stage = act kind f.stage (record { number = number; order = order });
-        reached = reached_more kind start f.stage _ f.reached;
-        here = ap (λ x. slice_get x.machines number) (act-event f.stage _ r is) ∙ slice_get-set_same f.stage.machines number r _ f.here ∙ ap (λ n. Some (kind.took r order n)) (sym f.found);
+        stage = act kind finds.stage (record { number = number; order = order });
+        reached = reached_more kind start finds.stage _ finds.reached;
+        here = ap (λ x. slice_get x.machines number) (act-event finds.stage _ r is) ∙ slice_get-set_same finds.stage.machines number r _ finds.here ∙ ap (λ n. Some (kind.took r order n)) (sym finds.found);
       }

@@ -8,3 +8,5 @@ pub mod Places
 pub mod Touches
 pub mod Runs
 pub mod Laws
+pub mod Lists
+pub mod Bools

@@ -140,5 +140,5 @@ are_read_whole c xs ys long_xs long_ys same =
     same_number_lists xs ys (long_xs ∙ sym long_ys)
     (λ k below.
     let stands : StandsAt c k (name_of c k) = name_of-stands c k (omega arith) in
-    ap (λ p. get_or xs p 0) (sym stands.1) ∙ sym (view_word c xs (name_of c k) stands.0)
-    ∙ same (name_of c k) stands.0 ∙ view_word c ys (name_of c k) stands.0 ∙ ap (λ p. get_or ys p 0) stands.1)
+    ap (λ index. get_or xs index 0) (sym stands.1) ∙ sym (view_word c xs (name_of c k) stands.0)
+    ∙ same (name_of c k) stands.0 ∙ view_word c ys (name_of c k) stands.0 ∙ ap (λ index. get_or ys index 0) stands.1)

@@ -50,44 +50,44 @@ abbrev pub row : Word → ℕ
 row Pause = 0
 row Left = 1
 row End = 2
-row (State i) = 3
+row (State seat) = 3
 row Phase = 4
 row Cset = 5
 row Free = 6
 row Evac = 7
 row Claim = 8
 row Ask = 9
-row (Top r) = 10
-row (Tams r) = 11
-row (Limit r) = 12
-row (Current i) = 13
-row (Root t i) = 14
-row (Count t) = 15
-row (Buffer t i) = 16
-row (Wait t) = 17
-row (Answer t) = 18
-row (Grey k) = 19
-row (Black k) = 20
-row (Heap a) = 21
+row (Top region) = 10
+row (Tams region) = 11
+row (Limit region) = 12
+row (Current seat) = 13
+row (Root mutator index) = 14
+row (Count mutator) = 15
+row (Buffer mutator entry) = 16
+row (Wait mutator) = 17
+row (Answer mutator) = 18
+row (Grey number) = 19
+row (Black number) = 20
+row (Heap address) = 21
 row Share = 22
-row (Pin t i) = 23
+row (Pin mutator slot) = 23
 
 -- its place in the row
 abbrev pub offset : Config → Word → ℕ
-offset config (State i) = i
-offset config (Top r) = r
-offset config (Tams r) = r
-offset config (Limit r) = r
-offset config (Current i) = i
-offset config (Root t i) = 16 * t + i
-offset config (Count t) = t
-offset config (Buffer t i) = 8 * t + i
-offset config (Wait t) = t
-offset config (Answer t) = t
-offset config (Grey k) = k
-offset config (Black k) = k
-offset config (Heap a) = a - config.region_words
-offset config (Pin t i) = 4 * t + i
+offset config (State seat) = seat
+offset config (Top region) = region
+offset config (Tams region) = region
+offset config (Limit region) = region
+offset config (Current seat) = seat
+offset config (Root mutator index) = 16 * mutator + index
+offset config (Count mutator) = mutator
+offset config (Buffer mutator entry) = 8 * mutator + entry
+offset config (Wait mutator) = mutator
+offset config (Answer mutator) = mutator
+offset config (Grey number) = number
+offset config (Black number) = number
+offset config (Heap address) = address - config.region_words
+offset config (Pin mutator slot) = 4 * mutator + slot
 offset config _ = 0
 
 -- the word of each row at an offset
@@ -98,87 +98,87 @@ words_at config x =
     ∷ Grey x ∷ Black x ∷ Heap (x + config.region_words) ∷ Share ∷ Pin (x / 4) (x % 4) ∷ []
 
 pub word_at-row : (config : Config) (word : Word) → IsWord config word → word_at config word ≡ row_start (sizes config) (row word) + offset config word
-word_at-row config Pause h = refl
-word_at-row config Left h = refl
-word_at-row config End h = refl
-word_at-row config (State i) h = omega arith
-word_at-row config Phase h = omega arith
-word_at-row config Cset h = omega arith
-word_at-row config Free h = omega arith
-word_at-row config Evac h = omega arith
-word_at-row config Claim h = omega arith
-word_at-row config Ask h = omega arith
-word_at-row config (Top r) h = omega arith
-word_at-row config (Tams r) h = omega arith
-word_at-row config (Limit r) h = omega arith
-word_at-row config (Current i) h = omega arith
-word_at-row config (Root t i) h = omega arith
-word_at-row config (Count t) h = omega arith
-word_at-row config (Buffer t i) h = omega arith
-word_at-row config (Wait t) h = omega arith
-word_at-row config (Answer t) h = omega arith
-word_at-row config (Grey k) h = omega arith
-word_at-row config (Black k) h = omega arith
-word_at-row config (Heap a) h = omega arith
-word_at-row config Share h = omega arith
-word_at-row config (Pin t i) h = omega arith
+word_at-row config Pause word = refl
+word_at-row config Left word = refl
+word_at-row config End word = refl
+word_at-row config (State seat) word = omega arith
+word_at-row config Phase word = omega arith
+word_at-row config Cset word = omega arith
+word_at-row config Free word = omega arith
+word_at-row config Evac word = omega arith
+word_at-row config Claim word = omega arith
+word_at-row config Ask word = omega arith
+word_at-row config (Top region) word = omega arith
+word_at-row config (Tams region) word = omega arith
+word_at-row config (Limit region) word = omega arith
+word_at-row config (Current seat) word = omega arith
+word_at-row config (Root mutator index) word = omega arith
+word_at-row config (Count mutator) word = omega arith
+word_at-row config (Buffer mutator entry) word = omega arith
+word_at-row config (Wait mutator) word = omega arith
+word_at-row config (Answer mutator) word = omega arith
+word_at-row config (Grey number) word = omega arith
+word_at-row config (Black number) word = omega arith
+word_at-row config (Heap address) word = omega arith
+word_at-row config Share word = omega arith
+word_at-row config (Pin mutator slot) word = omega arith
 
 pub table_words-rows : (config : Config) → table_words config ≡ row_total (sizes config)
 table_words-rows config = omega arith
 
 -- a word stands in its row
 pub in_row : (config : Config) (word : Word) → IsWord config word → offset config word < get_or (sizes config) (row word) 0
-in_row config Pause h = omega arith
-in_row config Left h = omega arith
-in_row config End h = omega arith
-in_row config (State i) h = h
-in_row config Phase h = omega arith
-in_row config Cset h = omega arith
-in_row config Free h = omega arith
-in_row config Evac h = omega arith
-in_row config Claim h = omega arith
-in_row config Ask h = omega arith
-in_row config (Top r) h = h
-in_row config (Tams r) h = h
-in_row config (Limit r) h = h
-in_row config (Current i) h = h
-in_row config (Root t i) h = omega arith
-in_row config (Count t) h = h
-in_row config (Buffer t i) h = omega arith
-in_row config (Wait t) h = h
-in_row config (Answer t) h = h
-in_row config (Grey k) h = h
-in_row config (Black k) h = h
-in_row config (Heap a) h = omega arith
-in_row config Share h = omega arith
-in_row config (Pin t i) h = omega arith
+in_row config Pause word = omega arith
+in_row config Left word = omega arith
+in_row config End word = omega arith
+in_row config (State seat) word = word
+in_row config Phase word = omega arith
+in_row config Cset word = omega arith
+in_row config Free word = omega arith
+in_row config Evac word = omega arith
+in_row config Claim word = omega arith
+in_row config Ask word = omega arith
+in_row config (Top region) word = word
+in_row config (Tams region) word = word
+in_row config (Limit region) word = word
+in_row config (Current seat) word = word
+in_row config (Root mutator index) word = omega arith
+in_row config (Count mutator) word = word
+in_row config (Buffer mutator entry) word = omega arith
+in_row config (Wait mutator) word = word
+in_row config (Answer mutator) word = word
+in_row config (Grey number) word = word
+in_row config (Black number) word = word
+in_row config (Heap address) word = omega arith
+in_row config Share word = omega arith
+in_row config (Pin mutator slot) word = omega arith
 
 -- the row and the place in it name the word
 pub named : (config : Config) (word : Word) → IsWord config word → get_or (words_at config (offset config word)) (row word) Pause ≡ word
-named config Pause h = refl
-named config Left h = refl
-named config End h = refl
-named config (State i) h = refl
-named config Phase h = refl
-named config Cset h = refl
-named config Free h = refl
-named config Evac h = refl
-named config Claim h = refl
-named config Ask h = refl
-named config (Top r) h = refl
-named config (Tams r) h = refl
-named config (Limit r) h = refl
-named config (Current i) h = refl
-named config (Root t i) h = let q : (16 * t + i) / 16 ≡ t = omega arith in let r : (16 * t + i) % 16 ≡ i = omega arith in cc
-named config (Count t) h = refl
-named config (Buffer t i) h = let q : (8 * t + i) / 8 ≡ t = omega arith in let r : (8 * t + i) % 8 ≡ i = omega arith in cc
-named config (Wait t) h = refl
-named config (Answer t) h = refl
-named config (Grey k) h = refl
-named config (Black k) h = refl
-named config (Heap a) h = let r : a - config.region_words + config.region_words ≡ a = omega arith in cc
-named config Share h = refl
-named config (Pin t i) h = let q : (4 * t + i) / 4 ≡ t = omega arith in let r : (4 * t + i) % 4 ≡ i = omega arith in cc
+named config Pause word = refl
+named config Left word = refl
+named config End word = refl
+named config (State seat) word = refl
+named config Phase word = refl
+named config Cset word = refl
+named config Free word = refl
+named config Evac word = refl
+named config Claim word = refl
+named config Ask word = refl
+named config (Top region) word = refl
+named config (Tams region) word = refl
+named config (Limit region) word = refl
+named config (Current seat) word = refl
+named config (Root mutator index) word = let q : (16 * mutator + index) / 16 ≡ mutator = omega arith in let r : (16 * mutator + index) % 16 ≡ index = omega arith in cc
+named config (Count mutator) word = refl
+named config (Buffer mutator entry) word = let q : (8 * mutator + entry) / 8 ≡ mutator = omega arith in let r : (8 * mutator + entry) % 8 ≡ entry = omega arith in cc
+named config (Wait mutator) word = refl
+named config (Answer mutator) word = refl
+named config (Grey number) word = refl
+named config (Black number) word = refl
+named config (Heap address) word = let r : address - config.region_words + config.region_words ≡ address = omega arith in cc
+named config Share word = refl
+named config (Pin mutator slot) word = let q : (4 * mutator + slot) / 4 ≡ mutator = omega arith in let r : (4 * mutator + slot) % 4 ≡ slot = omega arith in cc
 
 -- each word stands in the table
 pub word_inside : (config : Config) (word : Word) → IsWord config word → word_at config word < table_words config
@@ -198,8 +198,8 @@ words_differ config word other_word is_v is_w same =
 
 -- the words before the image are those of the handshake
 pub is_image-word_at : (config : Config) (word : Word) → IsWord config word → is_image word ≡ leb (image_start config) (word_at config word)
-is_image-word_at config Pause h = sym (lt-leb (image_start config) 0 (omega arith))
-is_image-word_at config Left h = sym (lt-leb (image_start config) 1 (omega arith))
-is_image-word_at config End h = sym (lt-leb (image_start config) 2 (omega arith))
-is_image-word_at config (State i) h = sym (lt-leb (image_start config) (3 + i) (omega arith))
+is_image-word_at config Pause word = sym (lt-leb (image_start config) 0 (omega arith))
+is_image-word_at config Left word = sym (lt-leb (image_start config) 1 (omega arith))
+is_image-word_at config End word = sym (lt-leb (image_start config) 2 (omega arith))
+is_image-word_at config (State seat) word = sym (lt-leb (image_start config) (3 + seat) (omega arith))
 is_image-word_at config word h = sym (le-leb (image_start config) (word_at config word) (omega arith))

@@ -15,12 +15,12 @@ module _ {R O : Type 0} (kind : MachineKind R O) where
   pub go-append : (stage : Stage R) (es fs : List (Event O)) → go kind stage (es ++ fs) ≡ go kind (go kind stage es) fs
   unfolding go
   go-append stage [] fs = refl
-  go-append stage (e ∷ es) fs = go-append (act kind stage e) es fs
+  go-append stage (event ∷ rest) fs = go-append (act kind stage event) rest fs
 
   pub go-step : (stage : Stage R) (es : List (Event O)) (event : Event O) → go kind stage (es ++ event ∷ []) ≡ act kind (go kind stage es) event
   unfolding go
   go-step stage [] event = refl
-  go-step stage (x ∷ es) event = go-step (act kind stage x) es event
+  go-step stage (other_event ∷ rest) event = go-step (act kind stage other_event) rest event
 
   -- what one event keeps, each run keeps
   pub go-keeps : (P : Stage R → Type 0) → ((stage : Stage R) (event : Event O) → P stage → P (act kind stage event)) → (stage : Stage R) (es : List (Event O)) → P stage → P (go kind stage es)
@@ -46,4 +46,4 @@ module _ {R O : Type 0} (kind : MachineKind R O) where
 
   -- a machine that finds a word is reached
   pub finds_reached : (start : Stage R) (number : ℕ) (r : R) (order : O) (got : ℕ) → Finds kind start number r order got → HasReached kind start number r
-  finds_reached start number r order got f = record { stage = f.stage; reached = f.reached; here = f.here }
+  finds_reached start number r order got finds = record { stage = finds.stage; reached = finds.reached; here = finds.here }

@@ -20,14 +20,14 @@ many size word = record { size = size; word = word }
 -- the rows of the table, in their order
 abbrev pub rows : Config → List Row
 rows config =
-    one Pause ∷ one Left ∷ one End ∷ many (config.mutators + config.helpers) (λ k. State k)
+    one Pause ∷ one Left ∷ one End ∷ many (config.mutators + config.helpers) (λ seat. State seat)
     ∷ one Phase ∷ one Cset ∷ one Free ∷ one Evac ∷ one Claim ∷ one Ask
-    ∷ many config.regions (λ k. Top k) ∷ many config.regions (λ k. Tams k) ∷ many config.regions (λ k. Limit k)
-    ∷ many (seat_count config.mutators config.helpers) (λ k. Current k)
-    ∷ many (16 * config.mutators) (λ k. Root (k / 16) (k % 16)) ∷ many config.mutators (λ k. Count k)
+    ∷ many config.regions (λ region. Top region) ∷ many config.regions (λ region. Tams region) ∷ many config.regions (λ region. Limit region)
+    ∷ many (seat_count config.mutators config.helpers) (λ seat. Current seat)
+    ∷ many (16 * config.mutators) (λ k. Root (k / 16) (k % 16)) ∷ many config.mutators (λ mutator. Count mutator)
     ∷ many (8 * config.mutators) (λ k. Buffer (k / 8) (k % 8))
-    ∷ many config.mutators (λ k. Wait k) ∷ many config.mutators (λ k. Answer k)
-    ∷ many (bit_words config) (λ k. Grey k) ∷ many (bit_words config) (λ k. Black k)
+    ∷ many config.mutators (λ mutator. Wait mutator) ∷ many config.mutators (λ mutator. Answer mutator)
+    ∷ many (bit_words config) (λ number. Grey number) ∷ many (bit_words config) (λ number. Black number)
     ∷ many (heap_size config) (λ k. Heap (config.region_words + k)) ∷ one Share
     ∷ many (4 * config.mutators) (λ k. Pin (k / 4) (k % 4)) ∷ []
 

@@ -48,7 +48,7 @@ act kind stage event = act_of kind stage event (slice_get stage.machines event.n
 -- what these events make of it, one after the other
 unfoldable pub go : {R O : Type 0} → MachineKind R O → Stage R → List (Event O) → Stage R
 go kind stage [] = stage
-go kind stage (e ∷ es) = go kind (act kind stage e) es
+go kind stage (event ∷ rest) = go kind (act kind stage event) rest
 
 -- the event is one: there is the machine, and it takes the order
 pub record IsEvent {R O : Type 0} (kind : MachineKind R O) (stage : Stage R) (event : Event O) (r : R) : Type 0 where

@@ -35,27 +35,27 @@ abbrev pub same_word : Word → Word → Bool
 same_word Pause Pause = true
 same_word Left Left = true
 same_word End End = true
-same_word (State i) (State j) = i == j
+same_word (State seat) (State other_seat) = seat == other_seat
 same_word Phase Phase = true
 same_word Cset Cset = true
 same_word Free Free = true
 same_word Evac Evac = true
 same_word Claim Claim = true
 same_word Ask Ask = true
-same_word (Top r) (Top s) = r == s
-same_word (Tams r) (Tams s) = r == s
-same_word (Limit r) (Limit s) = r == s
-same_word (Current i) (Current j) = i == j
-same_word (Root t i) (Root u j) = (t == u) && (i == j)
-same_word (Count t) (Count u) = t == u
-same_word (Buffer t i) (Buffer u j) = (t == u) && (i == j)
-same_word (Wait t) (Wait u) = t == u
-same_word (Answer t) (Answer u) = t == u
-same_word (Grey k) (Grey l) = k == l
-same_word (Black k) (Black l) = k == l
-same_word (Heap a) (Heap b) = a == b
+same_word (Top region) (Top other_region) = region == other_region
+same_word (Tams region) (Tams other_region) = region == other_region
+same_word (Limit region) (Limit other_region) = region == other_region
+same_word (Current seat) (Current other_seat) = seat == other_seat
+same_word (Root mutator index) (Root other_mutator other_index) = (mutator == other_mutator) && (index == other_index)
+same_word (Count mutator) (Count other_mutator) = mutator == other_mutator
+same_word (Buffer mutator entry) (Buffer other_mutator other_entry) = (mutator == other_mutator) && (entry == other_entry)
+same_word (Wait mutator) (Wait other_mutator) = mutator == other_mutator
+same_word (Answer mutator) (Answer other_mutator) = mutator == other_mutator
+same_word (Grey number) (Grey other_number) = number == other_number
+same_word (Black number) (Black other_number) = number == other_number
+same_word (Heap address) (Heap other_address) = address == other_address
 same_word Share Share = true
-same_word (Pin t i) (Pin u j) = (t == u) && (i == j)
+same_word (Pin mutator slot) (Pin other_mutator other_slot) = (mutator == other_mutator) && (slot == other_slot)
 same_word _ _ = false
 
 -- the words of the heap

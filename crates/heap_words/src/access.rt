@@ -68,6 +68,72 @@ pub enum Access {
 }
 
 impl Access {
+    ghost use Rattle.heap_words.specs.declared.access.Access.TheVariants as accesses;
+
+    /// Reads the word at the index.
+    #[inline(always)]
+    pub fn load(at: usize) -> Access
+        ensures { result ≡ accesses.Load at }
+    {
+        Access::Load { at }
+    }
+
+    /// Writes the word at the index.
+    #[inline(always)]
+    pub fn store(at: usize, value: u64) -> Access
+        ensures { result ≡ accesses.Store at value }
+    {
+        Access::Store { at, value }
+    }
+
+    /// Reads the word at the index and writes it.
+    #[inline(always)]
+    pub fn swap(at: usize, value: u64) -> Access
+        ensures { result ≡ accesses.Swap at value }
+    {
+        Access::Swap { at, value }
+    }
+
+    /// Adds to the word at the index, modulo 2^64.
+    #[inline(always)]
+    pub fn add(at: usize, value: u64) -> Access
+        ensures { result ≡ accesses.Add at value }
+    {
+        Access::Add { at, value }
+    }
+
+    /// Subtracts from the word at the index, modulo 2^64.
+    #[inline(always)]
+    pub fn sub(at: usize, value: u64) -> Access
+        ensures { result ≡ accesses.Sub at value }
+    {
+        Access::Sub { at, value }
+    }
+
+    /// Keeps those bits of the word at the index that are also bits of the value.
+    #[inline(always)]
+    pub fn and(at: usize, value: u64) -> Access
+        ensures { result ≡ accesses.And at value }
+    {
+        Access::And { at, value }
+    }
+
+    /// Sets the bits of the value in the word at the index.
+    #[inline(always)]
+    pub fn or(at: usize, value: u64) -> Access
+        ensures { result ≡ accesses.Or at value }
+    {
+        Access::Or { at, value }
+    }
+
+    /// Writes the value at the index where the word there is the expected one.
+    #[inline(always)]
+    pub fn exchange(at: usize, expect: u64, value: u64) -> Access
+        ensures { result ≡ accesses.Exchange at expect value }
+    {
+        Access::Exchange { at, expect, value }
+    }
+
     /// The index of the word that is accessed.
     pub fn at(self) -> usize
         ensures { result ≡ table_index self }

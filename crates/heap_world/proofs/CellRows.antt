@@ -23,7 +23,7 @@ with_cell rows index i reference = set rows index (set (get_or rows index []) i 
 pub AreFull-with_cell : (cells : ℕ) (rows : List (List Reference)) (index i : ℕ) (reference : Reference) → index < length rows → AreFull cells rows → AreFull cells (with_cell rows index i reference)
 AreFull-with_cell cells rows index i reference low full u h =
     elim (cases_eq u index) [
-      | inl e ↦ ap (λ k. length (get_or (with_cell rows index i reference) k [])) e
+      | inl e ↦ ap (λ other_index. length (get_or (with_cell rows index i reference) other_index [])) e
           ∙ ap length (get_or-set_same rows index (set (get_or rows index []) i reference) [] low)
           ∙ length-set (get_or rows index []) i reference ∙ full index low
       | inr ne ↦ ap length (get_or-set_other rows index u (set (get_or rows index []) i reference) [] ne)
@@ -46,38 +46,38 @@ AreSet-with_cell cells f rows p index i reference at low in_rows full is before 
     elim (cases_eq u index) [
       | inl e ↦ elim (cases_eq j i) [
         | inl d ↦ (let place : p ≡ cells * u + j = at ∙ ap (λ k. cells * k + i) (sym e) ∙ ap (λ k. cells * u + k) (sym d) in
-            ap (λ k. get_or (get_or (with_cell rows index i reference) k []) j None) e
+            ap (λ other_index. get_or (get_or (with_cell rows index i reference) other_index []) j None) e
             ∙ ap (λ xs. get_or xs j None) same
-            ∙ ap (λ k. get_or (set row i reference) k None) d
+            ∙ ap (λ index. get_or (set row i reference) index None) d
             ∙ get_or-set_same row i reference None (let l : length row ≡ cells = full index in_rows in omega (arith, l, low))
             ∙ is ∙ ap f place)
         | inr ne ↦ (let there : cells * u ≡ cells * index = ap (λ k. cells * k) e in
             let earlier : cells * u + j < p = omega (arith, ne, there, at, below) in
-            ap (λ k. get_or (get_or (with_cell rows index i reference) k []) j None) e
+            ap (λ other_index. get_or (get_or (with_cell rows index i reference) other_index []) j None) e
             ∙ ap (λ xs. get_or xs j None) same
             ∙ get_or-set_other row i j reference None ne
-            ∙ ap (λ k. get_or (get_or rows k []) j None) (sym e) ∙ before u j within earlier)
+            ∙ ap (λ index. get_or (get_or rows index []) j None) (sym e) ∙ before u j within earlier)
       ]
       | inr apart ↦ ap (λ xs. get_or xs j None) (get_or-set_other rows index u (set row i reference) [] apart)
           ∙ before u j within (earlier_row cells p index i u j at low within apart below)
     ]
 
 pub cell_word-at : (cells : ℕ) (words : List ℕ) (t i : ℕ) → i < cells → cell_word cells words (t + 1) i ≡ get_or words (cells * t + i) 0
-cell_word-at cells words t i h =
+cell_word-at cells words t i below =
     let back : t + 1 - 1 ≡ t = omega arith in
     cond-true (leb 1 (t + 1) && ltb i cells) (get_or words (cells * (t + 1 - 1) + i) 0) 0
-    (and_from (leb 1 (t + 1)) (ltb i cells) (le-leb 1 (t + 1) (omega arith)) (lt-ltb i cells h))
+    (and_from (leb 1 (t + 1)) (ltb i cells) (le-leb 1 (t + 1) (omega arith)) (lt-ltb i cells below))
     ∙ ap (λ k. get_or words (cells * k + i) 0) back
 
 -- with all of them set, the rows are those of the words
 pub all_set : (cells : ℕ) (f : ℕ → Reference) (words : List ℕ) (rows : List (List Reference)) (threads : ℕ)
-    → length rows ≡ threads → length words ≡ cells * threads → AreFull cells rows → AreSet cells (λ k. f (get_or words k 0)) rows (length words)
+    → length rows ≡ threads → length words ≡ cells * threads → AreFull cells rows → AreSet cells (λ index. f (get_or words index 0)) rows (length words)
     → rows ≡ cell_rows cells (λ t i. f (cell_word cells words t i)) threads
 all_set cells f words rows threads count many full done =
     let row_of : ℕ → List Reference = λ t. map (λ i. f (cell_word cells words t i)) (range_with_len 0 cells) in
     ext_get_or [] rows (map row_of (range_with_len 1 threads)) (count ∙ sym (length-map-range_with_len row_of 1 threads))
-    (λ t h. let low : t < threads = omega (arith, count, h) in
-    let inside = mul-le cells (t + 1) cells threads (omega arith) (omega (arith, low)) in
-    fill_by_all (λ i. f (cell_word cells words (t + 1) i)) (get_or rows t []) cells None (full t h)
-    (λ i k. done t i k (omega (arith, inside, many, k)) ∙ ap f (sym (cell_word-at cells words t i k)))
-    ∙ sym (get_or-map-range_with_len row_of 1 threads t (t + 1) [] low (omega arith)))
+    (λ index h. let low : index < threads = omega (arith, count, h) in
+    let inside = mul-le cells (index + 1) cells threads (omega arith) (omega (arith, low)) in
+    fill_by_all (λ i. f (cell_word cells words (index + 1) i)) (get_or rows index []) cells None (full index h)
+    (λ i k. done index i k (omega (arith, inside, many, k)) ∙ ap f (sym (cell_word-at cells words index i k)))
+    ∙ sym (get_or-map-range_with_len row_of 1 threads index (index + 1) [] low (omega arith)))

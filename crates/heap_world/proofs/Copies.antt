@@ -41,10 +41,10 @@ pub record CopiesStay (config : Config) (world other_world : World) : Type 0 whe
   pub no_new : (address refs nums : ℕ) (name : Name) → IsCollected config (world.memory Cset) address → other_world.block address ≡ Some (thing name refs nums) → world.block address ≡ Some (thing name refs nums)
   pub tops : (region : ℕ) → IsIn (world.memory Cset) region → other_world.memory (Top region) ≡ world.memory (Top region)
 
-pub keeps_copies : (config : Config) (world other_world : World) → CopiesStay config world other_world → KeepsCopies config world other_world
-keeps_copies config world other_world stay = record {
+pub keeps_copies : (config : Config) (world next_world : World) → CopiesStay config world next_world → KeepsCopies config world next_world
+keeps_copies config world next_world stay = record {
   cset = stay.cset;
-  bodies = bodies_stay world.block other_world.block stay.things stay.moveds;
+  bodies = bodies_stay world.block next_world.block stay.things stay.moveds;
   moveds = stay.moveds;
   spents = stay.spents;
   pieces = stay.pieces;
@@ -55,9 +55,9 @@ keeps_copies config world other_world stay = record {
 }
 
 -- where the plot is the same, copies stay
-pub same_plot : (config : Config) (world other_world : World) → other_world.block ≡ world.block → other_world.memory Cset ≡ world.memory Cset → other_world.memory Evac ≡ world.memory Evac → ((region : ℕ) → IsIn (world.memory Cset) region → other_world.memory (Top region) ≡ world.memory (Top region))
-    → CopiesStay config world other_world
-same_plot config world other_world block cset evac tops = record {
+pub same_plot : (config : Config) (world next_world : World) → next_world.block ≡ world.block → next_world.memory Cset ≡ world.memory Cset → next_world.memory Evac ≡ world.memory Evac → ((region : ℕ) → IsIn (world.memory Cset) region → next_world.memory (Top region) ≡ world.memory (Top region))
+    → CopiesStay config world next_world
+same_plot config world next_world block cset evac tops = record {
   cset = cset;
   evac = evac;
   things = λ a refs nums name is. ap (λ b. b a) block ∙ is;
@@ -69,11 +69,11 @@ same_plot config world other_world block cset evac tops = record {
 }
 
 -- what another seat relies on then, where who copies and works is the same, and words of copies in the set stay while the seat copies
-pub rely_copies : (config : Config) (world other_world : World) (seat : ℕ) → CopiesStay config world other_world → other_world.ghost.copying seat ≡ world.ghost.copying seat → other_world.ghost.working seat ≡ world.ghost.working seat
+pub rely_copies : (config : Config) (world next_world : World) (seat : ℕ) → CopiesStay config world next_world → next_world.ghost.copying seat ≡ world.ghost.copying seat → next_world.ghost.working seat ≡ world.ghost.working seat
     → ((address k : ℕ) (body : Body) → seat < seat_count config.mutators config.helpers → world.ghost.copying seat ≡ true → IsCollected config (world.memory Cset) address → body_at (world.block address) ≡ Some body
-    → 1 ≤ k → k < body_words body → other_world.memory (Heap (address + k)) ≡ world.memory (Heap (address + k)))
-    → RelyCopies config seat world other_world
-rely_copies config world other_world seat stay copying working words = record { keeps = keeps_copies config world other_world stay; copying = copying; working = working; words = words }
+    → 1 ≤ k → k < body_words body → next_world.memory (Heap (address + k)) ≡ world.memory (Heap (address + k)))
+    → RelyCopies config seat world next_world
+rely_copies config world next_world seat stay copying working words = record { keeps = keeps_copies config world next_world stay; copying = copying; working = working; words = words }
 
 -- nothing changes where nothing is written
 pub same_copies : (config : Config) (world : World) (seat : ℕ) → RelyCopies config seat world world
@@ -121,10 +121,10 @@ none_evacuated config phase claim free top tams heap black block owner copying w
   };
   counted = counted_none config copying none;
   aside = record {
-    in_heap = λ r is. absurd (none_is_in r is);
-    in_use = λ r is_free is. none_is_in r is;
-    nobodys = λ r seat own is. none_is_in r is;
-    no_new = λ r is. absurd (none_is_in r is);
+    in_heap = λ region is. absurd (none_is_in region is);
+    in_use = λ region is_free is. none_is_in region is;
+    nobodys = λ region seat own is. none_is_in region is;
+    no_new = λ region is. absurd (none_is_in region is);
     no_promises = λ address seat words is inside. none_in_0 config address inside;
     no_rooms = λ address seat x is room inside. none_in_0 config address inside;
   };

@@ -18,8 +18,8 @@ moved_current heap address to is =
 
 -- of a word that is not null it is the same by the list of words
 pub current_same : (first : ℕ) (heap : List ℕ) (word : ℕ) → word ≢ 0 → current_at first heap word ≡ current_of (λ a. slice_index heap (a - first)) word
-current_same first heap word some =
-    cond-false (word == 0) 0 (if is_forwarded (slice_index heap (word - first)) then forwardee_in (slice_index heap (word - first)) else word) (ne_eqb word 0 some)
+current_same first heap word positive =
+    cond-false (word == 0) 0 (if is_forwarded (slice_index heap (word - first)) then forwardee_in (slice_index heap (word - first)) else word) (ne_eqb word 0 positive)
 
 -- and null stays null
 pub current_null : (first : ℕ) (heap : List ℕ) (word : ℕ) → word ≡ 0 → current_at first heap word ≡ 0

@@ -21,7 +21,7 @@ copy_stays plot other_plot bodies spents address (HasCopy.copy body is) = HasCop
 copy_stays plot other_plot bodies spents address (HasCopy.spent_copy words to is) = HasCopy.spent_copy words to (spents address words to is)
 
 module _ (config : Config) (phase cset evac claim free : ℕ) (top tams heap black : ℕ → ℕ) (block : Plot) (owner : ℕ → Option ℕ) (copying : ℕ → Bool) (working : ℕ → Option ℕ)
-    (e : IsEvacuating config phase cset evac claim free top tams heap black block owner copying working) where
+    (evacuating : IsEvacuating config phase cset evac claim free top tams heap black block owner copying working) where
   -- Words change, but not the headers, shapes, names and references of old copies.
   pub evacuated_words : (after : ℕ → ℕ)
       → ((address refs nums to : ℕ) (name : Name) → block address ≡ Some (moved name refs nums to) → (after address ≡ heap address) × (after (address + 1) ≡ heap (address + 1)) × (after (address + 2) ≡ heap (address + 2))
@@ -31,36 +31,36 @@ module _ (config : Config) (phase cset evac claim free : ℕ) (top tams heap bla
   evacuated_words after moveds spents = record {
     moved = record {
       moveds = λ address refs nums to name is.
-          let was = e.moved.moveds address refs nums to name is in
+          let was = evacuating.moved.moveds address refs nums to name is in
           let same = moveds address refs nums to name is in
           record { header = same.0 ∙ was.header; shape = same.1 ∙ was.shape; name_word = same.2 ∙ was.name_word; few_refs = was.few_refs; few_nums = was.few_nums; inside = was.inside; copy = was.copy; outside = was.outside; references = λ k below. let there = was.references k below in (there.0, subst (λ v. Points block v there.0) (sym (same.3 k below)) there.1) };
       spents = λ address words to is.
-          let was = e.moved.spents address words to is in
+          let was = evacuating.moved.spents address words to is in
           let same = spents address words to is in
           record { header = same.0 ∙ was.header; shape = ap object_words same.1 ∙ was.shape; inside = was.inside; copy = was.copy; piece = was.piece; there = was.there; long = was.long; outside = was.outside };
     };
-    counted = e.counted;
-    aside = e.aside;
-    kept = e.kept;
-    units = e.units;
+    counted = evacuating.counted;
+    aside = evacuating.aside;
+    kept = evacuating.kept;
+    units = evacuating.units;
   }
 
   -- The free word and who has regions change, but no region of the set is free or anyone's.
   pub evacuated_owned : (free_then : ℕ) (owner_then : ℕ → Option ℕ) → ((region : ℕ) → IsIn free_then region → IsIn cset region → ⊥) → ((region seat : ℕ) → owner_then region ≡ Some seat → IsIn cset region → ⊥)
       → IsEvacuating config phase cset evac claim free_then top tams heap black block owner_then copying working
   evacuated_owned free_then owner_then in_use nobodys = record {
-    moved = e.moved;
-    counted = e.counted;
+    moved = evacuating.moved;
+    counted = evacuating.counted;
     aside = record {
-      in_heap = e.aside.in_heap;
+      in_heap = evacuating.aside.in_heap;
       in_use = in_use;
       nobodys = nobodys;
-      no_new = e.aside.no_new;
-      no_promises = e.aside.no_promises;
-      no_rooms = e.aside.no_rooms;
+      no_new = evacuating.aside.no_new;
+      no_promises = evacuating.aside.no_promises;
+      no_rooms = evacuating.aside.no_rooms;
     };
-    kept = e.kept;
-    units = e.units;
+    kept = evacuating.kept;
+    units = evacuating.units;
   }
 
   -- A piece that stands for no object becomes one. It is not set aside, and is marked or was allocated since mark start.
@@ -73,32 +73,32 @@ module _ (config : Config) (phase cset evac claim free : ℕ) (top tams heap bla
   evacuated_made new_block address refs nums name piece room long here outside known stays only unnamed = record {
     moved = record {
       moveds = λ other_address more_refs more_nums to other_name is.
-          let was = e.moved.moveds other_address more_refs more_nums to other_name (old other_address (moved other_name more_refs more_nums to) (λ same. (let differ = same in cc)) is) in
+          let was = evacuating.moved.moveds other_address more_refs more_nums to other_name (old other_address (moved other_name more_refs more_nums to) (λ same. (let differ = same in cc)) is) in
           record { header = was.header; shape = was.shape; name_word = was.name_word; few_refs = was.few_refs; few_nums = was.few_nums; inside = was.inside; copy = things to more_refs more_nums other_name was.copy; outside = was.outside; references = λ k below. let there = was.references k below in (there.0, points_on (heap (other_address + 3 + k)) there.0 there.1) };
       spents = λ other_address words to is.
-          let was = e.moved.spents other_address words to (old other_address (spent words to) (λ same. (let differ = same in cc)) is) in
+          let was = evacuating.moved.spents other_address words to (old other_address (spent words to) (λ same. (let differ = same in cc)) is) in
           let then = piece_then to was.piece was.there in
           record { header = was.header; shape = was.shape; inside = was.inside; copy = still to was.copy; piece = then.0; there = then.1; long = then.2 ∙ was.long; outside = was.outside };
     };
-    counted = e.counted;
+    counted = evacuating.counted;
     aside = record {
-      in_heap = e.aside.in_heap;
-      in_use = e.aside.in_use;
-      nobodys = e.aside.nobodys;
-      no_new = e.aside.no_new;
-      no_promises = λ other_address seat words is. e.aside.no_promises other_address seat words (old other_address (promised seat words) (λ same. (let differ = same in cc)) is);
-      no_rooms = λ other_address seat x is room. e.aside.no_rooms other_address seat x (old_room other_address seat x is room) room;
+      in_heap = evacuating.aside.in_heap;
+      in_use = evacuating.aside.in_use;
+      nobodys = evacuating.aside.nobodys;
+      no_new = evacuating.aside.no_new;
+      no_promises = λ other_address seat words is. evacuating.aside.no_promises other_address seat words (old other_address (promised seat words) (λ same. (let differ = same in cc)) is);
+      no_rooms = λ other_address seat x is room. evacuating.aside.no_rooms other_address seat x (old_room other_address seat x is room) room;
     };
     kept = λ on. record {
       objects = λ other_address is. ⊎_elim
           (λ (same : other_address ≡ address). subst (λ x. HasMark config black x ⊎ IsYoung config tams x) (sym same) (known on))
-          (λ (other : other_address ≢ address). (e.kept on).objects other_address (was_markable other_address other is))
+          (λ (other : other_address ≢ address). (evacuating.kept on).objects other_address (was_markable other_address other is))
           (cases_eq other_address address);
-      young = λ other_address seat x is room. (e.kept on).young other_address seat x (old_room other_address seat x is room) room;
-      floors = (e.kept on).floors;
-      unmarked = λ other_address words is. (e.kept on).unmarked other_address words (old other_address (dead words) (λ same. (let differ = same in cc)) is);
-      deads = λ other_address words is. (e.kept on).deads other_address words (old other_address (dead words) (λ same. (let differ = same in cc)) is);
-      only = λ other_address above mark inside. copy_stays block new_block (bodies_stay block new_block things moveds) spents other_address ((e.kept on).only other_address above mark inside);
+      young = λ other_address seat x is room. (evacuating.kept on).young other_address seat x (old_room other_address seat x is room) room;
+      floors = (evacuating.kept on).floors;
+      unmarked = λ other_address words is. (evacuating.kept on).unmarked other_address words (old other_address (dead words) (λ same. (let differ = same in cc)) is);
+      deads = λ other_address words is. (evacuating.kept on).deads other_address words (old other_address (dead words) (λ same. (let differ = same in cc)) is);
+      only = λ other_address above mark inside. copy_stays block new_block (bodies_stay block new_block things moveds) spents other_address ((evacuating.kept on).only other_address above mark inside);
     };
     units = λ on region before is. ⊎_elim
         (λ swept. inl (⊎_elim
@@ -109,7 +109,7 @@ module _ (config : Config) (phase cset evac claim free : ℕ) (top tams heap bla
         (cases_eq other_address address)))
         swept))
         (λ works. inr works)
-        (e.units on region before is);
+        (evacuating.units on region before is);
   }
     where
       old : (other_address : ℕ) (other_piece : Block) → (thing name refs nums ≡ other_piece → ⊥) → new_block other_address ≡ Some other_piece → block other_address ≡ Some other_piece
@@ -132,7 +132,7 @@ module _ (config : Config) (phase cset evac claim free : ℕ) (top tams heap bla
       moveds other_address more_refs more_nums to other_name is = away other_address (moved other_name more_refs more_nums to) other_name is refl
 
       spents : (other_address words to : ℕ) → block other_address ≡ Some (spent words to) → new_block other_address ≡ Some (spent words to)
-      spents other_address words to is = stays other_address (spent words to) is (λ same. outside (subst (λ x. IsCollected config cset x) same (e.moved.spents other_address words to is).inside))
+      spents other_address words to is = stays other_address (spent words to) is (λ same. outside (subst (λ x. IsCollected config cset x) same (evacuating.moved.spents other_address words to is).inside))
 
       still : (other_address : ℕ) → IsMarkable block other_address → IsMarkable new_block other_address
       still = markable_stays block new_block things (λ other_address seat words is. ⊎_elim

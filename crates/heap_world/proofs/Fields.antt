@@ -7,12 +7,12 @@ use Rattle.heap_world.specs.World.{World, thing, dead, filler, IsCurrent}
 use Rattle.heap_world.specs.Rely.{KeepsFields}
 
 -- where tops at mark start, limits and claims stay, and each field of an object stays or is current then
-pub fields_stored : (config : Config) (world other_world : World) → ((region : ℕ) → other_world.memory (Tams region) ≡ world.memory (Tams region)) → ((region : ℕ) → other_world.memory (Limit region) ≡ world.memory (Limit region)) → other_world.memory Claim ≡ world.memory Claim
-    → ((address words : ℕ) → world.block address ≡ Some (dead words) → other_world.block address ≡ Some (dead words)) → ((address words : ℕ) → world.block address ≡ Some (filler words) → other_world.block address ≡ Some (filler words))
+pub fields_stored : (config : Config) (world next_world : World) → ((region : ℕ) → next_world.memory (Tams region) ≡ world.memory (Tams region)) → ((region : ℕ) → next_world.memory (Limit region) ≡ world.memory (Limit region)) → next_world.memory Claim ≡ world.memory Claim
+    → ((address words : ℕ) → world.block address ≡ Some (dead words) → next_world.block address ≡ Some (dead words)) → ((address words : ℕ) → world.block address ≡ Some (filler words) → next_world.block address ≡ Some (filler words))
     → (world.memory Phase ≡ 3 → (address refs nums k : ℕ) (name : Name) → world.block address ≡ Some (thing name refs nums) → k < refs
-    → (other_world.memory (Heap (address + 3 + k)) ≡ world.memory (Heap (address + 3 + k))) ⊎ IsCurrent other_world.block (other_world.memory (Heap (address + 3 + k))))
-    → KeepsFields config world other_world
-fields_stored config world other_world tams limits claim deads fillers fields = record {
+    → (next_world.memory (Heap (address + 3 + k)) ≡ world.memory (Heap (address + 3 + k))) ⊎ IsCurrent next_world.block (next_world.memory (Heap (address + 3 + k))))
+    → KeepsFields config world next_world
+fields_stored config world next_world tams limits claim deads fillers fields = record {
   tams = tams;
   limits = limits;
   deads = deads;
@@ -22,10 +22,10 @@ fields_stored config world other_world tams limits claim deads fillers fields = 
 }
 
 -- where the plot is the same, and no word of the heap is written
-pub fields_kept : (config : Config) (world other_world : World) → other_world.block ≡ world.block → ((region : ℕ) → other_world.memory (Tams region) ≡ world.memory (Tams region)) → ((region : ℕ) → other_world.memory (Limit region) ≡ world.memory (Limit region)) → other_world.memory Claim ≡ world.memory Claim
-    → ((address : ℕ) → other_world.memory (Heap address) ≡ world.memory (Heap address)) → KeepsFields config world other_world
-fields_kept config world other_world block tams limits claim heap =
-    fields_stored config world other_world tams limits claim (λ address words is. ap (λ b. b address) block ∙ is) (λ address words is. ap (λ b. b address) block ∙ is) (λ on address refs nums k name is below. inl (heap (address + 3 + k)))
+pub fields_kept : (config : Config) (world next_world : World) → next_world.block ≡ world.block → ((region : ℕ) → next_world.memory (Tams region) ≡ world.memory (Tams region)) → ((region : ℕ) → next_world.memory (Limit region) ≡ world.memory (Limit region)) → next_world.memory Claim ≡ world.memory Claim
+    → ((address : ℕ) → next_world.memory (Heap address) ≡ world.memory (Heap address)) → KeepsFields config world next_world
+fields_kept config world next_world block tams limits claim heap =
+    fields_stored config world next_world tams limits claim (λ address words is. ap (λ b. b address) block ∙ is) (λ address words is. ap (λ b. b address) block ∙ is) (λ on address refs nums k name is below. inl (heap (address + 3 + k)))
 
 -- where nothing is written
 pub same_fields : (config : Config) (world : World) → KeepsFields config world world

@@ -10,15 +10,15 @@ use Rattle.heap_words.specs.declared.config.Config.{Config}
 use Rattle.regions.specs.Sets.{IsIn, members_below, lowest_in, all_but}
 use Rattle.regions.proofs.SetLemmas.{lowest_member, no_members}
 use Rattle.heap_world.specs.World.{IsFreeWord, IsOpen}
-use Rattle.heap_world.proofs.Updates.{updated, updated_else}
+use Rattle.heap_world.proofs.FunctionUpdates.{updated, updated_else}
 
 -- the lowest region of a free word that has members is one of the heap
 pub lowest_within : (config : Config) (free kept : ℕ) → free < 2 ^ config.regions → kept < members_below free 64 → lowest_in free < config.regions
-lowest_within config free kept small some = ⊎_elim
+lowest_within config free kept small below = ⊎_elim
     (λ (within : lowest_in free < config.regions). within)
     (λ (past : config.regions ≤ lowest_in free).
     let bits : 2 ^ config.regions ≤ 2 ^ 64 = pow_mono config.in_range.most_regions in
-    let members : free ≢ 0 = λ none. (let count : members_below free 64 ≡ 0 = ap (λ s. members_below s 64) none ∙ no_members in omega (arith, count, some)) in
+    let members : free ≢ 0 = λ none. (let count : members_below free 64 ≡ 0 = ap (λ s. members_below s 64) none ∙ no_members in omega (arith, count, below)) in
     let lowest = lowest_member free (omega (arith, members)) (omega (arith, small, bits)) in
     let bit = bit_at_above free config.regions (lowest_in free) small past in
     absurd (omega (arith, bit, lowest.member)))

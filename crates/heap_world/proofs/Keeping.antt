@@ -20,11 +20,11 @@ points_stay plot other_plot names word None is = is
 points_stay plot other_plot names word (Some name) is = names word name is
 
 -- a load leaves the memory as it is
-pub load_keeps : (memory : Word → ℕ) (at : Word) → memory ≡ write memory at (memory at)
-load_keeps memory at = fun_ext (λ w. ⊎_elim
-    (λ (same : same_word at w ≡ true). sym (cond-true (same_word at w) (memory at) (memory w) same ∙ ap memory (same_word_true at w same)))
-    (λ (differs : same_word at w ≡ false). sym (cond-false (same_word at w) (memory at) (memory w) differs))
-    (cases_Bool (same_word at w)))
+pub load_keeps : (memory : Word → ℕ) (word : Word) → memory ≡ write memory word (memory word)
+load_keeps memory word = fun_ext (λ w. ⊎_elim
+    (λ (same : same_word word w ≡ true). sym (cond-true (same_word word w) (memory word) (memory w) same ∙ ap memory (same_word_true word w same)))
+    (λ (differs : same_word word w ≡ false). sym (cond-false (same_word word w) (memory word) (memory w) differs))
+    (cases_Bool (same_word word w)))
 
 -- a word may still be used
 pub usable_stays : (config : Config) (world other_world : World) → ((address refs nums : ℕ) (name : Name) → TargetIn config world address refs nums name → TargetIn config other_world address refs nums name) → (word : ℕ) → UsableIn config world word → UsableIn config other_world word
@@ -43,20 +43,20 @@ usable_now config evac block unmoved word (Some name) points =
 pub rely_same : (config : Config) (seat : ℕ) (world : World) → Rely config seat world world
 rely_same config seat world = record {
   names = λ a name is. is;
-  targets = λ a refs nums name is. is;
+  targets = λ address refs nums name is. is;
   rooms = λ a x is room. is;
   no_rooms = λ a x is room. is;
   room_words = λ a k x is room below. refl;
   promises = λ a words is. is;
-  no_promises = λ a words is. is;
-  promise_words = λ a words k is below. refl;
+  no_promises = λ address words is. is;
+  promise_words = λ address words k is below. refl;
   current = refl;
   opens = λ r is. is;
-  owners = λ r is. is;
+  owners = λ region is. is;
   tops = λ r is. refl;
   root_words = λ i. refl;
   roots = λ i. refl;
-  pin_words = λ i. refl;
+  pin_words = λ index. refl;
   pins = λ i. refl;
   count = refl;
   wait = refl;
@@ -69,8 +69,8 @@ rely_same config seat world = record {
 }
 
 -- what is relied on keeps all that the facts of a seat stand on
-pub keeps_of : (config : Config) (seat : ℕ) (world other_world : World) → Rely config seat world other_world → Keeps config seat world other_world
-keeps_of config seat world other_world rely = record {
+pub keeps_of : (config : Config) (seat : ℕ) (world next_world : World) → Rely config seat world next_world → Keeps config seat world next_world
+keeps_of config seat world next_world rely = record {
   names = rely.names;
   targets = rely.targets;
   promises = rely.promises;

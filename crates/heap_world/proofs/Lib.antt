@@ -1,5 +1,5 @@
 pub mod Keeping
-pub mod Updates
+pub mod FunctionUpdates
 pub mod Pointing
 pub mod Apart
 pub mod Pieces
@@ -27,7 +27,7 @@ pub mod Objects
 pub mod NewObject
 pub mod SharedOut
 pub mod RootChanges
-pub mod Marks
+pub mod TakenDown
 pub mod CopyRows
 pub mod Walks
 pub mod ObjectRows

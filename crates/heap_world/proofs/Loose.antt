@@ -78,7 +78,7 @@ module _ (config : Config) (plot other_plot : Plot) (same : SameButLoose plot ot
     kept = λ a refs nums name is. same.stays a (thing name refs nums) refl (marked.kept a refs nums name is);
     floors = floors;
     marking = λ on. record {
-      older = λ a refs nums name is. (marked.marking on).older a refs nums name (same.came a (thing name refs nums) refl is);
+      older = λ address refs nums name is. (marked.marking on).older address refs nums name (same.came address (thing name refs nums) refl is);
       promises = λ a seat words is. (marked.marking on).promises a seat words (same.came a (promised seat words) refl is);
       deads = λ a words is. (marked.marking on).deads a words (same.came a (dead words) refl is);
       young = young on;
@@ -94,50 +94,50 @@ module _ (config : Config) (plot other_plot : Plot) (same : SameButLoose plot ot
       → IsEvacuating config phase cset evac claim free top tams heap black plot owner copying working
       → (2 ≤ phase → AreYoungRooms config tams other_plot) → AreRoomsOutside config cset other_plot → (2 ≤ phase → (region : ℕ) → region < config.regions → tams region ≤ new_top region) → ((region : ℕ) → IsIn cset region → new_top region ≡ top region)
       → IsEvacuating config phase cset evac claim free new_top tams heap black other_plot owner copying working
-  evacuated_loose phase cset evac claim free top new_top tams heap black owner copying working e young outside floors set_tops = record {
+  evacuated_loose phase cset evac claim free top new_top tams heap black owner copying working evacuating young outside floors set_tops = record {
     moved = record {
       moveds = λ a refs nums to name is.
-          let was = e.moved.moveds a refs nums to name (same.came a (moved name refs nums to) refl is) in
+          let was = evacuating.moved.moveds a refs nums to name (same.came a (moved name refs nums to) refl is) in
           record { header = was.header; shape = was.shape; name_word = was.name_word; few_refs = was.few_refs; few_nums = was.few_nums; inside = was.inside; copy = same.stays to (thing name refs nums) refl was.copy; outside = was.outside; references = λ k below. let there = was.references k below in (there.0, points_on (heap (a + 3 + k)) there.0 there.1) };
       spents = λ a words to is.
-          let was = e.moved.spents a words to (same.came a (spent words to) refl is) in
+          let was = evacuating.moved.spents a words to (same.came a (spent words to) refl is) in
           record { header = was.header; shape = was.shape; inside = was.inside; copy = markable_loose to was.copy; piece = was.piece; there = markable_piece to was.piece was.copy was.there; long = was.long; outside = was.outside };
     };
-    counted = e.counted;
+    counted = evacuating.counted;
     aside = record {
-      in_heap = e.aside.in_heap;
-      in_use = e.aside.in_use;
-      nobodys = e.aside.nobodys;
-      no_new = λ region is. set_tops region is ∙ e.aside.no_new region is;
-      no_promises = λ a seat words is. e.aside.no_promises a seat words (same.came a (promised seat words) refl is);
+      in_heap = evacuating.aside.in_heap;
+      in_use = evacuating.aside.in_use;
+      nobodys = evacuating.aside.nobodys;
+      no_new = λ region is. set_tops region is ∙ evacuating.aside.no_new region is;
+      no_promises = λ address seat words is. evacuating.aside.no_promises address seat words (same.came address (promised seat words) refl is);
       no_rooms = outside;
     };
     kept = λ on. record {
-      objects = λ a is. (e.kept on).objects a (was_markable a is);
+      objects = λ address is. (evacuating.kept on).objects address (was_markable address is);
       young = young on;
       floors = floors on;
-      unmarked = λ a words is. (e.kept on).unmarked a words (same.came a (dead words) refl is);
-      deads = λ a words is. (e.kept on).deads a words (same.came a (dead words) refl is);
+      unmarked = λ a words is. (evacuating.kept on).unmarked a words (same.came a (dead words) refl is);
+      deads = λ a words is. (evacuating.kept on).deads a words (same.came a (dead words) refl is);
       only = λ a above mark inside.
           copy_stays plot other_plot
           (bodies_stay plot other_plot (λ x refs nums name. same.stays x (thing name refs nums) refl) (λ x refs nums to name. same.stays x (moved name refs nums to) refl))
-          (λ x words to. same.stays x (spent words to) refl) a ((e.kept on).only a above mark inside);
+          (λ x words to. same.stays x (spent words to) refl) a ((evacuating.kept on).only a above mark inside);
     };
     units = λ on region before is. ⊎_elim
         (λ swept. inl (⊎_elim (λ out. inl out) (λ none. inr (λ a refs nums name from to there. none a refs nums name from to (same.came a (thing name refs nums) refl there))) swept))
         (λ works. inr works)
-        (e.units on region before is);
+        (evacuating.units on region before is);
   }
 
   -- updating goes on
   pub updated_loose : (cset claim : ℕ) (top new_top limit heap : ℕ → ℕ) (scanning : ℕ → Option Scan) → IsUpdating config cset claim top limit heap plot scanning
       → AreYoungRooms config limit other_plot → ((region : ℕ) → region < config.regions → limit region ≤ new_top region) → IsUpdating config cset claim new_top limit heap other_plot scanning
-  updated_loose cset claim top new_top limit heap scanning e young limits = record {
-    outside = λ a refs nums name is. e.outside a refs nums name (same.came a (thing name refs nums) refl is);
+  updated_loose cset claim top new_top limit heap scanning updating young limits = record {
+    outside = λ a refs nums name is. updating.outside a refs nums name (same.came a (thing name refs nums) refl is);
     renewed = λ a refs nums k name is below. ⊎_elim
-        (λ current. inl (current_stays plot other_plot (λ b more_refs more_nums n. same.stays b (thing n more_refs more_nums) refl) (heap (a + 3 + k)) current))
+        (λ current. inl (current_stays plot other_plot (λ b more_refs more_nums name. same.stays b (thing name more_refs more_nums) refl) (heap (a + 3 + k)) current))
         (λ due. inr due)
-        (e.renewed a refs nums k name (same.came a (thing name refs nums) refl is) below);
+        (updating.renewed a refs nums k name (same.came a (thing name refs nums) refl is) below);
     young = young;
     limits = limits;
   }

@@ -26,18 +26,18 @@ pub entries_stay : (config : Config) (count : ℕ → ℕ) (buffer : ℕ → ℕ
 entries_stay config count buffer plot other_plot stays are = record { few = are.few; of_objects = λ t k inside below. stays _ (are.of_objects t k inside below) }
 
 -- what is noted stays so where the words of marks and buffers, and who records what, are the same
-pub noted_same : (config : Config) (world other_world : World) → ((n : ℕ) → other_world.memory (Grey n) ≡ world.memory (Grey n)) → ((t : ℕ) → other_world.memory (Count t) ≡ world.memory (Count t)) → ((t index : ℕ) → other_world.memory (Buffer t index) ≡ world.memory (Buffer t index))
-    → ((t : ℕ) → other_world.ghost.recording t ≡ world.ghost.recording t) → (v : ℕ) → NotedIn config world v → NotedIn config other_world v
+pub noted_same : (config : Config) (world other_world : World) → ((number : ℕ) → other_world.memory (Grey number) ≡ world.memory (Grey number)) → ((mutator : ℕ) → other_world.memory (Count mutator) ≡ world.memory (Count mutator)) → ((mutator index : ℕ) → other_world.memory (Buffer mutator index) ≡ world.memory (Buffer mutator index))
+    → ((mutator : ℕ) → other_world.ghost.recording mutator ≡ world.ghost.recording mutator) → (v : ℕ) → NotedIn config world v → NotedIn config other_world v
 noted_same config world other_world greys counts buffers hands v (IsNoted.by_mark mark) = IsNoted.by_mark (ap (λ n. bit_at n (mark_bit config v)) (greys (mark_word config v)) ∙ mark)
 noted_same config world other_world greys counts buffers hands v (IsNoted.by_entry t index inside below is) = IsNoted.by_entry t index inside (subst (λ n. index < n) (sym (counts t)) below) (buffers t index ∙ is)
 noted_same config world other_world greys counts buffers hands v (IsNoted.by_hand t inside is) = IsNoted.by_hand t inside (hands t ∙ is)
 
 -- what another seat relies on of marking, where only words of the heap and pieces change
-pub rely_marks : (config : Config) (world other_world : World) (seat : ℕ) → other_world.memory Phase ≡ world.memory Phase → ((n : ℕ) → other_world.memory (Grey n) ≡ world.memory (Grey n)) → ((t : ℕ) → other_world.memory (Count t) ≡ world.memory (Count t))
-    → ((t index : ℕ) → other_world.memory (Buffer t index) ≡ world.memory (Buffer t index)) → other_world.ghost.snapshot ≡ world.ghost.snapshot → ((t : ℕ) → other_world.ghost.recording t ≡ world.ghost.recording t) → other_world.ghost.scanning seat ≡ world.ghost.scanning seat
-    → ((address : ℕ) → IsMarkable world.block address → IsMarkable other_world.block address) → ((address : ℕ) → IsMarkable world.block address → other_world.memory (Heap (address + 1)) ≡ world.memory (Heap (address + 1))) → RelyMarks config seat world other_world
-rely_marks config world other_world seat phase greys counts buffers snapshot hands scans markable shapes = record {
-  keeps = record { phase = phase; snapshot = snapshot; markable = λ on. markable; shapes = shapes; noted = noted_same config world other_world greys counts buffers hands };
+pub rely_marks : (config : Config) (world next_world : World) (seat : ℕ) → next_world.memory Phase ≡ world.memory Phase → ((number : ℕ) → next_world.memory (Grey number) ≡ world.memory (Grey number)) → ((mutator : ℕ) → next_world.memory (Count mutator) ≡ world.memory (Count mutator))
+    → ((mutator index : ℕ) → next_world.memory (Buffer mutator index) ≡ world.memory (Buffer mutator index)) → next_world.ghost.snapshot ≡ world.ghost.snapshot → ((mutator : ℕ) → next_world.ghost.recording mutator ≡ world.ghost.recording mutator) → next_world.ghost.scanning seat ≡ world.ghost.scanning seat
+    → ((address : ℕ) → IsMarkable world.block address → IsMarkable next_world.block address) → ((address : ℕ) → IsMarkable world.block address → next_world.memory (Heap (address + 1)) ≡ world.memory (Heap (address + 1))) → RelyMarks config seat world next_world
+rely_marks config world next_world seat phase greys counts buffers snapshot hands scans markable shapes = record {
+  keeps = record { phase = phase; snapshot = snapshot; markable = λ on. markable; shapes = shapes; noted = noted_same config world next_world greys counts buffers hands };
   recording = hands seat;
   scanning = scans;
   entries = counts seat;

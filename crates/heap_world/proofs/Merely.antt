@@ -8,13 +8,13 @@ use Rattle.heap_world.proofs.Standing.{sound}
 
 IsWalkable-prop : (first : ℕ) (heap roots : List ℕ) → IsProp (IsWalkable first heap roots)
 IsWalkable-prop first heap roots one other = λ i. record {
-  roots_named = λ a h ne. let x = one.roots_named a h ne in let y = other.roots_named a h ne in ((le_prop x.0.0 y.0.0 i, le_prop x.0.1 y.0.1 i), (le_prop x.1.0 y.1.0 i, le_prop x.1.1 y.1.1 i));
-  fields_named = λ m a led h ne. let x = one.fields_named m a led h ne in let y = other.fields_named m a led h ne in ((le_prop x.0.0 y.0.0 i, le_prop x.0.1 y.0.1 i), (le_prop x.1.0 y.1.0 i, le_prop x.1.1 y.1.1 i));
+  roots_named = λ address h ne. let x = one.roots_named address h ne in let y = other.roots_named address h ne in ((le_prop x.0.0 y.0.0 i, le_prop x.0.1 y.0.1 i), (le_prop x.1.0 y.1.0 i, le_prop x.1.1 y.1.1 i));
+  fields_named = λ m address led h ne. let x = one.fields_named m address led h ne in let y = other.fields_named m address led h ne in ((le_prop x.0.0 y.0.0 i, le_prop x.0.1 y.0.1 i), (le_prop x.1.0 y.1.0 i, le_prop x.1.1 y.1.1 i));
   above = λ a led. le_prop (one.above a led) (other.above a led) i;
   below = λ a led. le_prop (one.below a led) (other.below a led) i;
   apart = λ a b led_a led_b before. le_prop (one.apart a b led_a led_b before) (other.apart a b led_a led_b before) i;
 }
 
 pub sound_some : (first : ℕ) (heap roots pins : List ℕ) → 1 ≤ first → StandForSome first heap roots pins → IsWalkable first heap (roots ++ pins)
-sound_some first heap roots pins one stand =
-    ∥∥₁_elim stand (IsWalkable-prop first heap (roots ++ pins)) (λ s. sound first heap roots pins s.0 s.1.0 one s.1.1)
+sound_some first heap roots pins positive stand =
+    ∥∥₁_elim stand (IsWalkable-prop first heap (roots ++ pins)) (λ s. sound first heap roots pins s.0 s.1.0 positive s.1.1)

@@ -1,11 +1,12 @@
 -- A piece that is no object yet, room in hand or a promised object, becomes one: it keeps its words, and the graph has the object
 -- under a fresh name.
-use Rattle.std.proofs.Common.{◌≡◌, ◌≢◌, ℕ, zero, suc, ◌+◌, ◌-◌, ◌<◌, ◌≤◌, ◌⊎◌, inl, inr, Bool, true, false, replicate, Option, Some, None, ⊎_elim, refl, sym, ap, ◌∙◌, subst, arith}
-use Rattle.std.specs.Prelude.{◌==◌, if◌then◌else◌, slice_get}
+use Rattle.std.proofs.Common.{◌≡◌, ◌≢◌, ℕ, ◌+◌, ◌-◌, ◌<◌, ◌≤◌, ◌⊎◌, inl, inr, Bool, true, false, Option, Some, None, ⊎_elim, refl, sym, ap, ◌∙◌, subst, arith}
+use Rattle.std.specs.Prelude.{◌==◌, if◌then◌else◌}
 use Rattle.std.proofs.lemmas.Bool.{cases_eq, cases_Bool, cond-true, cond-false, eq-eqb}
 use Rattle.std.proofs.lemmas.Bool.Decides.{nat_tests}
 use Rattle.std.proofs.lemmas.Option.{none-some, same_Some, slice_get_within}
 use Rattle.std.proofs.lemmas.List.{length-replicate}
+use Rattle.shen_graph.proofs.Lists.{all_alike}
 use Rattle.heap_words.specs.declared.config.Config.{Config}
 use Rattle.regions.specs.Place.{base_of}
 use Rattle.shen_graph.specs.declared.name.Name.{Name}
@@ -13,7 +14,7 @@ use Rattle.shen_graph.specs.Graph.{Object, same_name, blank}
 use Rattle.shen_graph.proofs.PlainLemmas.{same_name-true, same_name-itself}
 use Rattle.heap_words.specs.Encoding.{fresh_word, next_in, end_in}
 use Rattle.heap_world.specs.World.{Block, thing, spent, hand, promised, dead, filler, spare, carved, words_of, room_of, Plot, name_at, Points, IsInUse, IsPlotted, IsFilled, IsThing, IsGiven, AreObjects, IsParsable, AreOwned, AreUnwritten, Snapshot, Scan, IsMarkable, IsYoung, IsCollected, KeepsSnapshot, IsEvacuating, IsCurrent, IsUpdating}
-use Rattle.heap_world.proofs.Updates.{updated, updated_there, updated_else}
+use Rattle.heap_world.proofs.FunctionUpdates.{updated, updated_there, updated_else}
 use Rattle.heap_world.proofs.Pointing.{named_piece, room_unnamed}
 use Rattle.heap_world.proofs.Objects.{two_names, where_object}
 use Rattle.heap_world.proofs.Unwritten.{unwritten_stays}
@@ -22,12 +23,6 @@ use Rattle.regions.specs.Marks.{HasMark}
 use Rattle.heap_world.proofs.Evacuated.{evacuated_made}
 use Rattle.heap_world.proofs.Updated.{updated_made}
 use Rattle.heap_world.proofs.Pieces.{piece_cases, object_reads}
-
--- the references of a new object are null, and its numbers 0
-pub all_alike : {A : Type 0} (n index : ℕ) (x y : A) → slice_get (replicate n x) index ≡ Some y → y ≡ x
-all_alike zero index x y is = cc
-all_alike (suc n) zero x y is = sym (same_Some x y is)
-all_alike (suc n) (suc index) x y is = all_alike n index x y is
 
 -- the words of a new object past its name are 0
 zero_word : (seat made refs nums k : ℕ) → 3 ≤ k → fresh_word seat made refs nums k ≡ 0
@@ -110,7 +105,7 @@ module _ (config : Config) (top : ℕ → ℕ) (block : Plot) (address refs nums
   plotted_again : IsPlotted config top block → IsPlotted config top new_block
   plotted_again plotted = record {
     tops = plotted.tops;
-    in_use = λ a b is. let old = old_piece a b is in subst (λ w. IsInUse config top a w) old.2 (plotted.in_use a old.0 old.1);
+    in_use = λ address b is. let old = old_piece address b is in subst (λ words. IsInUse config top address words) old.2 (plotted.in_use address old.0 old.1);
     apart = λ a b x y is_x is_y before.
         let old_x = old_piece a x is_x in
         let old_y = old_piece b y is_y in
@@ -196,36 +191,36 @@ module _ (config : Config) (top : ℕ → ℕ) (block : Plot) (address refs nums
     -- the words are those of the graph's objects
     pub objects_again : IsThing heap new_block address refs nums name o → AreObjects heap new_block (where_object object name o)
     objects_again new_is = record {
-      each = λ a more_refs more_nums n is. ⊎_elim
-          (λ (new : (a ≡ address) × (new_thing ≡ thing n more_refs more_nums)).
+      each = λ other_address more_refs more_nums other_name is. ⊎_elim
+          (λ (new : (other_address ≡ address) × (new_thing ≡ thing other_name more_refs more_nums)).
           let same = new.1 in
-          let names : name ≡ n = cc in
+          let names : name ≡ other_name = cc in
           let all_refs : refs ≡ more_refs = cc in
           let all_nums : nums ≡ more_nums = cc in (
             o,
             ap (where_object object name o) (sym names) ∙ own_object,
-            subst (λ b. IsThing heap new_block b more_refs more_nums n o) (sym new.0)
+            subst (λ b. IsThing heap new_block b more_refs more_nums other_name o) (sym new.0)
                 (subst (λ m. IsThing heap new_block address more_refs more_nums m o) names
                 (subst (λ k. IsThing heap new_block address k more_nums name o) all_refs
                 (subst (λ k. IsThing heap new_block address refs k name o) all_nums new_is))),
           ))
-          (λ (old : (a ≢ address) × (block a ≡ Some (thing n more_refs more_nums))).
-          let was = objects.each a more_refs more_nums n old.1 in (
+          (λ (old : (other_address ≢ address) × (block other_address ≡ Some (thing other_name more_refs more_nums))).
+          let was = objects.each other_address more_refs more_nums other_name old.1 in (
             was.0,
-            other_object n (not_old a more_refs more_nums n old.1) ∙ was.1,
-            object_reads heap heap block new_block a more_refs more_nums n was.0 (λ k below. refl) names_stay was.2,
+            other_object other_name (not_old other_address more_refs more_nums other_name old.1) ∙ was.1,
+            object_reads heap heap block new_block other_address more_refs more_nums other_name was.0 (λ k below. refl) names_stay was.2,
           ))
-          (piece_cases block address new_thing a (thing n more_refs more_nums) is);
-      once = λ a b refs_a nums_a refs_b nums_b n is_a is_b. ⊎_elim
-          (λ (new_a : (a ≡ address) × (new_thing ≡ thing n refs_a nums_a)). ⊎_elim
-          (λ (new_b : (b ≡ address) × (new_thing ≡ thing n refs_b nums_b)). new_a.0 ∙ sym new_b.0)
-          (λ (old_b : (b ≢ address) × (block b ≡ Some (thing n refs_b nums_b))). let same = new_a.1 in let names : name ≡ n = cc in absurd (not_old b refs_b nums_b n old_b.1 names))
-          (piece_cases block address new_thing b (thing n refs_b nums_b) is_b))
-          (λ (old_a : (a ≢ address) × (block a ≡ Some (thing n refs_a nums_a))). ⊎_elim
-          (λ (new_b : (b ≡ address) × (new_thing ≡ thing n refs_b nums_b)). let same = new_b.1 in let names : name ≡ n = cc in absurd (not_old a refs_a nums_a n old_a.1 names))
-          (λ (old_b : (b ≢ address) × (block b ≡ Some (thing n refs_b nums_b))). objects.once a b refs_a nums_a refs_b nums_b n old_a.1 old_b.1)
-          (piece_cases block address new_thing b (thing n refs_b nums_b) is_b))
-          (piece_cases block address new_thing a (thing n refs_a nums_a) is_a);
+          (piece_cases block address new_thing other_address (thing other_name more_refs more_nums) is);
+      once = λ other_address b refs_a nums_a refs_b nums_b other_name is_a is_b. ⊎_elim
+          (λ (new_a : (other_address ≡ address) × (new_thing ≡ thing other_name refs_a nums_a)). ⊎_elim
+          (λ (new_b : (b ≡ address) × (new_thing ≡ thing other_name refs_b nums_b)). new_a.0 ∙ sym new_b.0)
+          (λ (old_b : (b ≢ address) × (block b ≡ Some (thing other_name refs_b nums_b))). let same = new_a.1 in let names : name ≡ other_name = cc in absurd (not_old b refs_b nums_b other_name old_b.1 names))
+          (piece_cases block address new_thing b (thing other_name refs_b nums_b) is_b))
+          (λ (old_a : (other_address ≢ address) × (block other_address ≡ Some (thing other_name refs_a nums_a))). ⊎_elim
+          (λ (new_b : (b ≡ address) × (new_thing ≡ thing other_name refs_b nums_b)). let same = new_b.1 in let names : name ≡ other_name = cc in absurd (not_old other_address refs_a nums_a other_name old_a.1 names))
+          (λ (old_b : (b ≢ address) × (block b ≡ Some (thing other_name refs_b nums_b))). objects.once other_address b refs_a nums_a refs_b nums_b other_name old_a.1 old_b.1)
+          (piece_cases block address new_thing b (thing other_name refs_b nums_b) is_b))
+          (piece_cases block address new_thing other_address (thing other_name refs_a nums_a) is_a);
     }
 
   -- Regions are owned as before, where the piece was not of a buffer.
@@ -262,10 +257,10 @@ module _ (config : Config) (top : ℕ → ℕ) (block : Plot) (address refs nums
 
 -- the counts with one more for a thread
 abbrev pub with_count : (ℕ → ℕ) → ℕ → ℕ → ℕ
-with_count count thread t = if t == thread then count t + 1 else count t
+with_count count thread other_thread = if other_thread == thread then count other_thread + 1 else count other_thread
 
 -- no count falls
-count_grows : (count : ℕ → ℕ) (thread t : ℕ) → count t ≤ with_count count thread t
+count_grows : (count : ℕ → ℕ) (thread other_thread : ℕ) → count other_thread ≤ with_count count thread other_thread
 count_grows count thread t = grind (arith, nat_tests)
 
 -- its own grows by one
@@ -278,7 +273,7 @@ pub given_again : (config : Config) (count : ℕ → ℕ) (object : Name → Opt
     → IsGiven config (with_count count name.thread) name
     → (other_name : Name) (p : Object) → where_object object name o other_name ≡ Some p → IsGiven config (with_count count name.thread) other_name
 given_again config count object name o given new other_name p is = ⊎_elim
-    (λ (same : same_name other_name name ≡ true). subst (λ m. IsGiven config (with_count count name.thread) m) (sym (same_name-true other_name name same)) new)
+    (λ (same : same_name other_name name ≡ true). subst (λ other_name. IsGiven config (with_count count name.thread) other_name) (sym (same_name-true other_name name same)) new)
     (λ (differs : same_name other_name name ≡ false).
     let was = given other_name p (sym (cond-false (same_name other_name name) _ _ differs) ∙ is) in
     let grown = count_grows count name.thread other_name.thread in

@@ -11,7 +11,7 @@ use Rattle.regions.proofs.PlaceLemmas.{regions_tile}
 use Rattle.shen_graph.specs.declared.name.Name.{Name}
 use Rattle.shen_graph.specs.Graph.{Object}
 use Rattle.heap_world.specs.World.{Block, spent, hand, promised, dead, filler, spare, carved, Plot, name_at, room_of, is_loose, IsCollected, IsFreeWord, AreRooms, AreBuffers, IsParsable, HasContents, AreOwned, AreUnwritten, Snapshot, Scan, IsMarkable, IsYoung, AreYoungRooms, KeepsSnapshot, IsEvacuating, IsUpdating}
-use Rattle.heap_world.proofs.Updates.{updated, updated_there, updated_else}
+use Rattle.heap_world.proofs.FunctionUpdates.{updated, updated_there, updated_else}
 use Rattle.heap_world.proofs.Unwritten.{unwritten_stays}
 use Rattle.heap_world.proofs.Loose.{SameButLoose, markable_loose, contents_loose, marked_loose, evacuated_loose, updated_loose}
 use Rattle.heap_world.proofs.Joined as joined
@@ -62,11 +62,11 @@ module _ (config : Config) (top : ℕ → ℕ) (block : Plot) (region at words s
   -- all pieces but loose ones are the same
   pub same_but_loose : SameButLoose block new_block
   same_but_loose = record {
-    stays = λ a x fixed is. stays a x is;
-    came = λ a x fixed is. ⊎_elim
-        (λ (new : (a ≡ address) × (carved seat words ≡ x)). absurd (true≢false (ap is_loose new.1 ∙ fixed)))
-        (λ (old : (a ≢ address) × (block a ≡ Some x)). old.1)
-        (piece_cases block address (carved seat words) a x is);
+    stays = λ address piece fixed is. stays address piece is;
+    came = λ other_address piece fixed is. ⊎_elim
+        (λ (new : (other_address ≡ address) × (carved seat words ≡ piece)). absurd (true≢false (ap is_loose new.1 ∙ fixed)))
+        (λ (old : (other_address ≢ address) × (block other_address ≡ Some piece)). old.1)
+        (piece_cases block address (carved seat words) other_address piece is);
   }
 
   -- a promised object is an old one
@@ -74,7 +74,7 @@ module _ (config : Config) (top : ℕ → ℕ) (block : Plot) (region at words s
   old_promise address other more is = same_but_loose.came address (promised other more) refl is
 
   -- room of another seat is old
-  pub old_room : (a other : ℕ) (piece : Block) → other ≢ seat → new_block a ≡ Some piece → room_of piece ≡ Some other → block a ≡ Some piece
+  pub old_room : (address other : ℕ) (piece : Block) → other ≢ seat → new_block address ≡ Some piece → room_of piece ≡ Some other → block address ≡ Some piece
   old_room a other piece differs is room = ⊎_elim
       (λ (new : (a ≡ address) × (carved seat words ≡ piece)). absurd (differs (sym (same_Some seat other (ap room_of new.1 ∙ room)))))
       (λ (old : (a ≢ address) × (block a ≡ Some piece)). old.1)
@@ -85,7 +85,7 @@ module _ (config : Config) (top : ℕ → ℕ) (block : Plot) (region at words s
   own_room a piece is = ⊎_elim (λ new. inl new) (λ (old : (a ≢ address) × (block a ≡ Some piece)). inr old.1) (piece_cases block address (carved seat words) a piece is)
 
   -- a piece of another kind is old
-  old_other : (a : ℕ) (piece : Block) → (carved seat words ≡ piece → ⊥) → new_block a ≡ Some piece → block a ≡ Some piece
+  old_other : (address : ℕ) (piece : Block) → (carved seat words ≡ piece → ⊥) → new_block address ≡ Some piece → block address ≡ Some piece
   old_other a piece differs is = ⊎_elim
       (λ (new : (a ≡ address) × (carved seat words ≡ piece)). absurd (differs new.1))
       (λ (old : (a ≢ address) × (block a ≡ Some piece)). old.1)
@@ -96,16 +96,16 @@ module _ (config : Config) (top : ℕ → ℕ) (block : Plot) (region at words s
   parsable_more = record {
     plotted = joined.plotted_more config top block region at (carved seat words) joins;
     filled = joined.filled_more config top block region at (carved seat words) joins grows.parsable.filled;
-    promises = λ a other more is. grows.parsable.promises a other more (old_promise a other more is);
+    promises = λ address other more is. grows.parsable.promises address other more (old_promise address other more is);
     deads = λ a more is. grows.parsable.deads a more (same_but_loose.came a (dead more) refl is);
     spents = λ a more to is. grows.parsable.spents a more to (same_but_loose.came a (spent more to) refl is);
-    fillers = λ a more is. grows.parsable.fillers a more (old_other a (filler more) (λ differ. cc) is);
+    fillers = λ address more is. grows.parsable.fillers address more (old_other address (filler more) (λ differ. cc) is);
   }
 
   -- pieces that nobody writes to are as before
   pub unwritten_more : (heap : ℕ → ℕ) → AreUnwritten heap block → AreUnwritten heap new_block
-  unwritten_more heap = unwritten_stays heap heap block new_block (λ a other more is. (old_promise a other more is, λ k below. refl)) (λ a more is. (same_but_loose.came a (dead more) refl is, refl, refl))
-      (λ a more is. (old_other a (filler more) (λ differ. cc) is, refl))
+  unwritten_more heap = unwritten_stays heap heap block new_block (λ address other more is. (old_promise address other more is, λ k below. refl)) (λ a more is. (same_but_loose.came a (dead more) refl is, refl, refl))
+      (λ address more is. (old_other address (filler more) (λ differ. cc) is, refl))
 
   -- what can be marked still can
   pub markable_more : (address : ℕ) → IsMarkable block address → IsMarkable new_block address
@@ -147,22 +147,22 @@ module _ (config : Config) (top : ℕ → ℕ) (block : Plot) (region at words s
   -- evacuation goes on, where the region is not set aside
   pub evacuating_more : (phase cset evac claim free : ℕ) (tams heap black : ℕ → ℕ) (owner : ℕ → Option ℕ) (copying : ℕ → Bool) (working : ℕ → Option ℕ) → (IsIn cset region → ⊥)
       → IsEvacuating config phase cset evac claim free top tams heap black block owner copying working → IsEvacuating config phase cset evac claim free new_top tams heap black new_block owner copying working
-  evacuating_more phase cset evac claim free tams heap black owner copying working outside e =
+  evacuating_more phase cset evac claim free tams heap black owner copying working outside evacuating =
       let inside : IsOf config region address = record { from = omega arith; before = (let room = grows.room in let some = grows.some in omega (arith, room, some)) } in
       let of_region : region_with config address ≡ region = regions_tile.of_no_other config region address inside in
-      evacuated_loose config block new_block same_but_loose phase cset evac claim free top new_top tams heap black owner copying working e
-      (λ on. young_more tams (e.kept on).floors (e.kept on).young)
-      (λ a other x is room collected. ⊎_elim
-      (λ (new : (a ≡ address) × (carved seat words ≡ x)). outside (subst (λ r. IsIn cset r) of_region (subst (IsCollected config cset) new.0 collected)))
-      (λ (old : (a ≢ address) × (block a ≡ Some x)). e.aside.no_rooms a other x old.1 room collected)
-      (piece_cases block address (carved seat words) a x is))
-      (λ on. floors_more tams (e.kept on).floors)
+      evacuated_loose config block new_block same_but_loose phase cset evac claim free top new_top tams heap black owner copying working evacuating
+      (λ on. young_more tams (evacuating.kept on).floors (evacuating.kept on).young)
+      (λ other_address other piece is room collected. ⊎_elim
+      (λ (new : (other_address ≡ address) × (carved seat words ≡ piece)). outside (subst (λ r. IsIn cset r) of_region (subst (IsCollected config cset) new.0 collected)))
+      (λ (old : (other_address ≢ address) × (block other_address ≡ Some piece)). evacuating.aside.no_rooms other_address other piece old.1 room collected)
+      (piece_cases block address (carved seat words) other_address piece is))
+      (λ on. floors_more tams (evacuating.kept on).floors)
       (λ r is. updated_else top region (at + words) r (λ now. outside (subst (λ r. IsIn cset r) (sym now) is)))
 
   -- updating goes on
   pub updating_more : (cset claim : ℕ) (limit heap : ℕ → ℕ) (scanning : ℕ → Option Scan) → IsUpdating config cset claim top limit heap block scanning → IsUpdating config cset claim new_top limit heap new_block scanning
-  updating_more cset claim limit heap scanning e =
-      updated_loose config block new_block same_but_loose cset claim top new_top limit heap scanning e (young_more limit e.limits e.young) (floors_more limit e.limits)
+  updating_more cset claim limit heap scanning updating =
+      updated_loose config block new_block same_but_loose cset claim top new_top limit heap scanning updating (young_more limit updating.limits updating.young) (floors_more limit updating.limits)
 
   -- what the heap has is the graph's
   pub contents_more : (heap : ℕ → ℕ) (object : Name → Option Object) (count : ℕ → ℕ) → HasContents config heap block object count → HasContents config heap new_block object count
@@ -179,12 +179,12 @@ module _ (config : Config) (top : ℕ → ℕ) (block : Plot) (region at words s
   -- room is as it should be
   rooms_more : seat < seat_count config.mutators config.helpers → AreRooms config new_block
   rooms_more seated = record {
-    seated = λ a other x is is_room. ⊎_elim
-        (λ (new : (a ≡ address) × (carved seat words ≡ x)). subst (λ s. s < seat_count config.mutators config.helpers) (same_Some seat other (ap room_of new.1 ∙ is_room)) seated)
-        (λ old. grows.rooms.seated a other x old is_room)
-        (own_room a x is);
-    hands = λ a other more is. grows.rooms.hands a other more (old_other a (hand other more) (λ differ. cc) is);
-    spares = λ a other more is. grows.rooms.spares a other more (old_other a (spare other more) (λ differ. cc) is);
+    seated = λ a other piece is is_room. ⊎_elim
+        (λ (new : (a ≡ address) × (carved seat words ≡ piece)). subst (λ s. s < seat_count config.mutators config.helpers) (same_Some seat other (ap room_of new.1 ∙ is_room)) seated)
+        (λ old. grows.rooms.seated a other piece old is_room)
+        (own_room a piece is);
+    hands = λ address other more is. grows.rooms.hands address other more (old_other address (hand other more) (λ differ. cc) is);
+    spares = λ address other more is. grows.rooms.spares address other more (old_other address (spare other more) (λ differ. cc) is);
     carveds = λ a other more is. ⊎_elim
         (λ (new : (a ≡ address) × (carved seat words ≡ carved other more)). let same = new.1 in let sizes : words ≡ more = cc in (let some = grows.some in omega (arith, some, sizes)))
         (λ old. grows.rooms.carveds a other more old)
@@ -208,7 +208,7 @@ module _ (config : Config) (top : ℕ → ℕ) (block : Plot) (region at words s
               (λ has. inr (has.0, has.1, stays has.0 (carved other has.1) has.2))
               (was.free more);
         };
-    spares = λ a other more is. buffers.spares a other more (old_other a (spare other more) (λ differ. cc) is);
+    spares = λ address other more is. buffers.spares address other more (old_other address (spare other more) (λ differ. cc) is);
   }
 
   -- and regions are owned

@@ -8,7 +8,7 @@ use Rattle.regions.specs.Place.{base_of}
 use Rattle.shen_graph.specs.declared.name.Name.{Name}
 use Rattle.shen_graph.specs.Graph.{Object}
 use Rattle.heap_world.specs.World.{Block, thing, moved, spent, hand, promised, dead, filler, spare, carved, words_of, Plot, name_at, Points, IsPlotted, IsThing, AreRooms, IsParsable}
-use Rattle.heap_world.proofs.Updates.{updated, updated_same, updated_else}
+use Rattle.heap_world.proofs.FunctionUpdates.{updated, updated_same, updated_else}
 use Rattle.heap_world.proofs.Keeping.{points_stay}
 
 -- one region lies behind another
@@ -35,24 +35,24 @@ Beside config top region a piece =
     (a + words_of piece ≤ base_of config region) ⊎ (((base_of config region ≤ a) × (a + words_of piece ≤ base_of config region + top region)) ⊎ (base_of config region + config.region_words ≤ a))
 
 -- a piece lies beside a region so, or in it
-pub beside : (config : Config) (top : ℕ → ℕ) (block : Plot) → IsPlotted config top block → (r address : ℕ) (piece : Block) → block address ≡ Some piece → Beside config top r address piece
-beside config top block plotted r address piece is =
+pub beside : (config : Config) (top : ℕ → ℕ) (block : Plot) → IsPlotted config top block → (region address : ℕ) (piece : Block) → block address ≡ Some piece → Beside config top region address piece
+beside config top block plotted region address piece is =
     let used = plotted.in_use address piece is in
     let most : top used.region ≤ config.region_words = plotted.tops used.region used.within in
     ⊎_elim
-    (λ (before : used.region < r). let far = behind config used.region r before in inl (omega (arith, used.to_top, most, far)))
-    (λ (least : r ≤ used.region). ⊎_elim
-    (λ (same : r ≡ used.region). inr (inl (subst (λ k. (base_of config k ≤ address) × (address + words_of piece ≤ base_of config k + top k)) (sym same) (used.from_base, used.to_top))))
-    (λ (differs : r ≢ used.region). let far = behind config r used.region (omega (arith, least, differs)) in inr (inr (omega (arith, used.from_base, far))))
-    (cases_eq r used.region))
-    (cases_lt used.region r)
+    (λ (before : used.region < region). let far = behind config used.region region before in inl (omega (arith, used.to_top, most, far)))
+    (λ (least : region ≤ used.region). ⊎_elim
+    (λ (same : region ≡ used.region). inr (inl (subst (λ k. (base_of config k ≤ address) × (address + words_of piece ≤ base_of config k + top k)) (sym same) (used.from_base, used.to_top))))
+    (λ (differs : region ≢ used.region). let far = behind config region used.region (omega (arith, least, differs)) in inr (inr (omega (arith, used.from_base, far))))
+    (cases_eq region used.region))
+    (cases_lt used.region region)
 
 -- with a new piece at an address, a piece is the new one or an old one
 pub piece_cases : (block : Plot) (at : ℕ) (new : Block) (address : ℕ) (piece : Block) → updated block at (Some new) address ≡ Some piece → ((address ≡ at) × (new ≡ piece)) ⊎ ((address ≢ at) × (block address ≡ Some piece))
-piece_cases block at new address piece is = ⊎_elim
-    (λ (same : address ≡ at). inl (same, same_Some new piece (sym (updated_same block at (Some new) address (sym same)) ∙ is)))
-    (λ (other : address ≢ at). inr (other, sym (updated_else block at (Some new) address (λ e. other (sym e))) ∙ is))
-    (cases_eq address at)
+piece_cases block other_address new address piece is = ⊎_elim
+    (λ (same : address ≡ other_address). inl (same, same_Some new piece (sym (updated_same block other_address (Some new) address (sym same)) ∙ is)))
+    (λ (other : address ≢ other_address). inr (other, sym (updated_else block other_address (Some new) address (λ e. other (sym e))) ∙ is))
+    (cases_eq address other_address)
 
 -- an object reads as before where its words are as before and objects stand where they stood
 pub object_reads : (heap after : ℕ → ℕ) (block more : Plot) (address refs nums : ℕ) (name : Name) (object : Object)

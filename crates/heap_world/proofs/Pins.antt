@@ -10,7 +10,7 @@ module _ (config : Config) (cset evac now_cset now_evac : ℕ) (block now : Plot
   pub pin_stays : ((address refs nums : ℕ) (name : Name) → Target config cset evac block address refs nums name → Target config now_cset now_evac now address refs nums name)
       → (word : ℕ) (held : Option Pinned) → PinStands config cset evac block word held → PinStands config now_cset now_evac now word held
   pin_stays targets word None is = is
-  pin_stays targets word (Some p) is = (is.0, is.1, is.2, targets word is.1 is.2 p.name is.3)
+  pin_stays targets word (Some pinned) is = (is.0, is.1, is.2, targets word is.1 is.2 pinned.name is.3)
 
   -- and those of all mutators
   pub pins_stay : (words : ℕ → ℕ → ℕ) (pin : ℕ → ℕ → Option Pinned)

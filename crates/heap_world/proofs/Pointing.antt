@@ -11,17 +11,17 @@ use Rattle.shen_graph.specs.Graph.{Reference}
 use Rattle.heap_world.specs.World.{Block, thing, moved, spent, hand, promised, dead, filler, spare, carved, words_of, room_of, Plot, name_at, Body, body_of, body_at, body_words, Points, IsPlotted}
 
 -- what stands for an object at an address is a copy of it
-pub named_body : (found : Option Block) (n : Name) → name_at found ≡ Some n → (refs : ℕ) × (nums : ℕ) × (body_at found ≡ Some (body_of n refs nums))
+pub named_body : (found : Option Block) (name : Name) → name_at found ≡ Some name → (refs : ℕ) × (nums : ℕ) × (body_at found ≡ Some (body_of name refs nums))
 named_body (Some (thing name refs nums)) n is = (refs, nums, ap (λ m. Some (body_of m refs nums)) (same_Some name n is))
 named_body (Some (moved name refs nums to)) n is = (refs, nums, ap (λ m. Some (body_of m refs nums)) (same_Some name n is))
-named_body (Some (spent words to)) n is = cc
-named_body (Some (hand seat words)) n is = cc
-named_body (Some (promised seat words)) n is = cc
-named_body (Some (dead words)) n is = cc
-named_body (Some (filler words)) n is = cc
-named_body (Some (spare seat words)) n is = cc
-named_body (Some (carved seat words)) n is = cc
-named_body None n is = cc
+named_body (Some (spent words to)) name is = cc
+named_body (Some (hand seat words)) name is = cc
+named_body (Some (promised seat words)) name is = cc
+named_body (Some (dead words)) name is = cc
+named_body (Some (filler words)) name is = cc
+named_body (Some (spare seat words)) name is = cc
+named_body (Some (carved seat words)) name is = cc
+named_body None name is = cc
 
 -- a copy stands for the object
 pub body_named : (found : Option Block) (body : Body) → body_at found ≡ Some body → name_at found ≡ Some body.name
@@ -101,8 +101,8 @@ module _ (config : Config) (top : ℕ → ℕ) (block : Plot) (plotted : IsPlott
   -- a word that stands for null is 0, and 0 stands for nothing else
   pub null_if_0 : (word : ℕ) (reference : Reference) → Points block word reference → word ≡ 0 → reference ≡ None
   null_if_0 word None points is = refl
-  null_if_0 word (Some n) points is =
-      let piece = named_piece (block 0) n (ap (λ a. name_at (block a)) (sym is) ∙ points) in
+  null_if_0 word (Some name) points is =
+      let piece = named_piece (block 0) name (ap (λ address. name_at (block address)) (sym is) ∙ points) in
       absurd (none_at_0 piece.0 piece.1)
 
   -- a word that is not 0 stands for a name
@@ -120,4 +120,4 @@ module _ (config : Config) (top : ℕ → ℕ) (block : Plot) (plotted : IsPlott
   -- and so is a word that stands for a reference
   pub points_small : (word : ℕ) (reference : Reference) → Points block word reference → word < 2 ^ 32
   points_small word None points = omega (arith, points)
-  points_small word (Some n) points = let piece = named_piece (block word) n points in piece_small word piece.0 piece.1
+  points_small word (Some name) points = let piece = named_piece (block word) name points in piece_small word piece.0 piece.1

@@ -49,32 +49,32 @@ module _ (config : Config) (top : ℕ → ℕ) (block new : Plot) (seat address 
   -- pieces that are not loose are the same
   pub same_but_loose : SameButLoose block after
   same_but_loose = record {
-    stays = λ x b fixed is. ⊎_elim
+    stays = λ x piece fixed is. ⊎_elim
         (λ (before : x < address). retiled_else block new address words x (inl before) ∙ is)
         (λ (from : address ≤ x). ⊎_elim
-        (λ (to : x < address + words). absurd (true≢false (sym (room_loose b seat (can.olds x b from to is)) ∙ fixed)))
+        (λ (to : x < address + words). absurd (true≢false (sym (room_loose piece seat (can.olds x piece from to is)) ∙ fixed)))
         (λ (behind : address + words ≤ x). retiled_else block new address words x (inr behind) ∙ is)
         (cases_lt x (address + words)))
         (cases_lt x address);
-    came = λ x b fixed is. ⊎_elim
-        (λ (old : ((x < address) ⊎ (address + words ≤ x)) × (block x ≡ Some b)). old.1)
-        (λ (now : (address ≤ x) × (x < address + words) × (new x ≡ Some b)). absurd (true≢false (sym (can.loose x b now.2) ∙ fixed)))
-        (retiled_cases block new address words x b is);
+    came = λ other_address piece fixed is. ⊎_elim
+        (λ (old : ((other_address < address) ⊎ (address + words ≤ other_address)) × (block other_address ≡ Some piece)). old.1)
+        (λ (now : (address ≤ other_address) × (other_address < address + words) × (new other_address ≡ Some piece)). absurd (true≢false (sym (can.loose other_address piece now.2) ∙ fixed)))
+        (retiled_cases block new address words other_address piece is);
   }
 
   -- an address of the stretch is of its region
   of_region : (x : ℕ) → address ≤ x → x < address + words → IsOf config can.stretch.region x
-  of_region x from to =
+  of_region x at_most below =
       let base = can.stretch.from_base in
       let high = can.stretch.to_top in
       let most = can.parsable.plotted.tops can.stretch.region can.stretch.within in
-      record { from = omega (arith, base, from); before = omega (arith, high, most, to) }
+      record { from = omega (arith, base, at_most); before = omega (arith, high, most, below) }
 
   -- and so of the region of its first word
   same_region : (x : ℕ) → address ≤ x → x < address + words → region_with config x ≡ region_with config address
-  same_region x from to =
+  same_region x at_most below =
       let some = can.stretch.some in
-      regions_tile.of_no_other config can.stretch.region x (of_region x from to) ∙ sym (regions_tile.of_no_other config can.stretch.region address (of_region address (omega arith) (omega (arith, some))))
+      regions_tile.of_no_other config can.stretch.region x (of_region x at_most below) ∙ sym (regions_tile.of_no_other config can.stretch.region address (of_region address (omega arith) (omega (arith, some))))
 
   -- room stays young
   pub rooms_young : (start : ℕ → ℕ) → AreYoungRooms config start block → AreYoungRooms config start after
@@ -117,33 +117,33 @@ module _ (config : Config) (top : ℕ → ℕ) (block new : Plot) (seat address 
     filled = filled_again config top block new address words can.parsable.plotted can.stretch can.tiling can.parsable.filled;
     promises = λ x other more is. can.parsable.promises x other more (same_but_loose.came x (promised other more) refl is);
     deads = λ x more is. can.parsable.deads x more (same_but_loose.came x (dead more) refl is);
-    fillers = λ x more is. ⊎_elim
-        (λ (old : ((x < address) ⊎ (address + words ≤ x)) × (block x ≡ Some (filler more))). can.parsable.fillers x more old.1)
-        (λ (now : (address ≤ x) × (x < address + words) × (new x ≡ Some (filler more))). can.tiling.some x (filler more) now.2)
-        (retiled_cases block new address words x (filler more) is);
+    fillers = λ other_address more is. ⊎_elim
+        (λ (old : ((other_address < address) ⊎ (address + words ≤ other_address)) × (block other_address ≡ Some (filler more))). can.parsable.fillers other_address more old.1)
+        (λ (now : (address ≤ other_address) × (other_address < address + words) × (new other_address ≡ Some (filler more))). can.tiling.some other_address (filler more) now.2)
+        (retiled_cases block new address words other_address (filler more) is);
     spents = λ x more to is. can.parsable.spents x more to (same_but_loose.came x (spent more to) refl is);
   }
 
   -- room is as it should be
   pub rooms_again : AreRooms config after
   rooms_again = record {
-    seated = λ x other b is room. ⊎_elim
-        (λ (old : ((x < address) ⊎ (address + words ≤ x)) × (block x ≡ Some b)). can.rooms.seated x other b old.1 room)
-        (λ (now : (address ≤ x) × (x < address + words) × (new x ≡ Some b)).
-        subst (λ s. s < seat_count config.mutators config.helpers) (sym (can.own x other b now.2 room)) (can.rooms.seated address seat can.stretch.first can.stretch.begins first_room))
-        (retiled_cases block new address words x b is);
-    hands = λ x other more is. ⊎_elim
-        (λ (old : ((x < address) ⊎ (address + words ≤ x)) × (block x ≡ Some (hand other more))). can.rooms.hands x other more old.1)
-        (λ (now : (address ≤ x) × (x < address + words) × (new x ≡ Some (hand other more))). can.hands x other more now.2)
-        (retiled_cases block new address words x (hand other more) is);
-    spares = λ x other more is. ⊎_elim
-        (λ (old : ((x < address) ⊎ (address + words ≤ x)) × (block x ≡ Some (spare other more))). can.rooms.spares x other more old.1)
-        (λ (now : (address ≤ x) × (x < address + words) × (new x ≡ Some (spare other more))). can.tiling.some x (spare other more) now.2)
-        (retiled_cases block new address words x (spare other more) is);
-    carveds = λ x other more is. ⊎_elim
-        (λ (old : ((x < address) ⊎ (address + words ≤ x)) × (block x ≡ Some (carved other more))). can.rooms.carveds x other more old.1)
-        (λ (now : (address ≤ x) × (x < address + words) × (new x ≡ Some (carved other more))). can.carveds x other more now.2)
-        (retiled_cases block new address words x (carved other more) is);
+    seated = λ other_address other b is room. ⊎_elim
+        (λ (old : ((other_address < address) ⊎ (address + words ≤ other_address)) × (block other_address ≡ Some b)). can.rooms.seated other_address other b old.1 room)
+        (λ (now : (address ≤ other_address) × (other_address < address + words) × (new other_address ≡ Some b)).
+        subst (λ s. s < seat_count config.mutators config.helpers) (sym (can.own other_address other b now.2 room)) (can.rooms.seated address seat can.stretch.first can.stretch.begins first_room))
+        (retiled_cases block new address words other_address b is);
+    hands = λ other_address other more is. ⊎_elim
+        (λ (old : ((other_address < address) ⊎ (address + words ≤ other_address)) × (block other_address ≡ Some (hand other more))). can.rooms.hands other_address other more old.1)
+        (λ (now : (address ≤ other_address) × (other_address < address + words) × (new other_address ≡ Some (hand other more))). can.hands other_address other more now.2)
+        (retiled_cases block new address words other_address (hand other more) is);
+    spares = λ other_address other more is. ⊎_elim
+        (λ (old : ((other_address < address) ⊎ (address + words ≤ other_address)) × (block other_address ≡ Some (spare other more))). can.rooms.spares other_address other more old.1)
+        (λ (now : (address ≤ other_address) × (other_address < address + words) × (new other_address ≡ Some (spare other more))). can.tiling.some other_address (spare other more) now.2)
+        (retiled_cases block new address words other_address (spare other more) is);
+    carveds = λ other_address other more is. ⊎_elim
+        (λ (old : ((other_address < address) ⊎ (address + words ≤ other_address)) × (block other_address ≡ Some (carved other more))). can.rooms.carveds other_address other more old.1)
+        (λ (now : (address ≤ other_address) × (other_address < address + words) × (new other_address ≡ Some (carved other more))). can.carveds other_address other more now.2)
+        (retiled_cases block new address words other_address (carved other more) is);
   }
 
   -- the buffer of another seat stays
@@ -167,13 +167,13 @@ module _ (config : Config) (top : ℕ → ℕ) (block new : Plot) (seat address 
       → AreBuffers config top current block → AreBuffers config top then_current after
   buffers_again current then_current others own spares buffers = record {
     each = λ other some. ⊎_elim
-        (λ (same : other ≡ seat). subst (λ s. IsBuffer config top after s (then_current s)) (sym same) (own (λ none. some (ap then_current same ∙ none))))
+        (λ (same : other ≡ seat). subst (λ seat. IsBuffer config top after seat (then_current seat)) (sym same) (own (λ none. some (ap then_current same ∙ none))))
         (λ (differ : other ≢ seat).
         let is = others other differ in
         subst (IsBuffer config top after other) (sym is) (other_buffer other (current other) differ (buffers.each other (λ none. some (is ∙ none)))))
         (cases_eq other seat);
     spares = λ x other more is. ⊎_elim
-        (λ (same : other ≡ seat). subst (λ s. (next_in (then_current s) ≡ x) × (end_in (then_current s) ≡ x + more)) (sym same) (spares x more (subst (λ s. after x ≡ Some (spare s more)) same is)))
+        (λ (same : other ≡ seat). subst (λ s. (next_in (then_current s) ≡ x) × (end_in (then_current s) ≡ x + more)) (sym same) (spares x more (subst (λ seat. after x ≡ Some (spare seat more)) same is)))
         (λ (differ : other ≢ seat).
         subst (λ word. (next_in word ≡ x) × (end_in word ≡ x + more)) (sym (others other differ)) (buffers.spares x other more (others_room x other (spare other more) differ is refl)))
         (cases_eq other seat);

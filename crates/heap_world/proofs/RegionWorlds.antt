@@ -24,18 +24,18 @@ module _ (config : Config) (world : World) (memory : Word → ℕ) (owner : ℕ 
   region_world = record { memory = memory; block = world.block; ghost = with_owner world.ghost owner; graph = world.graph }
 
   -- marking goes on
-  marks_kept : (j : ℕ) → RelyMarks config j world region_world
-  marks_kept j = rely_marks config world region_world j (others Phase refl) (λ n. others (Grey n) refl) (λ t. others (Count t) refl) (λ t k. others (Buffer t k) refl) refl (λ t. refl) refl (λ a is. is) (λ a is. others (Heap (a + 1)) refl)
+  marks_kept : (seat : ℕ) → RelyMarks config seat world region_world
+  marks_kept seat = rely_marks config world region_world seat (others Phase refl) (λ number. others (Grey number) refl) (λ mutator. others (Count mutator) refl) (λ mutator entry. others (Buffer mutator entry) refl) refl (λ t. refl) refl (λ a is. is) (λ a is. others (Heap (a + 1)) refl)
 
   -- copies stay
   copies_kept : CopiesStay config world region_world
-  copies_kept = same_plot config world region_world refl (others Cset refl) (others Evac refl) (λ r is. others (Top r) refl)
+  copies_kept = same_plot config world region_world refl (others Cset refl) (others Evac refl) (λ region is. others (Top region) refl)
 
   -- an object may be used still
   targets_kept : (address refs nums : ℕ) (name : Name) → TargetIn config world address refs nums name → TargetIn config region_world address refs nums name
   targets_kept address refs nums name has = record {
     piece = has.piece;
-    safe = λ inside. subst IsQuiet (sym (others Evac refl)) (has.safe (subst (λ s. IsCollected config s address) (others Cset refl) inside));
+    safe = λ inside. subst IsQuiet (sym (others Evac refl)) (has.safe (subst (λ cset. IsCollected config cset address) (others Cset refl) inside));
   }
 
   -- the facts of the seat's machine stand
@@ -44,11 +44,11 @@ module _ (config : Config) (world : World) (memory : Word → ℕ) (owner : ℕ 
     names = λ a name is. is;
     targets = targets_kept;
     promises = λ a words is. is;
-    no_promises = λ a words is. is;
-    promise_words = λ a words k is below. others (Heap (a + k)) refl;
-    root_words = λ i. others (Root seat i) refl;
+    no_promises = λ address words is. is;
+    promise_words = λ address words k is below. others (Heap (address + k)) refl;
+    root_words = λ index. others (Root seat index) refl;
     roots = λ i. refl;
-    pin_words = λ i. others (Pin seat i) refl;
+    pin_words = λ index. others (Pin seat index) refl;
     pins = λ i. refl;
     count = refl;
     wait = others (Wait seat) refl;
@@ -58,30 +58,30 @@ module _ (config : Config) (world : World) (memory : Word → ℕ) (owner : ℕ 
   }
 
   -- others can rely on what they knew, where they keep their regions, and regions that may be carved may be so still
-  pub others_regions : (j : ℕ) → ((region : ℕ) → world.ghost.owner region ≡ Some j → owner region ≡ Some j) → ((region : ℕ) → IsOpenIn config world region → IsOpenIn config region_world region) → Rely config j world region_world
-  others_regions j owners opens = record {
+  pub others_regions : (seat : ℕ) → ((region : ℕ) → world.ghost.owner region ≡ Some seat → owner region ≡ Some seat) → ((region : ℕ) → IsOpenIn config world region → IsOpenIn config region_world region) → Rely config seat world region_world
+  others_regions seat owners opens = record {
     names = λ a name is. is;
     targets = targets_kept;
     rooms = λ a x is room. is;
     no_rooms = λ a x is room. is;
     room_words = λ a k x is room below. others (Heap (a + k)) refl;
     promises = λ a words is. is;
-    no_promises = λ a words is. is;
-    promise_words = λ a words k is below. others (Heap (a + k)) refl;
-    current = others (Current j) refl;
+    no_promises = λ address words is. is;
+    promise_words = λ address words k is below. others (Heap (address + k)) refl;
+    current = others (Current seat) refl;
     opens = opens;
     owners = owners;
     tops = λ region is. others (Top region) refl;
-    root_words = λ i. others (Root j i) refl;
+    root_words = λ index. others (Root seat index) refl;
     roots = λ i. refl;
-    pin_words = λ i. others (Pin j i) refl;
+    pin_words = λ index. others (Pin seat index) refl;
     pins = λ i. refl;
     count = refl;
-    wait = others (Wait j) refl;
-    answer = others (Answer j) refl;
-    state = others (State j) refl;
+    wait = others (Wait seat) refl;
+    answer = others (Answer seat) refl;
+    state = others (State seat) refl;
     asked = λ is. ap (λ n. bit_at n 1) (others Ask refl) ∙ is;
-    marks = marks_kept j;
-    copies = rely_copies config world region_world j copies_kept refl refl (λ a k b seated counted inside is from below. others (Heap (a + k)) refl);
-    fields = fields_kept config world region_world refl (λ region. others (Tams region) refl) (λ region. others (Limit region) refl) (others Claim refl) (λ a. others (Heap a) refl);
+    marks = marks_kept seat;
+    copies = rely_copies config world region_world seat copies_kept refl refl (λ a k b seated counted inside is from below. others (Heap (a + k)) refl);
+    fields = fields_kept config world region_world refl (λ region. others (Tams region) refl) (λ region. others (Limit region) refl) (others Claim refl) (λ address. others (Heap address) refl);
   }

@@ -7,7 +7,7 @@ use Rattle.heap_words.specs.declared.config.Config.{Config}
 use Rattle.regions.specs.Place.{base_of, region_with, IsOf}
 use Rattle.regions.proofs.PlaceLemmas.{regions_tile}
 use Rattle.heap_world.specs.World.{Block, words_of, Plot, IsPlotted, IsFilled, IsYoung}
-use Rattle.heap_world.proofs.Updates.{updated, updated_same, updated_there, updated_else}
+use Rattle.heap_world.proofs.FunctionUpdates.{updated, updated_same, updated_there, updated_else}
 use Rattle.heap_world.proofs.Pieces.{behind, piece_cases}
 
 -- Pieces fill so many words from an address on, one after another, and stand nowhere else.
@@ -28,39 +28,39 @@ abbrev pub two_at : ℕ → Block → Block → Plot
 two_at a piece other_piece = updated (one_at a piece) (a + words_of piece) (Some other_piece)
 
 -- a piece of one is that one
-pub only_one : (a : ℕ) (piece : Block) (b : ℕ) (other_piece : Block) → one_at a piece b ≡ Some other_piece → (b ≡ a) × (piece ≡ other_piece)
-only_one a piece b other_piece is = ⊎_elim (λ here. here) (λ (other : (b ≢ a) × (None ≡ Some other_piece)). absurd (none-some other_piece other.1)) (piece_cases (λ k. None) a piece b other_piece is)
+pub only_one : (a : ℕ) (piece : Block) (address : ℕ) (other_piece : Block) → one_at a piece address ≡ Some other_piece → (address ≡ a) × (piece ≡ other_piece)
+only_one a piece address other_piece is = ⊎_elim (λ here. here) (λ (other : (address ≢ a) × (None ≡ Some other_piece)). absurd (none-some other_piece other.1)) (piece_cases (λ k. None) a piece address other_piece is)
 
 -- one piece fills its own words
 pub one_tile : (a : ℕ) (piece : Block) → 1 ≤ words_of piece → IsTiling (one_at a piece) a (words_of piece)
-one_tile a piece some = record {
-  some = λ b y is. let one = only_one a piece b y is in let long : words_of piece ≡ words_of y = ap words_of one.1 in omega (arith, long, some);
-  from = λ b y is. let one = only_one a piece b y is in let same = one.0 in omega (arith, same);
-  to = λ b y is. let one = only_one a piece b y is in let same = one.0 in let long : words_of piece ≡ words_of y = ap words_of one.1 in omega (arith, same, long);
+one_tile a piece positive = record {
+  some = λ address y is. let one = only_one a piece address y is in let long : words_of piece ≡ words_of y = ap words_of one.1 in omega (arith, long, positive);
+  from = λ address y is. let one = only_one a piece address y is in let same = one.0 in omega (arith, same);
+  to = λ address y is. let one = only_one a piece address y is in let same = one.0 in let long : words_of piece ≡ words_of y = ap words_of one.1 in omega (arith, same, long);
   apart = λ b d y z is_y is_z before. let one = (only_one a piece b y is_y).0 in let two = (only_one a piece d z is_z).0 in absurd (omega (arith, one, two, before));
   first = (piece, updated_there (λ b. None) a (Some piece));
-  next = λ b y is below. let one = only_one a piece b y is in let same = one.0 in let long : words_of piece ≡ words_of y = ap words_of one.1 in absurd (omega (arith, same, long, below));
+  next = λ address y is below. let one = only_one a piece address y is in let same = one.0 in let long : words_of piece ≡ words_of y = ap words_of one.1 in absurd (omega (arith, same, long, below));
 }
 
 -- a piece of two is one of them
-pub one_of_two : (a : ℕ) (x y : Block) (b : ℕ) (z : Block) → two_at a x y b ≡ Some z → ((b ≡ a) × (words_of z ≡ words_of x)) ⊎ ((b ≡ a + words_of x) × (words_of z ≡ words_of y))
-one_of_two a x y b z is = ⊎_elim
-    (λ (last : (b ≡ a + words_of x) × (y ≡ z)). inr (last.0, ap words_of (sym last.1)))
-    (λ (other : (b ≢ a + words_of x) × (one_at a x b ≡ Some z)). let one = only_one a x b z other.1 in inl (one.0, ap words_of (sym one.1)))
-    (piece_cases (one_at a x) (a + words_of x) y b z is)
+pub one_of_two : (a : ℕ) (x y : Block) (address : ℕ) (z : Block) → two_at a x y address ≡ Some z → ((address ≡ a) × (words_of z ≡ words_of x)) ⊎ ((address ≡ a + words_of x) × (words_of z ≡ words_of y))
+one_of_two a piece other_piece address z is = ⊎_elim
+    (λ (last : (address ≡ a + words_of piece) × (other_piece ≡ z)). inr (last.0, ap words_of (sym last.1)))
+    (λ (other : (address ≢ a + words_of piece) × (one_at a piece address ≡ Some z)). let one = only_one a piece address z other.1 in inl (one.0, ap words_of (sym one.1)))
+    (piece_cases (one_at a piece) (a + words_of piece) other_piece address z is)
 
 -- two pieces fill their words
 pub two_tiles : (a : ℕ) (piece other_piece : Block) → 1 ≤ words_of piece → 1 ≤ words_of other_piece → IsTiling (two_at a piece other_piece) a (words_of piece + words_of other_piece)
-two_tiles a piece other_piece some more = record {
-  some = λ b z is. let one = one_of_two a piece other_piece b z is in omega (arith, one, some, more);
-  from = λ b z is. let one = one_of_two a piece other_piece b z is in omega (arith, one);
-  to = λ b z is. let one = one_of_two a piece other_piece b z is in omega (arith, one);
-  apart = λ b d z t is_z is_t before. let one = one_of_two a piece other_piece b z is_z in let two = one_of_two a piece other_piece d t is_t in omega (arith, one, two, before);
-  first = (piece, updated_else (one_at a piece) (a + words_of piece) (Some other_piece) a (omega (arith, some)) ∙ updated_there (λ b. None) a (Some piece));
-  next = λ b z is below. ⊎_elim
-      (λ (at_first : (b ≡ a) × (words_of z ≡ words_of piece)). (other_piece, updated_same (one_at a piece) (a + words_of piece) (Some other_piece) (b + words_of z) (let one = at_first.0 in let long = at_first.1 in omega (arith, one, long))))
-      (λ (at_last : (b ≡ a + words_of piece) × (words_of z ≡ words_of other_piece)). let one = at_last.0 in let long = at_last.1 in absurd (omega (arith, one, long, below)))
-      (one_of_two a piece other_piece b z is);
+two_tiles a piece other_piece positive more = record {
+  some = λ address z is. let one = one_of_two a piece other_piece address z is in omega (arith, one, positive, more);
+  from = λ address z is. let one = one_of_two a piece other_piece address z is in omega (arith, one);
+  to = λ address z is. let one = one_of_two a piece other_piece address z is in omega (arith, one);
+  apart = λ address other_address z t is_z is_t before. let one = one_of_two a piece other_piece address z is_z in let two = one_of_two a piece other_piece other_address t is_t in omega (arith, one, two, before);
+  first = (piece, updated_else (one_at a piece) (a + words_of piece) (Some other_piece) a (omega (arith, positive)) ∙ updated_there (λ b. None) a (Some piece));
+  next = λ address z is below. ⊎_elim
+      (λ (at_first : (address ≡ a) × (words_of z ≡ words_of piece)). (other_piece, updated_same (one_at a piece) (a + words_of piece) (Some other_piece) (address + words_of z) (let one = at_first.0 in let long = at_first.1 in omega (arith, one, long))))
+      (λ (at_last : (address ≡ a + words_of piece) × (words_of z ≡ words_of other_piece)). let one = at_last.0 in let long = at_last.1 in absurd (omega (arith, one, long, below)))
+      (one_of_two a piece other_piece address z is);
 }
 
 -- So many words from an address on lie in the part in use of one region, and begin and end where pieces do.
@@ -89,11 +89,11 @@ module _ (block new : Plot) (a words : ℕ) where
 
   -- in it there are the new ones
   pub retiled_inside : (x : ℕ) → a ≤ x → x < a + words → retiled block new a words x ≡ new x
-  retiled_inside x from to = cond-false (nat_lt x a) _ _ (le-ltb x a from) ∙ cond-true (nat_lt x (a + words)) _ _ (lt-ltb x (a + words) to)
+  retiled_inside x at_most below = cond-false (nat_lt x a) _ _ (le-ltb x a at_most) ∙ cond-true (nat_lt x (a + words)) _ _ (lt-ltb x (a + words) below)
 
   -- behind it they stay
   pub retiled_behind : (address : ℕ) → a + words ≤ address → retiled block new a words address ≡ block address
-  retiled_behind address from = cond-false (nat_lt address a) _ _ (le-ltb address a (omega (arith, from))) ∙ cond-false (nat_lt address (a + words)) _ _ (le-ltb address (a + words) from)
+  retiled_behind address at_most = cond-false (nat_lt address a) _ _ (le-ltb address a (omega (arith, at_most))) ∙ cond-false (nat_lt address (a + words)) _ _ (le-ltb address (a + words) at_most)
 
   -- a piece is an old one elsewhere, or a new one in the stretch
   pub retiled_cases : (address : ℕ) (piece : Block) → retiled block new a words address ≡ Some piece
@@ -131,30 +131,30 @@ module _ (config : Config) (top : ℕ → ℕ) (block new : Plot) (address words
   pub plotted_again : IsPlotted config top after
   plotted_again = record {
     tops = plotted.tops;
-    in_use = λ x b is. ⊎_elim
-        (λ (old : ((x < address) ⊎ (address + words ≤ x)) × (block x ≡ Some b)). plotted.in_use x b old.1)
-        (λ (now : (address ≤ x) × (x < address + words) × (new x ≡ Some b)).
-        let to = tiling.to x b now.2 in
+    in_use = λ other_address b is. ⊎_elim
+        (λ (old : ((other_address < address) ⊎ (address + words ≤ other_address)) × (block other_address ≡ Some b)). plotted.in_use other_address b old.1)
+        (λ (now : (address ≤ other_address) × (other_address < address + words) × (new other_address ≡ Some b)).
+        let to = tiling.to other_address b now.2 in
         record { region = stretch.region; within = stretch.within; from_base = (let from = now.0 in let base = stretch.from_base in omega (arith, from, base)); to_top = (let top_is = stretch.to_top in omega (arith, to, top_is)) })
-        (retiled_cases block new address words x b is);
-    apart = λ x y b d is_b is_d less. ⊎_elim
-        (λ (old_b : ((x < address) ⊎ (address + words ≤ x)) × (block x ≡ Some b)). ⊎_elim
-        (λ (old_d : ((y < address) ⊎ (address + words ≤ y)) × (block y ≡ Some d)). plotted.apart x y b d old_b.1 old_d.1 less)
+        (retiled_cases block new address words other_address b is);
+    apart = λ other_address y piece d is_b is_d less. ⊎_elim
+        (λ (old_b : ((other_address < address) ⊎ (address + words ≤ other_address)) × (block other_address ≡ Some piece)). ⊎_elim
+        (λ (old_d : ((y < address) ⊎ (address + words ≤ y)) × (block y ≡ Some d)). plotted.apart other_address y piece d old_b.1 old_d.1 less)
         (λ (new_d : (address ≤ y) × (y < address + words) × (new y ≡ Some d)).
         ⊎_elim
-        (λ (before : x < address). let far = before_it x b old_b.1 before in let from = new_d.0 in omega (arith, far, from))
-        (λ (behind : address + words ≤ x). let to = new_d.1 in absurd (omega (arith, behind, to, less)))
+        (λ (before : other_address < address). let far = before_it other_address piece old_b.1 before in let from = new_d.0 in omega (arith, far, from))
+        (λ (behind : address + words ≤ other_address). let to = new_d.1 in absurd (omega (arith, behind, to, less)))
         old_b.0)
         (retiled_cases block new address words y d is_d))
-        (λ (new_b : (address ≤ x) × (x < address + words) × (new x ≡ Some b)). ⊎_elim
+        (λ (new_b : (address ≤ other_address) × (other_address < address + words) × (new other_address ≡ Some piece)). ⊎_elim
         (λ (old_d : ((y < address) ⊎ (address + words ≤ y)) × (block y ≡ Some d)).
         let from = new_b.0 in
-        let to = tiling.to x b new_b.2 in
+        let to = tiling.to other_address piece new_b.2 in
         let away = old_d.0 in
         omega (arith, from, to, away, less))
-        (λ (new_d : (address ≤ y) × (y < address + words) × (new y ≡ Some d)). tiling.apart x y b d new_b.2 new_d.2 less)
+        (λ (new_d : (address ≤ y) × (y < address + words) × (new y ≡ Some d)). tiling.apart other_address y piece d new_b.2 new_d.2 less)
         (retiled_cases block new address words y d is_d))
-        (retiled_cases block new address words x b is_b);
+        (retiled_cases block new address words other_address piece is_b);
   }
 
   -- no region begins in the stretch but at its first word
@@ -185,25 +185,25 @@ module _ (config : Config) (top : ℕ → ℕ) (block new : Plot) (address words
   pub filled_again : IsFilled config top block → IsFilled config top after
   filled_again filled = record {
     first = λ region inside used. still_some (base_of config region) (base_away region inside) (filled.first region inside used);
-    next = λ region x piece inside from is below. ⊎_elim
-        (λ (old : ((x < address) ⊎ (address + words ≤ x)) × (block x ≡ Some piece)).
-        still_some (x + words_of piece)
+    next = λ region other_address piece inside from is below. ⊎_elim
+        (λ (old : ((other_address < address) ⊎ (address + words ≤ other_address)) × (block other_address ≡ Some piece)).
+        still_some (other_address + words_of piece)
         (⊎_elim
-        (λ (before : x < address). let far = before_it x piece old.1 before in
-        ⊎_elim (λ (less : x + words_of piece < address). inr (inl less)) (λ (least : address ≤ x + words_of piece). inl (omega (arith, far, least))) (cases_lt (x + words_of piece) address))
-        (λ (behind : address + words ≤ x). inr (inr (omega (arith, behind))))
+        (λ (before : other_address < address). let far = before_it other_address piece old.1 before in
+        ⊎_elim (λ (less : other_address + words_of piece < address). inr (inl less)) (λ (least : address ≤ other_address + words_of piece). inl (omega (arith, far, least))) (cases_lt (other_address + words_of piece) address))
+        (λ (behind : address + words ≤ other_address). inr (inr (omega (arith, behind))))
         old.0)
-        (filled.next region x piece inside from old.1 below))
-        (λ (now : (address ≤ x) × (x < address + words) × (new x ≡ Some piece)).
-        let to = tiling.to x piece now.2 in
+        (filled.next region other_address piece inside from old.1 below))
+        (λ (now : (address ≤ other_address) × (other_address < address + words) × (new other_address ≡ Some piece)).
+        let to = tiling.to other_address piece now.2 in
         ⊎_elim
-        (λ (less : x + words_of piece < address + words). let more = tiling.next x piece now.2 less in (more.0, new_there (x + words_of piece) more.0 more.1))
-        (λ (least : address + words ≤ x + words_of piece).
-        let same : x + words_of piece ≡ stretch.last_at + words_of stretch.last = (let end = stretch.ends_there in omega (arith, to, least, end)) in
-        still_some (x + words_of piece) (inr (inr least))
-        (subst (λ k. (other_piece : Block) × (block k ≡ Some other_piece)) (sym same) (filled.next region stretch.last_at stretch.last inside (last_of region inside x piece now from below) stretch.ends (subst (λ k. k < base_of config region + top region) same below))))
-        (cases_lt (x + words_of piece) (address + words)))
-        (retiled_cases block new address words x piece is);
+        (λ (less : other_address + words_of piece < address + words). let more = tiling.next other_address piece now.2 less in (more.0, new_there (other_address + words_of piece) more.0 more.1))
+        (λ (least : address + words ≤ other_address + words_of piece).
+        let same : other_address + words_of piece ≡ stretch.last_at + words_of stretch.last = (let end = stretch.ends_there in omega (arith, to, least, end)) in
+        still_some (other_address + words_of piece) (inr (inr least))
+        (subst (λ address. (other_piece : Block) × (block address ≡ Some other_piece)) (sym same) (filled.next region stretch.last_at stretch.last inside (last_of region inside other_address piece now from below) stretch.ends (subst (λ k. k < base_of config region + top region) same below))))
+        (cases_lt (other_address + words_of piece) (address + words)))
+        (retiled_cases block new address words other_address piece is);
   }
     where
       -- the piece with which the stretch ends lies in the region of the stretch

@@ -9,12 +9,12 @@ use Rattle.shen_graph.specs.Graph.{Reference}
 use Rattle.heap_world.specs.World.{Plot, Points, IsUsable}
 
 -- Words that stand for a mutator's roots do so after one of them became another, if the word of that one is another too.
-pub roots_then : (block : Plot) (words : ℕ → ℕ) (root : ℕ → ℕ → Reference) (t dst value : ℕ) (reference : Reference)
-    → ((index : ℕ) → index < 16 → Points block (words index) (root t index)) → Points block value reference
-    → (index : ℕ) → index < 16 → Points block (if index == dst then value else words index) (if (t == t) && (index == dst) then reference else root t index)
-roots_then block words root t dst value reference roots is index below =
-    rw (eq-eqb t t refl)
-    (elim (index == dst) as (λ b. Points block (if b then value else words index) (if b then reference else root t index)) [ true ↦ is | false ↦ roots index below ])
+pub roots_then : (block : Plot) (words : ℕ → ℕ) (root : ℕ → ℕ → Reference) (thread dst value : ℕ) (reference : Reference)
+    → ((index : ℕ) → index < 16 → Points block (words index) (root thread index)) → Points block value reference
+    → (index : ℕ) → index < 16 → Points block (if index == dst then value else words index) (if (thread == thread) && (index == dst) then reference else root thread index)
+roots_then block words root thread dst value reference roots is index below =
+    rw (eq-eqb thread thread refl)
+    (elim (index == dst) as (λ b. Points block (if b then value else words index) (if b then reference else root thread index)) [ true ↦ is | false ↦ roots index below ])
 
 -- a mutator's roots, after a number was stored into one of them
 pub root_written : (memory : Word → ℕ) (seat dst value index : ℕ) → (if index == dst then value else memory (Root seat index)) ≡ write memory (Root seat dst) value (Root seat index)
@@ -28,7 +28,7 @@ pub roots_written : (block : Plot) (memory : Word → ℕ) (root : ℕ → ℕ �
     → Points block (write memory (Root seat dst) value (Root seat index)) (if ((seat + 1) == (seat + 1)) && (index == dst) then reference else root (seat + 1) index)
 roots_written block memory root seat dst value reference roots stands index below =
     subst (λ word. Points block word (if ((seat + 1) == (seat + 1)) && (index == dst) then reference else root (seat + 1) index)) (root_written memory seat dst value index)
-    (roots_then block (λ k. memory (Root seat k)) root (seat + 1) dst value reference roots stands index below)
+    (roots_then block (λ index. memory (Root seat index)) root (seat + 1) dst value reference roots stands index below)
 
 -- Words of a mutator's roots may be used after one that may be used was stored into one of them.
 pub usable_written : (config : Config) (cset evac : ℕ) (block : Plot) (memory : Word → ℕ) (seat dst value : ℕ) → ((index : ℕ) → index < 16 → IsUsable config cset evac block (memory (Root seat index))) → IsUsable config cset evac block value → (index : ℕ) → index < 16

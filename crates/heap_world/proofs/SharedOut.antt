@@ -12,11 +12,11 @@ use Rattle.heap_world.proofs.Pieces.{some_words, beside}
 module _ (config : Config) (world : World) (shared : Shared config world) where
   -- a region of top 0 has no piece
   none_in_empty : (region address : ℕ) (piece : Block) → region < config.regions → IsOf config region address → world.memory (Top region) ≡ 0 → world.block address ≡ Some piece → ⊥
-  none_in_empty region address piece within of empty is =
-      let long = some_words config (λ k. world.memory (Top k)) world.block shared.parsable shared.owned.rooms address piece is in
-      let where_is = beside config (λ k. world.memory (Top k)) world.block shared.parsable.plotted region address piece is in
-      let from = of.from in
-      let before = of.before in
+  none_in_empty region address piece within is_of empty is =
+      let long = some_words config (λ region. world.memory (Top region)) world.block shared.parsable shared.owned.rooms address piece is in
+      let where_is = beside config (λ region. world.memory (Top region)) world.block shared.parsable.plotted region address piece is in
+      let from = is_of.from in
+      let before = is_of.before in
       omega (arith, long, where_is, from, before, empty)
 
   -- so is the room shared out
@@ -31,6 +31,6 @@ module _ (config : Config) (world : World) (shared : Shared config world) where
         (λ more. inr (shared.parsable.plotted.apart b a y x is_y is_x more))
         order)
         (cases_order a b);
-    none_in_free = λ r a seat x within of bit is room. none_in_empty r a x within of (shared.owned.free_word.empty r within bit) is;
+    none_in_free = λ region address seat piece within of bit is room. none_in_empty region address piece within of (shared.owned.free_word.empty region within bit) is;
     none_in_set = λ a seat x is room. shared.evacuated.aside.no_rooms a seat x is room;
   }

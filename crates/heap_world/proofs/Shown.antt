@@ -21,7 +21,7 @@ use Rattle.heap_world.specs.Rows.{name_in_heap, reference_in, row_in_heap, root_
 use Rattle.heap_world.specs.Shows.{ShowsGraph, WordsStand}
 use Rattle.heap_world.proofs.Sizes.{sizes_fit, same_functions}
 use Rattle.heap_world.proofs.Standing.{facts, led_name, name_led, reference_same, pin_same, row_same}
-use Rattle.heap_world.proofs.Marks.{has-left, has-right}
+use Rattle.heap_world.proofs.TakenDown.{has-left, has-right}
 
 -- what holds of each word that a list has
 all_from-has : (P : ℕ → Type 0) (xs : List ℕ) → ((a : ℕ) → has xs a ≡ true → P a) → All P xs
@@ -29,14 +29,14 @@ all_from-has P xs h = All-from_any nat_eq_equiv P xs h
 
 -- each element that is read is in its list
 has-element : (xs : List ℕ) (index : ℕ) → index < length xs → has xs (get_or xs index 0) ≡ true
-has-element xs index h = list_any_at (nat_eq (get_or xs index 0)) xs index 0 h (eq-eqb (get_or xs index 0) (get_or xs index 0) refl)
+has-element xs index below = list_any_at (nat_eq (get_or xs index 0)) xs index 0 below (eq-eqb (get_or xs index 0) (get_or xs index 0) refl)
 
 module _ (first : ℕ) (heap roots pins : List ℕ) (sound : IsWalkable first heap (roots ++ pins)) where
   pub roots_named : All (IsNamed first heap) roots
-  roots_named = all_from-has (IsNamed first heap) roots (λ a h. sound.roots_named a (has-left roots pins a h))
+  roots_named = all_from-has (IsNamed first heap) roots (λ address h. sound.roots_named address (has-left roots pins address h))
 
   pub pins_named : All (IsNamed first heap) pins
-  pins_named = all_from-has (IsNamed first heap) pins (λ a h. sound.roots_named a (has-right roots pins a h))
+  pins_named = all_from-has (IsNamed first heap) pins (λ address h. sound.roots_named address (has-right roots pins address h))
 
   module _ (order : List ℕ) (walk : IsWalk first heap (roots ++ pins) order) where
     pub all_above : All (λ a. first ≤ a) order
@@ -50,7 +50,7 @@ module _ (first : ℕ) (heap roots pins : List ℕ) (sound : IsWalkable first he
     all_named =
         all_from-has (λ a. All (IsNamed first heap) (refs_at heap (a - first))) order
         (λ m h. all_from-has (IsNamed first heap) (refs_at heap (m - first))
-        (λ a field. sound.fields_named m a (walk.led m h) field))
+        (λ address field. sound.fields_named m address (walk.led m h) field))
 
     -- the objects take at most all words
     pub all_fit : sum_by (λ a. size_at heap (a - first)) order ≤ length heap
@@ -61,11 +61,11 @@ module _ (first : ℕ) (heap roots pins : List ℕ) (sound : IsWalkable first he
 
 -- what a function makes of an element is in the list that it makes of the whole
 Contains-map : {A B : Type 0} (f : A → B) (xs : List A) (x : A) → Contains xs x → Contains (map f xs) (f x)
-Contains-map f xs x c =
-    (c.0, rw length-map c.1, get_or-map f xs c.0 x (f x) c.1 ∙ ap f c.2)
+Contains-map f xs x contains =
+    (contains.0, rw length-map contains.1, get_or-map f xs contains.0 x (f x) contains.1 ∙ ap f contains.2)
 
 module _ (first : ℕ) (heap roots pins order : List ℕ) (at : ℕ → Option Name) (graph : Graph) (one : 1 ≤ first)
-    (s : WordsStand first heap roots pins at graph) (walk : IsWalk first heap (roots ++ pins) order) where
+    (words_stand : WordsStand first heap roots pins at graph) (walk : IsWalk first heap (roots ++ pins) order) where
   pub names_differ : IsDistinct same_name (map (λ r. r.name) (map (row_in_heap first heap) order))
   names_differ =
       IsDistinct-from_apart same_name (map (λ r. r.name) (map (row_in_heap first heap) order))
@@ -89,12 +89,12 @@ module _ (first : ℕ) (heap roots pins order : List ℕ) (at : ℕ → Option N
           let earlier : index < length order = omega arith in
           let a = get_or order index 0 in
           let b = get_or order other_index 0 in
-          let u = led_name first heap roots pins at graph one s a (walk.led a (has-element order index earlier)) in
-          let v = led_name first heap roots pins at graph one s b (walk.led b (has-element order other_index low)) in
+          let u = led_name first heap roots pins at graph one words_stand a (walk.led a (has-element order index earlier)) in
+          let v = led_name first heap roots pins at graph one words_stand b (walk.led b (has-element order other_index low)) in
           let e : u.0 ≡ v.0 =
-          sym (facts first heap roots pins at graph one s a u.0 u.1).name ∙ sym (read index name earlier)
-          ∙ same_name-true _ _ is ∙ read other_index name low ∙ (facts first heap roots pins at graph one s b v.0 v.1).name in
-          let same : a ≡ b = sym u.1.1 ∙ s.once a b v.0 (u.1.0 ∙ ap (λ n. Some n) e) v.1.0 ∙ v.1.1 in
+          sym (facts first heap roots pins at graph one words_stand a u.0 u.1).name ∙ sym (read index name earlier)
+          ∙ same_name-true _ _ is ∙ read other_index name low ∙ (facts first heap roots pins at graph one words_stand b v.0 v.1).name in
+          let same : a ≡ b = sym u.1.1 ∙ words_stand.once a b v.0 (u.1.0 ∙ ap (λ n. Some n) e) v.1.0 ∙ v.1.1 in
           eqb-false a b (apart_from_distinct nat_eq order index other_index 0 walk.once before low) same)
 
   -- a row is that of an object of the walk
@@ -105,8 +105,8 @@ module _ (first : ℕ) (heap roots pins order : List ℕ) (at : ℕ → Option N
   found =
       All-map IsFound (row_in_heap first heap) order
       (All-from_any nat_eq_equiv (λ a. IsFound (row_in_heap first heap a)) order
-      (λ a h. let u = led_name first heap roots pins at graph one s a (walk.led a h) in
-      (a, u.0, h, u.1.0, u.2, row_same first heap roots pins at graph one s a u.0 u.1)))
+      (λ a h. let u = led_name first heap roots pins at graph one words_stand a (walk.led a h) in
+      (a, u.0, h, u.1.0, u.2, row_same first heap roots pins at graph one words_stand a u.0 u.1)))
 
   module _ (text : Text) (moved : IsPermutation (map (row_in_heap first heap) order) text.rows) where
     found_rows : All IsFound text.rows
@@ -114,22 +114,22 @@ module _ (first : ℕ) (heap roots pins order : List ℕ) (at : ℕ → Option N
 
     every : (name : Name) → IsReachable graph name → Contains (names_of text) name
     every name reach =
-        let u = name_led first heap roots pins at graph one s name reach in
+        let u = name_led first heap roots pins at graph one words_stand name reach in
         let row = row_in_heap first heap u.0 in
         let c = Contains-from_any exact_unsigned_eq u.0 order (walk.all u.0 u.2) in
         let there : Contains text.rows row =
         Contains-permutation (map (row_in_heap first heap) order) text.rows row moved (Contains-map (row_in_heap first heap) order u.0 c) in
-        subst (λ (name : Name). Contains (names_of text) name) (facts first heap roots pins at graph one s u.0 name u.1).name
+        subst (λ (name : Name). Contains (names_of text) name) (facts first heap roots pins at graph one words_stand u.0 name u.1).name
         (Contains-map (λ (row : Row). row.name) text.rows row there)
 
     only : (name : Name) → Contains (names_of text) name → IsReachable graph name
-    only name c =
+    only name contains =
         let d = row_in_heap first heap 0 in
-        let low : c.0 < length text.rows = omega (arith, length-map text.rows (λ (row : Row). row.name), c.1) in
-        let f = found_rows c.0 d low in
-        let e : f.1 ≡ name =
-        sym (ap (λ (row : Row). row.name) f.5) ∙ sym (get_or-map (λ (row : Row). row.name) text.rows c.0 d name low) ∙ c.2 in
-        subst (λ (name : Name). IsReachable graph name) e f.4
+        let low : contains.0 < length text.rows = omega (arith, length-map text.rows (λ (row : Row). row.name), contains.1) in
+        let f = found_rows contains.0 d low in
+        let same : f.1 ≡ name =
+        sym (ap (λ (row : Row). row.name) f.5) ∙ sym (get_or-map (λ (row : Row). row.name) text.rows contains.0 d name low) ∙ contains.2 in
+        subst (λ (name : Name). IsReachable graph name) same f.4
 
     rows_same : text.rows ≡ map (row_in graph) (names_of text)
     rows_same =
@@ -152,11 +152,11 @@ module _ (first : ℕ) (heap roots pins order : List ℕ) (at : ℕ → Option N
       roots = (rooted
           ∙ ap (λ (f : ℕ → ℕ → Reference). root_rows f threads)
           (same_functions (λ t i. reference_in first heap (root_word roots t i)) graph.root
-          (λ t. same_functions (λ i. reference_in first heap (root_word roots t i)) (graph.root t)
-          (λ i. reference_same first heap roots pins at graph one s (root_word roots t i) (graph.root t i) (s.roots t i)))));
+          (λ thread. same_functions (λ i. reference_in first heap (root_word roots thread i)) (graph.root thread)
+          (λ index. reference_same first heap roots pins at graph one words_stand (root_word roots thread index) (graph.root thread index) (words_stand.roots thread index)))));
       pins = (pinned
           ∙ ap (λ (f : ℕ → ℕ → Reference). pin_rows f threads)
-          (same_functions (λ t i. reference_in first heap (pin_word pins t i)) (λ t i. name_in (graph.pin t i))
-          (λ t. same_functions (λ i. reference_in first heap (pin_word pins t i)) (λ i. name_in (graph.pin t i))
-          (λ i. pin_same first heap roots pins at graph one s (pin_word pins t i) (graph.pin t i) (s.pins t i)))));
+          (same_functions (λ t i. reference_in first heap (pin_word pins t i)) (λ thread slot. name_in (graph.pin thread slot))
+          (λ thread. same_functions (λ i. reference_in first heap (pin_word pins thread i)) (λ slot. name_in (graph.pin thread slot))
+          (λ slot. pin_same first heap roots pins at graph one words_stand (pin_word pins thread slot) (graph.pin thread slot) (words_stand.pins thread slot)))));
     }

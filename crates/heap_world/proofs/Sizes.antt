@@ -11,13 +11,13 @@ use Rattle.std.proofs.lemmas.Bool.{eqb-true, eqb-false, eq-eqb, or_cases, or_lef
 use Rattle.std.proofs.lemmas.Map.Views.{Contains-from_any, exact_unsigned_eq}
 use Rattle.std.proofs.lemmas.Cmp.{nat_eq_equiv}
 use Rattle.heap_world.specs.Walk.{has}
-use Rattle.heap_world.proofs.Marks.{has-range}
+use Rattle.heap_world.proofs.TakenDown.{has-range}
 
 -- a number in a range is within its ends
 range_from-has : (a n q : ℕ) → has (range_with_len a n) q ≡ true → (a ≤ q) × (q < a + n)
-range_from-has a zero q h = absurd (false≢true h)
-range_from-has a (suc n) q h =
-    elim (or_cases (nat_eq q a) (has (range_with_len (a + 1) n) q) h) [
+range_from-has a zero q same = absurd (false≢true same)
+range_from-has a (suc n) q same =
+    elim (or_cases (nat_eq q a) (has (range_with_len (a + 1) n) q) same) [
       | inl first ↦ (let e : q ≡ a = eqb-true q a first in (omega arith, omega arith))
       | inr rest ↦ (let k = range_from-has (a + 1) n q rest in (omega arith, omega arith))
     ]
@@ -48,10 +48,10 @@ words_of f xs = flat_map (λ a. range_with_len a (f a)) xs
 -- a word of an object lies within one of them
 object_from-word : (f : ℕ → ℕ) (xs : List ℕ) (q : ℕ) → has (words_of f xs) q ≡ true
     → (a : ℕ) × (has xs a ≡ true) × (a ≤ q) × (q < a + f a)
-object_from-word f [] q h = absurd (false≢true h)
-object_from-word f (x ∷ xs) q h =
+object_from-word f [] q same = absurd (false≢true same)
+object_from-word f (x ∷ xs) q same =
     elim (or_cases (has (range_with_len x (f x)) q) (has (words_of f xs) q)
-    (sym (list_any-append (nat_eq q) (range_with_len x (f x)) (words_of f xs)) ∙ h)) [
+    (sym (list_any-append (nat_eq q) (range_with_len x (f x)) (words_of f xs)) ∙ same)) [
       | inl first ↦ (let k = range_from-has x (f x) q first in (x, or_left (nat_eq x x) (has xs x) (eq-eqb x x refl), k.0, k.1))
       | inr rest ↦ (let k = object_from-word f xs q rest in (k.0, or_right (nat_eq k.0 x) (has xs k.0) k.1, k.2, k.3))
     ]
@@ -61,8 +61,8 @@ abbrev pub AreApart : (ℕ → ℕ) → List ℕ → Type 0
 AreApart f xs = (a b : ℕ) → has xs a ≡ true → has xs b ≡ true → a < b → a + f a ≤ b
 
 twice : (x : ℕ) (xs : List ℕ) → IsDistinct nat_eq (x ∷ xs) → has xs x ≡ true → ⊥
-twice x xs once h =
-    let c = Contains-from_any exact_unsigned_eq x xs h in
+twice x xs once same =
+    let c = Contains-from_any exact_unsigned_eq x xs same in
     eqb-false x (get_or xs c.0 x) (apart_from_distinct nat_eq (x ∷ xs) 0 (suc c.0) x once (omega arith) (omega (arith, c.1))) (sym c.2)
 
 none_of_first : (f : ℕ → ℕ) (x : ℕ) (xs : List ℕ) → IsDistinct nat_eq (x ∷ xs) → AreApart f (x ∷ xs)

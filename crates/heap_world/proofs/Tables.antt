@@ -33,14 +33,14 @@ length-part xs a b within = length-take-le (b - a) (drop a xs) (omega (arith, le
 -- Pieces lie where they should. Where a copy of an object stands for its name there is a piece, and the current copy, by the header
 -- there, stands for the name too and is the object as the graph has it; it is the only one. Names are short. Other objects need no piece.
 pub record AreCopies (config : Config) (words : List ℕ) (block : Plot) (at : ℕ → Option Name) (graph : Graph) : Type 0 where
-  pub plotted : IsPlotted config (λ r. view config words (Top r)) block
+  pub plotted : IsPlotted config (λ region. view config words (Top region)) block
   pub piece : (address : ℕ) (name : Name) → at address ≡ Some name → (x : Block) × (block address ≡ Some x) × (1 ≤ words_of x)
-  pub current : (address : ℕ) (name : Name) → at address ≡ Some name → at (current_of (λ x. view config words (Heap x)) address) ≡ Some name
+  pub current : (address : ℕ) (name : Name) → at address ≡ Some name → at (current_of (λ address. view config words (Heap address)) address) ≡ Some name
   pub object : (address : ℕ) (name : Name) → at address ≡ Some name
-      → (refs : ℕ) × (nums : ℕ) × (o : Object) × (block (current_of (λ x. view config words (Heap x)) address) ≡ Some (thing name refs nums)) × (graph.object name ≡ Some o)
-      × IsObject (λ x. view config words (Heap x)) at (current_of (λ x. view config words (Heap x)) address) refs nums name o
-  pub once : (address b : ℕ) (name : Name) → at address ≡ Some name → at b ≡ Some name → current_of (λ x. view config words (Heap x)) address ≡ current_of (λ x. view config words (Heap x)) b
-  pub small : (name : Name) (o : Object) → graph.object name ≡ Some o → name.count < 2 ^ 32
+      → (refs : ℕ) × (nums : ℕ) × (o : Object) × (block (current_of (λ address. view config words (Heap address)) address) ≡ Some (thing name refs nums)) × (graph.object name ≡ Some o)
+      × IsObject (λ address. view config words (Heap address)) at (current_of (λ address. view config words (Heap address)) address) refs nums name o
+  pub once : (address b : ℕ) (name : Name) → at address ≡ Some name → at b ≡ Some name → current_of (λ address. view config words (Heap address)) address ≡ current_of (λ address. view config words (Heap address)) b
+  pub small : (name : Name) (object : Object) → graph.object name ≡ Some object → name.count < 2 ^ 32
 
 module _ (config : Config) (words : List ℕ) (block : Plot) (at : ℕ → Option Name) (graph : Graph) (long : length words ≡ table_words config) (pieces : AreCopies config words block at graph) where
   abbrev heap : List ℕ
@@ -60,12 +60,12 @@ module _ (config : Config) (words : List ℕ) (block : Plot) (at : ℕ → Optio
 
   -- the length of the heap
   length-heap : length heap ≡ config.regions * config.region_words
-  length-heap = let e : length heap ≡ heap_start config + heap_size config - heap_start config = length-part words (heap_start config) (heap_start config + heap_size config) (omega (arith, long)) in omega (arith, e)
+  length-heap = let same : length heap ≡ heap_start config + heap_size config - heap_start config = length-part words (heap_start config) (heap_start config + heap_size config) (omega (arith, long)) in omega (arith, same)
 
   -- the words of a piece lie in the heap
   piece_inside : (address : ℕ) (piece : Block) → block address ≡ Some piece → (first ≤ address) × (address + words_of piece ≤ first + length heap)
   piece_inside address piece is =
-      let inside = words_inside config (λ r. view config words (Top r)) block pieces.plotted address piece is in
+      let inside = words_inside config (λ region. view config words (Top region)) block pieces.plotted address piece is in
       let size : (config.regions + 1) * config.region_words ≡ config.regions * config.region_words + config.region_words = omega arith in
       (inside.0, omega (arith, inside.1, size, length-heap))
 
@@ -73,13 +73,13 @@ module _ (config : Config) (words : List ℕ) (block : Plot) (at : ℕ → Optio
   heap_word : (address : ℕ) → first ≤ address → address < first + length heap → slice_index heap (address - first) ≡ view config words (Heap address)
   heap_word address low high =
       get_or-part words (heap_start config) (heap_start config + heap_size config) (address - first) (omega (arith, low, high, length-heap))
-      ∙ ap (λ k. get_or words k 0) (let e : heap_start config + (address - first) ≡ heap_start config + address - first = omega (arith, low) in e)
+      ∙ ap (λ index. get_or words index 0) (let e : heap_start config + (address - first) ≡ heap_start config + address - first = omega (arith, low) in e)
       ∙ sym (view_word config words (Heap address) (low, let e : (config.regions + 1) * config.region_words ≡ config.regions * config.region_words + config.region_words = omega arith in omega (arith, e, high, length-heap)))
 
   -- an object has the words that its piece has
-  object_stands : (address refs nums : ℕ) (name : Name) (o : Object) → block address ≡ Some (thing name refs nums) → graph.object name ≡ Some o
-      → IsObject mem at address refs nums name o → name.count < 2 ^ 32
-      → IsAt first (first + length heap) (λ k. slice_index heap (k - first)) at graph address name o
+  object_stands : (address refs nums : ℕ) (name : Name) (object : Object) → block address ≡ Some (thing name refs nums) → graph.object name ≡ Some object
+      → IsObject mem at address refs nums name object → name.count < 2 ^ 32
+      → IsAt first (first + length heap) (λ k. slice_index heap (k - first)) at graph address name object
   object_stands address refs nums name o is object facts small =
       let inside : (first ≤ address) × (address + (3 + refs + nums) ≤ first + length heap) = piece_inside address (thing name refs nums) is in
       record {
@@ -111,23 +111,23 @@ module _ (config : Config) (words : List ℕ) (block : Plot) (at : ℕ → Optio
   here a = slice_index heap (a - first)
 
   -- the current copy by the words of the heap
-  now_same : (a : ℕ) (name : Name) → at a ≡ Some name → current_of here a ≡ current_of mem a
-  now_same a name is =
-      let x = pieces.piece a name is in
-      let inside = piece_inside a x.0 x.1 in
-      ap (λ word. if is_forwarded word then forwardee_in word else a) (heap_word a inside.0 (omega (arith, inside.1, x.2)))
+  now_same : (address : ℕ) (name : Name) → at address ≡ Some name → current_of here address ≡ current_of mem address
+  now_same address name is =
+      let x = pieces.piece address name is in
+      let inside = piece_inside address x.0 x.1 in
+      ap (λ word. if is_forwarded word then forwardee_in word else address) (heap_word address inside.0 (omega (arith, inside.1, x.2)))
 
-  each : (a : ℕ) (name : Name) → at a ≡ Some name → IsCopyAt first (first + length heap) here at a name
-  each a name is =
-      let x = pieces.piece a name is in
-      let inside = piece_inside a x.0 x.1 in
-      record { above = inside.0; below = omega (arith, inside.1, x.2); current = ap at (now_same a name is) ∙ pieces.current a name is }
+  each : (address : ℕ) (name : Name) → at address ≡ Some name → IsCopyAt first (first + length heap) here at address name
+  each address name is =
+      let x = pieces.piece address name is in
+      let inside = piece_inside address x.0 x.1 in
+      record { above = inside.0; below = omega (arith, inside.1, x.2); current = ap at (now_same address name is) ∙ pieces.current address name is }
 
   -- so the object of each name stands somewhere
   object : (a : ℕ) (name : Name) → at a ≡ Some name → (o : Object) × IsAt first (first + length heap) here at graph (current_of here a) name o
   object a name is =
       let x = pieces.object a name is in
-      (x.2, subst (λ k. IsAt first (first + length heap) here at graph k name x.2) (sym (now_same a name is)) (object_stands (current_of mem a) x.0 x.1 name x.2 x.3 x.4 x.5 (pieces.small name x.2 x.4)))
+      (x.2, subst (λ address. IsAt first (first + length heap) here at graph address name x.2) (sym (now_same a name is)) (object_stands (current_of mem a) x.0 x.1 name x.2 x.3 x.4 x.5 (pieces.small name x.2 x.4)))
 
   -- objects lie apart
   apart : (a b : ℕ) (name other_name : Name) (object : Object) → at a ≡ Some name → at b ≡ Some other_name → graph.object name ≡ Some object → current_of here a < current_of here b → current_of here a + size object ≤ current_of here b
@@ -143,12 +143,12 @@ module _ (config : Config) (words : List ℕ) (block : Plot) (at : ℕ → Optio
       omega (arith, behind, refs, nums, now_a, now_b)
 
   -- a name has one current copy
-  once : (a b : ℕ) (name : Name) → at a ≡ Some name → at b ≡ Some name → current_of here a ≡ current_of here b
-  once a b name is_a is_b = now_same a name is_a ∙ pieces.once a b name is_a is_b ∙ sym (now_same b name is_b)
+  once : (address other_address : ℕ) (name : Name) → at address ≡ Some name → at other_address ≡ Some name → current_of here address ≡ current_of here other_address
+  once address other_address name is_a is_b = now_same address name is_a ∙ pieces.once address other_address name is_a is_b ∙ sym (now_same other_address name is_b)
 
   -- there are 16 roots for each mutator
   length-roots : length roots ≡ 16 * config.mutators
-  length-roots = let e : length roots ≡ roots_start config + 16 * config.mutators - roots_start config = length-part words (roots_start config) (roots_start config + 16 * config.mutators) (omega (arith, long)) in omega (arith, e)
+  length-roots = let same : length roots ≡ roots_start config + 16 * config.mutators - roots_start config = length-part words (roots_start config) (roots_start config + 16 * config.mutators) (omega (arith, long)) in omega (arith, same)
 
   module _ (own : (t i : ℕ) → t < config.mutators → i < 16 → Refers at (view config words (Root t i)) (graph.root (t + 1) i)) (no_more : HasNoMoreRoots config.mutators graph) where
     -- a root of a mutator
@@ -156,7 +156,7 @@ module _ (config : Config) (words : List ℕ) (block : Plot) (at : ℕ → Optio
     own_root seat index below small =
         let counts : view config words (Root seat index) ≡ slice_index roots (16 * seat + index) =
         view_word config words (Root seat index) (below, small)
-        ∙ ap (λ k. get_or words k 0) (let e : roots_start config + 16 * seat + index ≡ roots_start config + (16 * seat + index) = omega arith in e)
+        ∙ ap (λ index. get_or words index 0) (let same : roots_start config + 16 * seat + index ≡ roots_start config + (16 * seat + index) = omega arith in same)
         ∙ sym (get_or-part words (roots_start config) (roots_start config + 16 * config.mutators) (16 * seat + index) (omega (arith, below, small))) in
         subst (λ word. Refers at word (graph.root (seat + 1) index)) counts (own seat index below small)
 
@@ -169,29 +169,29 @@ module _ (config : Config) (words : List ℕ) (block : Plot) (at : ℕ → Optio
         (cases_Bool (nat_le 1 t && nat_lt i 16))
 
     -- each root's word refers to it
-    root_stands : (thread i : ℕ) → Refers at (root_word roots thread i) (graph.root thread i)
-    root_stands thread i = ⊎_elim
-        (λ (yes : is_root_of config.mutators thread i ≡ true).
+    root_stands : (thread index : ℕ) → Refers at (root_word roots thread index) (graph.root thread index)
+    root_stands thread index = ⊎_elim
+        (λ (yes : is_root_of config.mutators thread index ≡ true).
         let one : 1 ≤ thread = leb-true 1 thread (and_parts _ _ yes).0 in
-        let rest : (nat_le thread config.mutators ≡ true) × (nat_lt i 16 ≡ true) = and_parts _ _ (and_parts (nat_le 1 thread) (nat_le thread config.mutators && nat_lt i 16) yes).1 in
+        let rest : (nat_le thread config.mutators ≡ true) × (nat_lt index 16 ≡ true) = and_parts _ _ (and_parts (nat_le 1 thread) (nat_le thread config.mutators && nat_lt index 16) yes).1 in
         let most : thread ≤ config.mutators = leb-true thread config.mutators rest.0 in
-        let small : i < 16 = ltb-true i 16 rest.1 in
+        let small : index < 16 = ltb-true index 16 rest.1 in
         let seat : thread - 1 + 1 ≡ thread = omega (arith, one) in
-        let word : root_word roots thread i ≡ slice_index roots (16 * (thread - 1) + i) = cond-true (nat_le 1 thread && nat_lt i 16) _ _ (and_from _ _ (and_parts _ _ yes).0 rest.1) in
-        subst (λ w. Refers at w (graph.root thread i)) (sym word)
-        (subst (λ k. Refers at (slice_index roots (16 * (thread - 1) + i)) (graph.root k i)) seat (own_root (thread - 1) i (omega (arith, one, most)) small)))
-        (λ (none : is_root_of config.mutators thread i ≡ false).
-        subst (λ r. Refers at (root_word roots thread i) r) (sym (no_more thread i none)) (no_root thread i none))
-        (cases_Bool (is_root_of config.mutators thread i))
+        let word : root_word roots thread index ≡ slice_index roots (16 * (thread - 1) + index) = cond-true (nat_le 1 thread && nat_lt index 16) _ _ (and_from _ _ (and_parts _ _ yes).0 rest.1) in
+        subst (λ w. Refers at w (graph.root thread index)) (sym word)
+        (subst (λ other_thread. Refers at (slice_index roots (16 * (thread - 1) + index)) (graph.root other_thread index)) seat (own_root (thread - 1) index (omega (arith, one, most)) small)))
+        (λ (none : is_root_of config.mutators thread index ≡ false).
+        subst (λ r. Refers at (root_word roots thread index) r) (sym (no_more thread index none)) (no_root thread index none))
+        (cases_Bool (is_root_of config.mutators thread index))
 
   -- there are 4 pin slots for each mutator
   length-pins : length pins ≡ 4 * config.mutators
-  length-pins = let e : length pins ≡ pins_start config + 4 * config.mutators - pins_start config = length-part words (pins_start config) (pins_start config + 4 * config.mutators) (omega (arith, long)) in omega (arith, e)
+  length-pins = let same : length pins ≡ pins_start config + 4 * config.mutators - pins_start config = length-part words (pins_start config) (pins_start config + 4 * config.mutators) (omega (arith, long)) in omega (arith, same)
 
   -- a pin word stands by the words of the heap as it does by the table
   pin_here : (word : ℕ) (held : Option Pinned) → HoldsPin mem at word held → HoldsPin here at word held
-  pin_here word None h = h
-  pin_here word (Some p) h = (h.0, h.1, now_same word p.name h.1 ∙ h.2)
+  pin_here word None holds_pin = holds_pin
+  pin_here word (Some pinned) holds_pin = (holds_pin.0, holds_pin.1, now_same word pinned.name holds_pin.1 ∙ holds_pin.2)
 
   module _ (own : (t i : ℕ) → t < config.mutators → i < 4 → HoldsPin mem at (view config words (Pin t i)) (graph.pin (t + 1) i)) (no_more : HasNoMorePins config.mutators graph) where
     -- a pin slot of a mutator
@@ -199,7 +199,7 @@ module _ (config : Config) (words : List ℕ) (block : Plot) (at : ℕ → Optio
     own_pin seat slot below small =
         let counts : view config words (Pin seat slot) ≡ slice_index pins (4 * seat + slot) =
         view_word config words (Pin seat slot) (below, small)
-        ∙ ap (λ k. get_or words k 0) (let e : pins_start config + 4 * seat + slot ≡ pins_start config + (4 * seat + slot) = omega arith in e)
+        ∙ ap (λ index. get_or words index 0) (let same : pins_start config + 4 * seat + slot ≡ pins_start config + (4 * seat + slot) = omega arith in same)
         ∙ sym (get_or-part words (pins_start config) (pins_start config + 4 * config.mutators) (4 * seat + slot) (omega (arith, below, small))) in
         subst (λ word. HoldsPin here at word (graph.pin (seat + 1) slot)) counts (pin_here (view config words (Pin seat slot)) (graph.pin (seat + 1) slot) (own seat slot below small))
 
@@ -212,25 +212,25 @@ module _ (config : Config) (words : List ℕ) (block : Plot) (at : ℕ → Optio
         (cases_Bool (nat_le 1 t && nat_lt i 4))
 
     -- each pin word stands for what its slot holds
-    pin_stands : (thread i : ℕ) → HoldsPin here at (pin_word pins thread i) (graph.pin thread i)
-    pin_stands thread i = ⊎_elim
-        (λ (yes : is_slot_of config.mutators thread i ≡ true).
+    pin_stands : (thread slot : ℕ) → HoldsPin here at (pin_word pins thread slot) (graph.pin thread slot)
+    pin_stands thread slot = ⊎_elim
+        (λ (yes : is_slot_of config.mutators thread slot ≡ true).
         let one : 1 ≤ thread = leb-true 1 thread (and_parts _ _ yes).0 in
-        let rest : (nat_le thread config.mutators ≡ true) × (nat_lt i 4 ≡ true) = and_parts _ _ (and_parts (nat_le 1 thread) (nat_le thread config.mutators && nat_lt i 4) yes).1 in
+        let rest : (nat_le thread config.mutators ≡ true) × (nat_lt slot 4 ≡ true) = and_parts _ _ (and_parts (nat_le 1 thread) (nat_le thread config.mutators && nat_lt slot 4) yes).1 in
         let most : thread ≤ config.mutators = leb-true thread config.mutators rest.0 in
-        let small : i < 4 = ltb-true i 4 rest.1 in
+        let small : slot < 4 = ltb-true slot 4 rest.1 in
         let seat : thread - 1 + 1 ≡ thread = omega (arith, one) in
-        let word : pin_word pins thread i ≡ slice_index pins (4 * (thread - 1) + i) = cond-true (nat_le 1 thread && nat_lt i 4) _ _ (and_from _ _ (and_parts _ _ yes).0 rest.1) in
-        subst (λ w. HoldsPin here at w (graph.pin thread i)) (sym word)
-        (subst (λ k. HoldsPin here at (slice_index pins (4 * (thread - 1) + i)) (graph.pin k i)) seat (own_pin (thread - 1) i (omega (arith, one, most)) small)))
-        (λ (none : is_slot_of config.mutators thread i ≡ false).
-        subst (λ held. HoldsPin here at (pin_word pins thread i) held) (sym (no_more thread i none)) (no_pin thread i none))
-        (cases_Bool (is_slot_of config.mutators thread i))
+        let word : pin_word pins thread slot ≡ slice_index pins (4 * (thread - 1) + slot) = cond-true (nat_le 1 thread && nat_lt slot 4) _ _ (and_from _ _ (and_parts _ _ yes).0 rest.1) in
+        subst (λ w. HoldsPin here at w (graph.pin thread slot)) (sym word)
+        (subst (λ other_thread. HoldsPin here at (slice_index pins (4 * (thread - 1) + slot)) (graph.pin other_thread slot)) seat (own_pin (thread - 1) slot (omega (arith, one, most)) small)))
+        (λ (none : is_slot_of config.mutators thread slot ≡ false).
+        subst (λ held. HoldsPin here at (pin_word pins thread slot) held) (sym (no_more thread slot none)) (no_pin thread slot none))
+        (cases_Bool (is_slot_of config.mutators thread slot))
 
 -- the words stand for the graph
 pub copies_stand : (config : Config) (words : List ℕ) (block : Plot) (at : ℕ → Option Name) (graph : Graph) → length words ≡ table_words config → AreCopies config words block at graph
     → ((mutator index : ℕ) → mutator < config.mutators → index < 16 → Refers at (view config words (Root mutator index)) (graph.root (mutator + 1) index)) → HasNoMoreRoots config.mutators graph
-    → ((mutator index : ℕ) → mutator < config.mutators → index < 4 → HoldsPin (λ x. view config words (Heap x)) at (view config words (Pin mutator index)) (graph.pin (mutator + 1) index)) → HasNoMorePins config.mutators graph
+    → ((mutator index : ℕ) → mutator < config.mutators → index < 4 → HoldsPin (λ address. view config words (Heap address)) at (view config words (Pin mutator index)) (graph.pin (mutator + 1) index)) → HasNoMorePins config.mutators graph
     → WordsStand config.region_words (heap_in config words) (roots_in config words) (pins_in config words) at graph
 copies_stand config words block at graph long pieces own no_more own_pins no_more_pins = record {
   each = each config words block at graph long pieces;
@@ -267,10 +267,10 @@ module _ (config : Config) (words : List ℕ) (block : Plot) (ghost : Ghost) (gr
       record { refs = body.0; nums = body.1; piece = moved name body.0 body.1 was.0; there = was.1; some = omega arith; copy = ap block (moved_current memory address was.0 old.header) ∙ old.copy })
       (copy_cases (block address) (body_of name body.0 body.1) body.2)
 
-  pub are_copies : AreCopies config words block (λ a. name_at (block a)) graph
+  pub are_copies : AreCopies config words block (λ address. name_at (block address)) graph
   are_copies = record {
     plotted = shared.parsable.plotted;
-    piece = λ a n is. (let x = copied a n is in (x.piece, x.there, x.some));
+    piece = λ address name is. (let x = copied address name is in (x.piece, x.there, x.some));
     current = λ a n is. ap name_at (copied a n is).copy;
     object = λ a n is.
         let x = copied a n is in
@@ -284,16 +284,16 @@ module _ (config : Config) (words : List ℕ) (block : Plot) (ghost : Ghost) (gr
   }
 
   -- and a pin slot holds the current copy of an object
-  pub pin_held : (word : ℕ) (held : Option Pinned) → PinStands config (view config words Cset) (view config words Evac) block word held → HoldsPin memory (λ a. name_at (block a)) word held
+  pub pin_held : (word : ℕ) (held : Option Pinned) → PinStands config (view config words Cset) (view config words Evac) block word held → HoldsPin memory (λ address. name_at (block address)) word held
   pin_held word None is = is
-  pin_held word (Some p) is =
-      let o = shared.contents.objects.each word is.1 is.2 p.name is.3.piece in
+  pin_held word (Some pinned) is =
+      let o = shared.contents.objects.each word is.1 is.2 pinned.name is.3.piece in
       (is.0, ap name_at is.3.piece, plain_current memory word o.2.header)
 
 pub table_stands : (config : Config) (words : List ℕ) (block : Plot) (ghost : Ghost) (graph : Graph) → length words ≡ table_words config
     → Shared config (record { memory = view config words; block = block; ghost = ghost; graph = graph })
     → ((mutator index : ℕ) → mutator < config.mutators → index < 16 → Points block (view config words (Root mutator index)) (graph.root (mutator + 1) index)) → HasNoMoreRoots config.mutators graph → HasNoMorePins config.mutators graph
-    → WordsStand config.region_words (heap_in config words) (roots_in config words) (pins_in config words) (λ a. name_at (block a)) graph
+    → WordsStand config.region_words (heap_in config words) (roots_in config words) (pins_in config words) (λ address. name_at (block address)) graph
 table_stands config words block ghost graph long shared own no_more no_more_pins =
-    copies_stand config words block (λ a. name_at (block a)) graph long (are_copies config words block ghost graph shared) own no_more
+    copies_stand config words block (λ address. name_at (block address)) graph long (are_copies config words block ghost graph shared) own no_more
     (λ mutator index seated inside. pin_held config words block ghost graph shared (view config words (Pin mutator index)) (graph.pin (mutator + 1) index) (shared.pinned mutator index seated inside)) no_more_pins

@@ -8,7 +8,7 @@ module _ (config : Config) (snapshot : Snapshot) (heap black : ℕ → ℕ) (sca
   -- where more is noted
   pub traced_noted : (P Q : ℕ → Type 0) → ((v : ℕ) → P v → Q v) → AreTraced config snapshot heap black scanning P → AreTraced config snapshot heap black scanning Q
   traced_noted P Q more traced = record {
-    edges = λ a refs nums k name is below. edge a k (traced.edges a refs nums k name is below);
+    edges = λ address refs nums k name is below. edge address k (traced.edges address refs nums k name is below);
     starts = λ a is. more a (traced.starts a is);
   }
     where

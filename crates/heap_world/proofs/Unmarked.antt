@@ -10,7 +10,7 @@ pub none_marked_in : (config : Config) (phase : ℕ) (grey black count : ℕ →
 none_marked_in config phase grey black count buffer top tams heap block recording scanning is = record {
   empty = λ other. refl;
   traced = record {
-    edges = λ a refs nums k name there. absurd (none-some _ there);
+    edges = λ address refs nums k name there. absurd (none-some _ there);
     starts = λ a there. absurd (false≢true there);
   };
   led = λ a refs nums name there. absurd (none-some _ there);

@@ -16,19 +16,19 @@ pub current_stays : (plot other_plot : Plot) → ((address refs nums : ℕ) (nam
 current_stays plot other_plot things word (IsCurrent.null null) = IsCurrent.null null
 current_stays plot other_plot things word (IsCurrent.names refs nums name is) = IsCurrent.names refs nums name (things word refs nums name is)
 
-module _ (config : Config) (cset claim : ℕ) (top limit heap : ℕ → ℕ) (block : Plot) (scanning : ℕ → Option Scan) (e : IsUpdating config cset claim top limit heap block scanning) where
+module _ (config : Config) (cset claim : ℕ) (top limit heap : ℕ → ℕ) (block : Plot) (scanning : ℕ → Option Scan) (updating : IsUpdating config cset claim top limit heap block scanning) where
   -- Words change, but each field of an object stays, or is current then.
   pub updated_stored : (after : ℕ → ℕ)
       → ((address refs nums k : ℕ) (name : Name) → block address ≡ Some (thing name refs nums) → k < refs → (after (address + 3 + k) ≡ heap (address + 3 + k)) ⊎ IsCurrent block (after (address + 3 + k)))
       → IsUpdating config cset claim top limit after block scanning
   updated_stored after fields = record {
-    outside = e.outside;
+    outside = updating.outside;
     renewed = λ address refs nums k name is below. ⊎_elim
-        (λ same. subst (λ word. IsCurrent block word ⊎ IsToUpdate config claim limit scanning address k) (sym same) (e.renewed address refs nums k name is below))
+        (λ same. subst (λ word. IsCurrent block word ⊎ IsToUpdate config claim limit scanning address k) (sym same) (updating.renewed address refs nums k name is below))
         (λ current. inl current)
         (fields address refs nums k name is below);
-    young = e.young;
-    limits = e.limits;
+    young = updating.young;
+    limits = updating.limits;
   }
 
   -- so it is where no word of an object changes
@@ -45,7 +45,7 @@ module _ (config : Config) (cset claim : ℕ) (top limit heap : ℕ → ℕ) (bl
   updated_made new_block address refs nums name here outside fields things only = record {
     outside = λ other_address more_refs more_nums other_name is inside. ⊎_elim
         (λ (same : other_address ≡ address). outside (subst (IsCollected config cset) same inside))
-        (λ (other : other_address ≢ address). e.outside other_address more_refs more_nums other_name (only other_address (thing other_name more_refs more_nums) is other) inside)
+        (λ (other : other_address ≢ address). updating.outside other_address more_refs more_nums other_name (only other_address (thing other_name more_refs more_nums) is other) inside)
         (cases_eq other_address address);
     renewed = λ other_address more_refs more_nums k other_name is below. ⊎_elim
         (λ (same : other_address ≡ address).
@@ -55,10 +55,10 @@ module _ (config : Config) (cset claim : ℕ) (top limit heap : ℕ → ℕ) (bl
         (λ (other : other_address ≢ address). ⊎_elim
         (λ current. inl (current_stays block new_block things (heap (other_address + 3 + k)) current))
         (λ due. inr due)
-        (e.renewed other_address more_refs more_nums k other_name (only other_address (thing other_name more_refs more_nums) is other) below))
+        (updating.renewed other_address more_refs more_nums k other_name (only other_address (thing other_name more_refs more_nums) is other) below))
         (cases_eq other_address address);
-    young = λ other_address seat x is room. e.young other_address seat x
+    young = λ other_address seat x is room. updating.young other_address seat x
         (only other_address x is (λ same. none-some seat (ap room_of (same_Some (thing name refs nums) x (sym here ∙ ap new_block (sym same) ∙ is)) ∙ room)))
         room;
-    limits = e.limits;
+    limits = updating.limits;
   }

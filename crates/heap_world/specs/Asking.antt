@@ -40,8 +40,8 @@ pub record IsPromise (memory : Word → ℕ) (block : Plot) (count : ℕ → ℕ
 
 -- what words, pieces and counts say of a mutator that has asked so
 abbrev pub IsAsked : (Word → ℕ) → Plot → (ℕ → ℕ) → ℕ → Asking → Type 0
-IsAsked memory block count t nothing = (memory (Wait t) ≡ 0) × (memory (Answer t) ≡ 0) × HasNoPromise block t
-IsAsked memory block count t (asks refs nums) = IsRequest memory count t refs nums × (memory (Answer t) ≡ 0) × HasNoPromise block t
-IsAsked memory block count t refused = (memory (Wait t) ≡ 0) × (memory (Answer t) ≡ 1) × HasNoPromise block t
-IsAsked memory block count t (given refs nums) =
-    (memory (Wait t) ≡ 0) × (1 < memory (Answer t)) × IsPromise memory block count t refs nums (memory (Answer t))
+IsAsked memory block count mutator nothing = (memory (Wait mutator) ≡ 0) × (memory (Answer mutator) ≡ 0) × HasNoPromise block mutator
+IsAsked memory block count mutator (asks refs nums) = IsRequest memory count mutator refs nums × (memory (Answer mutator) ≡ 0) × HasNoPromise block mutator
+IsAsked memory block count mutator refused = (memory (Wait mutator) ≡ 0) × (memory (Answer mutator) ≡ 1) × HasNoPromise block mutator
+IsAsked memory block count mutator (given refs nums) =
+    (memory (Wait mutator) ≡ 0) × (1 < memory (Answer mutator)) × IsPromise memory block count mutator refs nums (memory (Answer mutator))

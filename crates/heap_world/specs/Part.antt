@@ -14,14 +14,14 @@ pub record SameWork (world after : World) (seat : ℕ) : Type 0 where
 -- What a step of a part owes, which settles nothing, to the machine that has it inside: the world after it, by its memory and
 -- its graph; what all machines share; what the part counts on from here; what the machine's own facts stand on; and what the
 -- others rely on.
-pub record PartStep (config : Config) (u : World) (seat : ℕ) (touch : Touch) (facts : World → Type 0) : Type 0 where
+pub record PartStep (config : Config) (before : World) (seat : ℕ) (touch : Touch) (facts : World → Type 0) : Type 0 where
   pub world : World
-  pub memory : world.memory ≡ touched u.memory touch
-  pub graph : world.graph ≡ u.graph
+  pub memory : world.memory ≡ touched before.memory touch
+  pub graph : world.graph ≡ before.graph
   pub shared : Shared config world
   pub own : facts world
-  pub keeps : Keeps config seat u world
-  pub others : (k : ℕ) → k ≢ seat → Rely config k u world
+  pub keeps : Keeps config seat before world
+  pub others : (k : ℕ) → k ≢ seat → Rely config k before world
 
 -- A part, as the machine that has it inside sees it: its spots, and by spot whether it has ended, its access, the spot that follows by the
 -- word that was found, which words are fit, and what it counts on; and what a step from one world to another brings about, by the spot to

@@ -61,7 +61,7 @@ pub record RelyMarks (config : Config) (seat : ℕ) (world after : World) : Type
   pub scanning : after.ghost.scanning seat ≡ world.ghost.scanning seat
   pub entries : after.memory (Count seat) ≡ world.memory (Count seat)
   pub buffer : (index : ℕ) → after.memory (Buffer seat index) ≡ world.memory (Buffer seat index)
-  pub greys : (a : ℕ) → HasMark config (λ n. world.memory (Grey n)) a → HasMark config (λ n. after.memory (Grey n)) a
+  pub greys : (a : ℕ) → HasMark config (λ number. world.memory (Grey number)) a → HasMark config (λ number. after.memory (Grey number)) a
 
 -- What the machine of a seat relies on of evacuation while another machine steps: whether it copies and on which unit it works stays as
 -- it is, and while it copies so do the words of copies in the collection set, but for their headers.

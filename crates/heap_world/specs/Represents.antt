@@ -41,7 +41,7 @@ pub record RepresentsWith (AsksOfRoots : Plot → Type 0) (config : Config) (mem
 
 -- words represent a graph: each root word may be used besides
 abbrev pub Represents : Config → (Word → ℕ) → Graph → (ℕ → Asking) → Type 0
-Represents config memory = RepresentsWith (λ block. AreUsable config (memory Cset) (memory Evac) block (λ t i. memory (Root t i))) config memory
+Represents config memory = RepresentsWith (λ block. AreUsable config (memory Cset) (memory Evac) block (λ mutator index. memory (Root mutator index))) config memory
 
 -- They do so by copies: a root word need not be usable. It names an object by a copy that may not be the current one, or that may be about
 -- to be copied.

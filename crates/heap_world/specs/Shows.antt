@@ -14,7 +14,7 @@ pub record ShowsGraph (text : Text) (threads : ℕ) (graph : Graph) : Type 0 whe
   pub reach : IsReach graph (names_of text)
   pub rows : text.rows ≡ map (row_in graph) (names_of text)
   pub roots : text.roots ≡ root_rows graph.root threads
-  pub pins : text.pins ≡ pin_rows (λ t slot. name_in (graph.pin t slot)) threads
+  pub pins : text.pins ≡ pin_rows (λ thread slot. name_in (graph.pin thread slot)) threads
 
 -- The words of the addresses from `first` on, and the words of the roots, 16 for each thread, and of the pin slots, 4 for each, stand for
 -- the graph.

@@ -18,17 +18,17 @@ pub record IsCopyAt (first end : ℕ) (heap : ℕ → ℕ) (at : ℕ → Option 
   pub current : at (current_of heap address) ≡ Some name
 
 -- an object of the graph stands at the address, and all of it among the words from `first` to before `end`
-pub record IsAt (first end : ℕ) (heap : ℕ → ℕ) (at : ℕ → Option Name) (graph : Graph) (a : ℕ) (name : Name) (o : Object) : Type 0 where
+pub record IsAt (first end : ℕ) (heap : ℕ → ℕ) (at : ℕ → Option Name) (graph : Graph) (address : ℕ) (name : Name) (o : Object) : Type 0 where
   pub object : graph.object name ≡ Some o
-  pub words : IsObject heap at a (length o.refs) (length o.nums) name o
+  pub words : IsObject heap at address (length o.refs) (length o.nums) name o
   pub short_count : name.count < 2 ^ 32
-  pub above : first ≤ a
-  pub below : a + size o ≤ end
+  pub above : first ≤ address
+  pub below : address + size o ≤ end
 
 -- A pin word stands for what its slot holds: 0 for nothing, and else it is the object's place, where its current copy is.
 abbrev pub HoldsPin : (heap : ℕ → ℕ) (at : ℕ → Option Name) → ℕ → Option Pinned → Type 0
 HoldsPin heap at word None = word ≡ 0
-HoldsPin heap at word (Some p) = (word ≡ p.place) × (at word ≡ Some p.name) × (current_of heap word ≡ word)
+HoldsPin heap at word (Some pinned) = (word ≡ pinned.place) × (at word ≡ Some pinned.name) × (current_of heap word ≡ word)
 
 -- The words of the addresses from `first` to before `end`, and the words of roots and pin slots, stand for the graph. For an address,
 -- `at` gives the name of the object of which a copy begins there, if one does. Its current copy stands as the graph has it. No
@@ -37,7 +37,7 @@ pub record Stands (first end : ℕ) (heap : ℕ → ℕ) (root pin : ℕ → ℕ
   pub each : (address : ℕ) (name : Name) → at address ≡ Some name → IsCopyAt first end heap at address name
   pub object : (address : ℕ) (name : Name) → at address ≡ Some name → (o : Object) × IsAt first end heap at graph (current_of heap address) name o
   pub once : (address other_address : ℕ) (name : Name) → at address ≡ Some name → at other_address ≡ Some name → current_of heap address ≡ current_of heap other_address
-  pub apart : (address other_address : ℕ) (name other_name : Name) (o : Object) → at address ≡ Some name → at other_address ≡ Some other_name → graph.object name ≡ Some o → current_of heap address < current_of heap other_address
-      → current_of heap address + size o ≤ current_of heap other_address
+  pub apart : (address other_address : ℕ) (name other_name : Name) (object : Object) → at address ≡ Some name → at other_address ≡ Some other_name → graph.object name ≡ Some object → current_of heap address < current_of heap other_address
+      → current_of heap address + size object ≤ current_of heap other_address
   pub roots : (thread index : ℕ) → Refers at (root thread index) (graph.root thread index)
   pub pins : (thread slot : ℕ) → HoldsPin heap at (pin thread slot) (graph.pin thread slot)

@@ -177,7 +177,7 @@ body_at None = None
 
 -- a word stands for a reference where objects stand so
 abbrev pub Points : Plot → ℕ → Reference → Type 0
-Points block word reference = Refers (λ a. name_at (block a)) word reference
+Points block word reference = Refers (λ address. name_at (block address)) word reference
 
 -- an address lies in a region of the collection set
 abbrev pub IsCollected : Config → (cset : ℕ) → ℕ → Type 0
@@ -196,7 +196,7 @@ IsUsable config cset evac block word = (word ≡ 0) ⊎ ((name : Name) × (refs 
 -- A pin word stands for what its slot holds: 0 for nothing, and else it is the object's place, where its current copy is, and may be used.
 abbrev pub PinStands : Config → (cset evac : ℕ) → Plot → ℕ → Option Pinned → Type 0
 PinStands config cset evac block word None = word ≡ 0
-PinStands config cset evac block word (Some p) = (word ≡ p.place) × (refs : ℕ) × (nums : ℕ) × Target config cset evac block word refs nums p.name
+PinStands config cset evac block word (Some pinned) = (word ≡ pinned.place) × (refs : ℕ) × (nums : ℕ) × Target config cset evac block word refs nums pinned.name
 
 -- so do the pin words of all mutators
 abbrev pub ArePinned : Config → (cset evac : ℕ) → Plot → (words : ℕ → ℕ → ℕ) → (pin : ℕ → ℕ → Option Pinned) → Type 0
@@ -212,8 +212,8 @@ pub record IsInUse (config : Config) (top : ℕ → ℕ) (address words : ℕ) :
 -- pieces lie in the parts in use and apart from each other, and no part in use is longer than its region
 pub record IsPlotted (config : Config) (top : ℕ → ℕ) (block : Plot) : Type 0 where
   pub tops : (region : ℕ) → region < config.regions → top region ≤ config.region_words
-  pub in_use : (address : ℕ) (b : Block) → block address ≡ Some b → IsInUse config top address (words_of b)
-  pub apart : (address b : ℕ) (x y : Block) → block address ≡ Some x → block b ≡ Some y → address < b → address + words_of x ≤ b
+  pub in_use : (address : ℕ) (piece : Block) → block address ≡ Some piece → IsInUse config top address (words_of piece)
+  pub apart : (address other_address : ℕ) (piece other_piece : Block) → block address ≡ Some piece → block other_address ≡ Some other_piece → address < other_address → address + words_of piece ≤ other_address
 
 -- pieces fill the parts in use: there is one at the base, and one after each that does not end at the top
 pub record IsFilled (config : Config) (top : ℕ → ℕ) (block : Plot) : Type 0 where
@@ -571,9 +571,9 @@ pub record SharedFacts (config : Config) (top heap : ℕ → ℕ) (block : Plot)
   pub pinned : ArePinned config cset evac block pin_words pin
 
 abbrev pub Shared : Config → World → Type 0
-Shared config world = SharedFacts config (λ r. world.memory (Top r)) (λ a. world.memory (Heap a)) world.block world.ghost world.graph.object world.graph.count (world.memory Phase) (world.memory Cset) (world.memory Evac)
-    (world.memory Free) (λ s. world.memory (Current s)) (λ n. world.memory (Grey n)) (λ n. world.memory (Black n)) (λ t. world.memory (Count t)) (λ t k. world.memory (Buffer t k)) (λ r. world.memory (Tams r))
-    (world.memory Claim) (λ r. world.memory (Limit r)) (world.memory Share) (λ t i. world.memory (Pin t i)) world.graph.pin
+Shared config world = SharedFacts config (λ region. world.memory (Top region)) (λ address. world.memory (Heap address)) world.block world.ghost world.graph.object world.graph.count (world.memory Phase) (world.memory Cset) (world.memory Evac)
+    (world.memory Free) (λ seat. world.memory (Current seat)) (λ number. world.memory (Grey number)) (λ number. world.memory (Black number)) (λ mutator. world.memory (Count mutator)) (λ mutator entry. world.memory (Buffer mutator entry)) (λ region. world.memory (Tams region))
+    (world.memory Claim) (λ region. world.memory (Limit region)) (world.memory Share) (λ mutator slot. world.memory (Pin mutator slot)) world.graph.pin
 
 -- a region of a world may be carved
 abbrev pub IsOpenIn : Config → World → ℕ → Type 0
@@ -589,7 +589,7 @@ UsableIn config world = IsUsable config (world.memory Cset) (world.memory Evac) 
 
 -- what is noted in a world
 abbrev pub NotedIn : Config → World → ℕ → Type 0
-NotedIn config world address = IsNoted config (λ n. world.memory (Grey n)) (λ t. world.memory (Count t)) (λ t k. world.memory (Buffer t k)) world.ghost.recording address
+NotedIn config world address = IsNoted config (λ number. world.memory (Grey number)) (λ mutator. world.memory (Count mutator)) (λ mutator entry. world.memory (Buffer mutator entry)) world.ghost.recording address
 
 -- marking needs a field of the snapshot no more, if an object of it has that field
 abbrev pub IsCovered : Config → World → ℕ → ℕ → Type 0

@@ -28,15 +28,15 @@ module _ (config : Config) (memory : Word → ℕ) where
       (ap (λ b. b || is_last config memory (memory (Current seat))) (eq-eqb (memory (Current seat)) 0 none)))
 
   pub settled_stays : (seat : ℕ) → memory (Current seat) ≢ 0 → is_last config memory (memory (Current seat)) ≡ true → memory ≡ settled_at config memory seat
-  settled_stays seat some last =
+  settled_stays seat positive last =
       sym (cond-true ((memory (Current seat) == 0) || is_last config memory (memory (Current seat))) memory (write (filled_over memory (memory (Current seat))) (Current seat) 0)
-      (ap (λ b. b || is_last config memory (memory (Current seat))) (ne_eqb (memory (Current seat)) 0 some) ∙ last))
+      (ap (λ b. b || is_last config memory (memory (Current seat))) (ne_eqb (memory (Current seat)) 0 positive) ∙ last))
 
   pub settled_gone : (seat : ℕ) → memory (Current seat) ≢ 0 → is_last config memory (memory (Current seat)) ≡ false
       → write (filled_over memory (memory (Current seat))) (Current seat) 0 ≡ settled_at config memory seat
-  settled_gone seat some inner =
+  settled_gone seat positive inner =
       sym (cond-false ((memory (Current seat) == 0) || is_last config memory (memory (Current seat))) memory (write (filled_over memory (memory (Current seat))) (Current seat) 0)
-      (ap (λ b. b || is_last config memory (memory (Current seat))) (ne_eqb (memory (Current seat)) 0 some) ∙ inner))
+      (ap (λ b. b || is_last config memory (memory (Current seat))) (ne_eqb (memory (Current seat)) 0 positive) ∙ inner))
 
   abbrev without : ℕ → Word → ℕ
   without seat = write (if is_last config memory (memory (Current seat)) then given_back config memory (memory (Current seat)) else filled_over memory (memory (Current seat))) (Current seat) 0
@@ -46,32 +46,32 @@ module _ (config : Config) (memory : Word → ℕ) where
 
   pub let_go_back : (seat : ℕ) → memory (Current seat) ≢ 0 → is_last config memory (memory (Current seat)) ≡ true
       → write (given_back config memory (memory (Current seat))) (Current seat) 0 ≡ let_go_at config memory seat
-  let_go_back seat some last =
+  let_go_back seat positive last =
       sym (ap (λ (memory : Word → ℕ). write memory (Current seat) 0) (cond-true (is_last config memory (memory (Current seat))) (given_back config memory (memory (Current seat))) (filled_over memory (memory (Current seat))) last))
-      ∙ sym (cond-false (memory (Current seat) == 0) memory (without seat) (ne_eqb (memory (Current seat)) 0 some))
+      ∙ sym (cond-false (memory (Current seat) == 0) memory (without seat) (ne_eqb (memory (Current seat)) 0 positive))
 
   pub let_go_filled : (seat : ℕ) → memory (Current seat) ≢ 0 → is_last config memory (memory (Current seat)) ≡ false
       → write (filled_over memory (memory (Current seat))) (Current seat) 0 ≡ let_go_at config memory seat
-  let_go_filled seat some inner =
+  let_go_filled seat positive inner =
       sym (ap (λ (memory : Word → ℕ). write memory (Current seat) 0) (cond-false (is_last config memory (memory (Current seat))) (given_back config memory (memory (Current seat))) (filled_over memory (memory (Current seat))) inner))
-      ∙ sym (cond-false (memory (Current seat) == 0) memory (without seat) (ne_eqb (memory (Current seat)) 0 some))
+      ∙ sym (cond-false (memory (Current seat) == 0) memory (without seat) (ne_eqb (memory (Current seat)) 0 positive))
 
   -- All turns: none yet, and one more.
   pub settled_first : memory ≡ settled_below config memory 0
   unfolding settled_below
   settled_first = refl
 
-  pub settled_next : (n : ℕ) → settled_at config (settled_below config memory n) n ≡ settled_below config memory (n + 1)
+  pub settled_next : (seat : ℕ) → settled_at config (settled_below config memory seat) seat ≡ settled_below config memory (seat + 1)
   unfolding settled_below
-  settled_next n = let one : suc n ≡ n + 1 = omega arith in ap (settled_below config memory) one
+  settled_next seat = let one : suc seat ≡ seat + 1 = omega arith in ap (settled_below config memory) one
 
   pub let_go_first : memory ≡ let_go_below config memory 0
   unfolding let_go_below
   let_go_first = refl
 
-  pub let_go_next : (n : ℕ) → let_go_at config (let_go_below config memory n) n ≡ let_go_below config memory (n + 1)
+  pub let_go_next : (seat : ℕ) → let_go_at config (let_go_below config memory seat) seat ≡ let_go_below config memory (seat + 1)
   unfolding let_go_below
-  let_go_next n = let one : suc n ≡ n + 1 = omega arith in ap (let_go_below config memory) one
+  let_go_next seat = let one : suc seat ≡ seat + 1 = omega arith in ap (let_go_below config memory) one
 
   -- who had no turn yet has the buffer of before
   pub settled_later : (n seat : ℕ) → n ≤ seat → settled_below config memory n (Current seat) ≡ memory (Current seat)

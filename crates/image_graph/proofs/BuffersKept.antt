@@ -19,7 +19,7 @@ use Rattle.image_graph.proofs.StandsStill.{IsOfRoots}
 use Rattle.image_graph.proofs.SeatTurns.{KeepsFilling, KeepsTurns, settled_by_turns, trimmed_by_turns, let_go_by_turns}
 use Rattle.image_graph.proofs.Trimmed.{trim}
 use Rattle.image_graph.proofs.Emptied.{rebuffered}
-use Rattle.image_graph.proofs.Filled.{filled_stands}
+use Rattle.image_graph.proofs.BufferFilled.{filled_stands}
 use Rattle.image_graph.proofs.GivenBack.{back_stands}
 
 module _ (Asks : (Word → ℕ) → Plot → Type 0) (of_roots : IsOfRoots Asks) (config : Config) (graph : Graph) (asking : ℕ → Asking) where
@@ -36,7 +36,7 @@ module _ (Asks : (Word → ℕ) → Plot → Type 0) (of_roots : IsOfRoots Asks)
 
     -- its free words are a piece
     free_piece : next_in word < end_in word → r.block (next_in word) ≡ Some (spare seat (end_in word - next_in word))
-    free_piece more = ⊎_elim (λ there. there) (λ has. absurd (r.uncarved has.0 seat has.1 has.2)) (its.free more)
+    free_piece below = ⊎_elim (λ there. there) (λ has. absurd (r.uncarved has.0 seat has.1 has.2)) (its.free below)
 
   keeps_filling : KeepsFilling config Stand
   keeps_filling = record {

@@ -18,8 +18,8 @@ use Rattle.image_graph.specs.Promised.{Promises, with_promised}
 use Rattle.image_graph.specs.Image.{AnswerStands, PinWordStands, RootsStand}
 use Rattle.image_graph.specs.Serving.{asked_shape, AreAsking}
 use Rattle.image_graph.proofs.Reached.{refs_read}
-use Rattle.image_graph.proofs.Roots as roots
-use Rattle.image_graph.proofs.Roots.{has_either, root_in, answer_in, pin_in, pin_some, pin_copy, pin_stays, root_among, answer_among, pin_among, answer_names}
+use Rattle.image_graph.proofs.HeldRoots as roots
+use Rattle.image_graph.proofs.HeldRoots.{has_either, root_in, answer_in, pin_in, pin_some, pin_copy, pin_stays, root_among, answer_among, pin_among, answer_names}
 use Rattle.image_graph.specs.Holds.{HasMoved, HoldsBy}
 
 -- the current copy goes by the header
@@ -37,7 +37,7 @@ not_renamed memory v w same = record { small = λ low. same; either = inl same }
 -- An object at an address comes from one at its origin, has that one's words, and fields that name the same; and so do roots and
 -- answers. Of two addresses with one origin one at most is a current copy. Pin words stay, and what they hold does not move.
 pub record IsCarried (config : Config) (memory other_memory : Word → ℕ) (block plot : Plot) (origin : ℕ → ℕ) (Lands : ℕ → Type 0) : Type 0 where
-  pub plotted : IsPlotted config (λ r. other_memory (Top r)) plot
+  pub plotted : IsPlotted config (λ region. other_memory (Top region)) plot
   pub names : (address : ℕ) (name : Name) → name_at (block address) ≡ Some name → name_at (plot address) ≡ Some name
   pub current : (address : ℕ) (name : Name) → name_at (plot address) ≡ Some name → IsCopy plot (now_in other_memory address) name
   pub now : (address : ℕ) (name : Name) → name_at (block address) ≡ Some name → origin (now_in other_memory address) ≡ now_in memory address
@@ -89,10 +89,10 @@ module _ (config : Config) (memory other_memory : Word → ℕ) (block plot : Pl
   -- what a word names it names once it is renamed
   renamed_names : (address other_address : ℕ) (name : Name) → IsRenamed memory address other_address → name_at (block address) ≡ Some name → (name_at (block other_address) ≡ Some name) × (now_in memory other_address ≡ now_in memory address)
   renamed_names address other_address name renamed named = ⊎_elim
-      (λ (same : other_address ≡ address). (ap (λ k. name_at (block k)) same ∙ named, ap (now_in memory) same))
+      (λ (same : other_address ≡ address). (ap (λ address. name_at (block address)) same ∙ named, ap (now_in memory) same))
       (λ (now : other_address ≡ now_in memory address).
       let copy = holds.objects.current address name named in
-      (ap (λ k. name_at (block k)) now ∙ ap name_at copy.2, ap (now_in memory) now ∙ now_own address name named))
+      (ap (λ address. name_at (block address)) now ∙ ap name_at copy.2, ap (now_in memory) now ∙ now_own address name named))
       renamed.either
 
   points_again : (address other_address : ℕ) (reference : Reference) → IsRenamed memory address other_address → Points block address reference → Points plot other_address reference
@@ -100,7 +100,7 @@ module _ (config : Config) (memory other_memory : Word → ℕ) (block plot : Pl
   points_again address other_address (Some name) renamed points = is.names other_address name (renamed_names address other_address name renamed points).0
 
   not_null : (v w : ℕ) → IsRenamed memory v w → w ≢ 0 → v ≢ 0
-  not_null v w renamed some none = some (renamed.small (omega (arith, none)) ∙ none)
+  not_null v w renamed positive none = positive (renamed.small (omega (arith, none)) ∙ none)
 
   -- an object that is led to, and that comes from one that was
   pub record ComesFrom (address : ℕ) : Type 0 where
@@ -111,69 +111,69 @@ module _ (config : Config) (memory other_memory : Word → ℕ) (block plot : Pl
     pub there : Lands address
     pub led : IsLedWas (origin address)
 
-  comes : (address w : ℕ) (name : Name) → IsRenamed memory address w → name_at (block address) ≡ Some name → IsLedWas (now_in memory address) → ComesFrom (now_in other_memory w)
-  comes address w name renamed named led =
-      let to = renamed_names address w name renamed named in
-      let copy = is.current w name (is.names w name to.0) in
+  comes : (address other_address : ℕ) (name : Name) → IsRenamed memory address other_address → name_at (block address) ≡ Some name → IsLedWas (now_in memory address) → ComesFrom (now_in other_memory other_address)
+  comes address other_address name renamed named led =
+      let to = renamed_names address other_address name renamed named in
+      let copy = is.current other_address name (is.names other_address name to.0) in
       record {
         name = name;
         refs = copy.0;
         nums = copy.1;
         here = copy.2;
-        there = is.lands w name to.0;
-        led = subst IsLedWas (sym (is.now w name to.0 ∙ to.1)) led;
+        there = is.lands other_address name to.0;
+        led = subst IsLedWas (sym (is.now other_address name to.0 ∙ to.1)) led;
       }
 
   root_comes : (mutator index : ℕ) → mutator < config.mutators → index < 16 → other_memory (Root mutator index) ≢ 0 → ComesFrom (now_in other_memory (other_memory (Root mutator index)))
-  root_comes mutator index inside few some =
-      let renamed = is.roots mutator index inside few in
-      let other = not_null (memory (Root mutator index)) (other_memory (Root mutator index)) renamed some in
-      let to = named_if_not_0 config top block holds.objects.plotted (memory (Root mutator index)) (graph.root (mutator + 1) index) (holds.rooted.roots mutator index inside few) other in
+  root_comes mutator index inside below positive =
+      let renamed = is.roots mutator index inside below in
+      let other = not_null (memory (Root mutator index)) (other_memory (Root mutator index)) renamed positive in
+      let to = named_if_not_0 config top block holds.objects.plotted (memory (Root mutator index)) (graph.root (mutator + 1) index) (holds.rooted.roots mutator index inside below) other in
       comes (memory (Root mutator index)) (other_memory (Root mutator index)) to.0 renamed to.2
-      (from_root (memory (Root mutator index)) (root_among config top memory block graph promises holds.objects.plotted holds.rooted mutator index inside few) other)
+      (from_root (memory (Root mutator index)) (root_among config top memory block graph promises holds.objects.plotted holds.rooted mutator index inside below) other)
 
   answer_comes : (mutator : ℕ) → mutator < config.mutators → 1 < other_memory (Answer mutator) → ComesFrom (now_in other_memory (other_memory (Answer mutator)))
-  answer_comes mutator inside some = ⊎_elim
+  answer_comes mutator inside below = ⊎_elim
       (λ (big : 1 < memory (Answer mutator)).
       let renamed = is.answers mutator inside in
       let to = answer_names config top memory block graph promises holds.objects.plotted holds.rooted (memory (Answer mutator)) (promises.ref (mutator + 1)) big (holds.rooted.answers mutator inside) in
       comes (memory (Answer mutator)) (other_memory (Answer mutator)) to.0 renamed to.2
       (from_root (memory (Answer mutator)) (answer_among config top memory block graph promises holds.objects.plotted holds.rooted mutator inside big) (λ none. omega (arith, none, big))))
-      (λ (low : memory (Answer mutator) ≤ 1). absurd (let same = (is.answers mutator inside).small low in omega (arith, same, low, some)))
+      (λ (low : memory (Answer mutator) ≤ 1). absurd (let same = (is.answers mutator inside).small low in omega (arith, same, low, below)))
       (cases_lt 1 (memory (Answer mutator)))
 
   -- what a pin slot holds has a name
   pin_named : (mutator index : ℕ) → mutator < config.mutators → index < 4 → memory (Pin mutator index) ≢ 0 → (name : Name) × (name_at (block (memory (Pin mutator index))) ≡ Some name)
-  pin_named mutator index inside few some =
-      let stands = holds.rooted.pins mutator index inside few in
-      let held = pin_some memory block (memory (Pin mutator index)) (graph.pin (mutator + 1) index) stands some in
+  pin_named mutator index inside below positive =
+      let stands = holds.rooted.pins mutator index inside below in
+      let held = pin_some memory block (memory (Pin mutator index)) (graph.pin (mutator + 1) index) stands positive in
       let copy = (pin_copy memory block (memory (Pin mutator index)) (graph.pin (mutator + 1) index) held.0 stands held.1).1 in
       (held.0.name, ap name_at copy.2)
 
   pin_comes : (mutator index : ℕ) → mutator < config.mutators → index < 4 → other_memory (Pin mutator index) ≢ 0 → ComesFrom (now_in other_memory (other_memory (Pin mutator index)))
-  pin_comes mutator index inside few some =
-      let same = is.pins mutator index inside few in
-      let other : memory (Pin mutator index) ≢ 0 = λ none. some (same ∙ none) in
-      let to = pin_named mutator index inside few other in
+  pin_comes mutator index inside below positive =
+      let same = is.pins mutator index inside below in
+      let other : memory (Pin mutator index) ≢ 0 = λ none. positive (same ∙ none) in
+      let to = pin_named mutator index inside below other in
       comes (memory (Pin mutator index)) (other_memory (Pin mutator index)) to.0 (not_renamed memory (memory (Pin mutator index)) (other_memory (Pin mutator index)) same) to.1
-      (from_root (memory (Pin mutator index)) (pin_among config top memory block graph promises holds.objects.plotted holds.rooted mutator index inside few) other)
+      (from_root (memory (Pin mutator index)) (pin_among config top memory block graph promises holds.objects.plotted holds.rooted mutator index inside below) other)
 
   named_comes : (w : ℕ) → IsAmong (root_words config other_memory) w → w ≢ 0 → ComesFrom (now_in other_memory w)
-  named_comes w among some = ⊎_elim
+  named_comes w among positive = ⊎_elim
       (λ (root : has (roots_below other_memory config.mutators) w ≡ true).
       let at = root_in other_memory config.mutators w root in
-      subst (λ k. ComesFrom (now_in other_memory k)) at.4 (root_comes at.0 at.1 at.2 at.3 (λ none. some (sym at.4 ∙ none))))
+      subst (λ k. ComesFrom (now_in other_memory k)) at.4 (root_comes at.0 at.1 at.2 at.3 (λ none. positive (sym at.4 ∙ none))))
       (λ (answer : has (answers_below other_memory config.mutators) w ≡ true).
       let at = answer_in other_memory config.mutators w answer in
       subst (λ k. ComesFrom (now_in other_memory k)) at.3 (answer_comes at.0 at.1 at.2))
       (has_either (roots_below other_memory config.mutators) (answers_below other_memory config.mutators) w among)
 
   word_comes : (w : ℕ) → IsAmong (held_words config other_memory) w → w ≢ 0 → ComesFrom (now_in other_memory w)
-  word_comes w among some = ⊎_elim
-      (λ (named : has (root_words config other_memory) w ≡ true). named_comes w named some)
+  word_comes w among positive = ⊎_elim
+      (λ (named : has (root_words config other_memory) w ≡ true). named_comes w named positive)
       (λ (pin : has (pins_below other_memory config.mutators) w ≡ true).
       let at = pin_in other_memory config.mutators w pin in
-      subst (λ k. ComesFrom (now_in other_memory k)) at.4 (pin_comes at.0 at.1 at.2 at.3 (λ none. some (sym at.4 ∙ none))))
+      subst (λ k. ComesFrom (now_in other_memory k)) at.4 (pin_comes at.0 at.1 at.2 at.3 (λ none. positive (sym at.4 ∙ none))))
       (has_either (root_words config other_memory) (pins_below other_memory config.mutators) w among)
 
   -- how many references an object has
@@ -182,24 +182,24 @@ module _ (config : Config) (memory other_memory : Word → ℕ) (block plot : Pl
       let object = holds.objects.each (origin address) refs nums name led (is.pieces address refs nums name here) in
       ap refs_in object.2.shape ∙ refs_read refs nums object.2.few_refs object.2.few_nums
 
-  field_comes : (x i : ℕ) → ComesFrom x → i < refs_in (after (x + 1)) → after (x + 3 + i) ≢ 0 → ComesFrom (now_in other_memory (after (x + 3 + i)))
-  field_comes x i from few some =
-      let object = holds.objects.each (origin x) from.refs from.nums from.name from.led (is.pieces x from.refs from.nums from.name from.here) in
-      let refs_are : refs_in (heap (origin x + 1)) ≡ from.refs = reads x from.refs from.nums from.name from.led from.here in
-      let shape : after (x + 1) ≡ heap (origin x + 1) = is.words x 1 from.refs from.nums from.name from.here from.there refs_are (omega arith) (omega arith) (inl (omega arith)) in
+  field_comes : (address i : ℕ) → ComesFrom address → i < refs_in (after (address + 1)) → after (address + 3 + i) ≢ 0 → ComesFrom (now_in other_memory (after (address + 3 + i)))
+  field_comes address i from few positive =
+      let object = holds.objects.each (origin address) from.refs from.nums from.name from.led (is.pieces address from.refs from.nums from.name from.here) in
+      let refs_are : refs_in (heap (origin address + 1)) ≡ from.refs = reads address from.refs from.nums from.name from.led from.here in
+      let shape : after (address + 1) ≡ heap (origin address + 1) = is.words address 1 from.refs from.nums from.name from.here from.there refs_are (omega arith) (omega arith) (inl (omega arith)) in
       let below : i < from.refs = subst (λ k. i < k) (ap refs_in shape ∙ refs_are) few in
-      let renamed = is.fields x i from.refs from.nums from.name from.here from.there below in
-      let other = not_null (heap (origin x + 3 + i)) (after (x + 3 + i)) renamed some in
+      let renamed = is.fields address i from.refs from.nums from.name from.here from.there below in
+      let other = not_null (heap (origin address + 3 + i)) (after (address + 3 + i)) renamed positive in
       let reference : Reference = get_or object.0.refs i None in
       let at : slice_get object.0.refs i ≡ Some reference = slice_get-get_or object.0.refs i None (let long = object.2.refs_are in omega (arith, below, long)) in
-      let to = named_if_not_0 config top block holds.objects.plotted (heap (origin x + 3 + i)) reference (object.2.references i reference at) other in
-      comes (heap (origin x + 3 + i)) (after (x + 3 + i)) to.0 renamed to.2 (from_field (origin x) i from.led (omega (arith, below, refs_are)) other)
+      let to = named_if_not_0 config top block holds.objects.plotted (heap (origin address + 3 + i)) reference (object.2.references i reference at) other in
+      comes (heap (origin address + 3 + i)) (after (address + 3 + i)) to.0 renamed to.2 (from_field (origin address) i from.led (omega (arith, below, refs_are)) other)
 
   pub led_comes : (x : ℕ) → IsLedNow x → ComesFrom x
-  led_comes _ (from_root w among some) = word_comes w among some
-  led_comes _ (from_field x i led few some) = field_comes x i (led_comes x led) few some
+  led_comes _ (from_root word among some) = word_comes word among some
+  led_comes _ (from_field address i led few some) = field_comes address i (led_comes address led) few some
 
-  object_again : (address refs nums : ℕ) (name : Name) → ComesFrom address → plot address ≡ Some (thing name refs nums) → (o : Object) × (more.object name ≡ Some o) × IsThing after plot address refs nums name o
+  object_again : (address refs nums : ℕ) (name : Name) → ComesFrom address → plot address ≡ Some (thing name refs nums) → (object : Object) × (more.object name ≡ Some object) × IsThing after plot address refs nums name object
   object_again address refs nums name from here =
       let object = holds.objects.each (origin address) refs nums name from.led (is.pieces address refs nums name here) in
       let was = object.2 in
@@ -241,18 +241,18 @@ module _ (config : Config) (memory other_memory : Word → ℕ) (block plot : Pl
       (holds.rooted.answers mutator inside)
 
   pin_again : (mutator index : ℕ) → mutator < config.mutators → index < 4 → PinWordStands other_memory plot (other_memory (Pin mutator index)) (graph.pin (mutator + 1) index)
-  pin_again mutator index inside few =
+  pin_again mutator index inside below =
       let w = memory (Pin mutator index) in
       let stay : (name : Name) → IsCopy block w name → is_forwarded (heap w) ≡ false → IsCopy plot w name × (is_forwarded (after w) ≡ false) = λ name was still.
-      let plain = is.pinned mutator index inside few name was still in
+      let plain = is.pinned mutator index inside below name was still in
       let own : now_in other_memory w ≡ w = cond-false (is_forwarded (after w)) (forwardee_in (after w)) w plain in
       (subst (λ k. IsCopy plot k name) own (is.current w name (is.names w name (ap name_at was.2))), plain) in
-      subst (λ k. PinWordStands other_memory plot k (graph.pin (mutator + 1) index)) (sym (is.pins mutator index inside few))
-      (pin_stays memory other_memory block plot w (graph.pin (mutator + 1) index) stay (holds.rooted.pins mutator index inside few))
+      subst (λ k. PinWordStands other_memory plot k (graph.pin (mutator + 1) index)) (sym (is.pins mutator index inside below))
+      (pin_stays memory other_memory block plot w (graph.pin (mutator + 1) index) stay (holds.rooted.pins mutator index inside below))
 
   pub rooted_again : RootsStand config other_memory plot graph promises
   rooted_again = record {
-    roots = λ t i inside few. points_again (memory (Root t i)) (other_memory (Root t i)) (graph.root (t + 1) i) (is.roots t i inside few) (holds.rooted.roots t i inside few);
+    roots = λ mutator index inside few. points_again (memory (Root mutator index)) (other_memory (Root mutator index)) (graph.root (mutator + 1) index) (is.roots mutator index inside few) (holds.rooted.roots mutator index inside few);
     answers = answer_again;
     no_more_roots = holds.rooted.no_more_roots;
     pins = pin_again;
@@ -260,18 +260,18 @@ module _ (config : Config) (memory other_memory : Word → ℕ) (block plot : Pl
     no_more_promised = holds.rooted.no_more_promised;
   }
 
-  pub objects_again : HoldsGraph config (λ r. other_memory (Top r)) after plot (now_in other_memory) (IsAmong (held_words config other_memory)) more
+  pub objects_again : HoldsGraph config (λ region. other_memory (Top region)) after plot (now_in other_memory) (IsAmong (held_words config other_memory)) more
   objects_again = record {
     plotted = is.plotted;
     current = is.current;
-    each = λ x refs nums name led here. object_again x refs nums name (led_comes x led) here;
+    each = λ address refs nums name led here. object_again address refs nums name (led_comes address led) here;
     once = λ x y refs nums more_refs more_nums name led_x led_y here_x here_y.
         let from_x = led_comes x led_x in
         let from_y = led_comes y led_y in
         is.one x y from_x.there from_y.there
         (holds.objects.once (origin x) (origin y) refs nums more_refs more_nums name from_x.led from_y.led (is.pieces x refs nums name here_x) (is.pieces y more_refs more_nums name here_y));
-    root_named = roots.root_named config (λ r. other_memory (Top r)) other_memory plot graph promises is.plotted rooted_again;
-    root_held = roots.root_held config (λ r. other_memory (Top r)) other_memory plot graph promises is.plotted rooted_again;
+    root_named = roots.root_named config (λ region. other_memory (Top region)) other_memory plot graph promises is.plotted rooted_again;
+    root_held = roots.root_held config (λ region. other_memory (Top region)) other_memory plot graph promises is.plotted rooted_again;
     pinless = holds.objects.pinless;
   }
 
@@ -290,8 +290,8 @@ module _ (config : Config) (memory other_memory : Word → ℕ) (block plot : Pl
 
   -- so the words hold the graph, where the regions are as they should be
   pub carried_holds : ((address refs nums : ℕ) (name : Name) → plot address ≡ Some (thing name refs nums) → is_forwarded (after address) ≡ true → HasMoved config other_memory plot address refs nums name)
-      → IsFilled config (λ r. other_memory (Top r)) plot → NamedAreThings plot → IsFreeWord config (other_memory Free) (λ r. other_memory (Top r)) owner → ShareIsOpen config (other_memory Share) (other_memory Free) (other_memory Cset) owner
-      → AreBuffers config (λ r. other_memory (Top r)) (λ s. other_memory (Current s)) plot
+      → IsFilled config (λ region. other_memory (Top region)) plot → NamedAreThings plot → IsFreeWord config (other_memory Free) (λ region. other_memory (Top region)) owner → ShareIsOpen config (other_memory Share) (other_memory Free) (other_memory Cset) owner
+      → AreBuffers config (λ region. other_memory (Top region)) (λ seat. other_memory (Current seat)) plot
       → HoldsBy config other_memory plot owner promises graph
   carried_holds moved filled pieces free_word shared_one buffers = record {
     objects = objects_again;

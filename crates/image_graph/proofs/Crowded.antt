@@ -22,15 +22,15 @@ use Rattle.image_graph.specs.Plot.{heap_end}
 use Rattle.image_graph.specs.Full.{now_in, held_words, kept_in, packed, asked_in, full_from}
 use Rattle.image_graph.specs.Promised.{Promises, with_promised, AreFresh, promised_words}
 use Rattle.image_graph.specs.Image.{RootsStand}
-use Rattle.image_graph.specs.Served.{tops_at_turn, given_in}
+use Rattle.image_graph.specs.RequestsServed.{tops_at_turn, given_in}
 use Rattle.image_graph.proofs.Reached.{can_pack, none_at_0}
 use Rattle.image_graph.proofs.Rows.{row_is}
 use Rattle.image_graph.proofs.PinnedRows.{word_pinned, has_slot}
-use Rattle.image_graph.proofs.Roots.{pin_copy, pin_some, pin_among}
+use Rattle.image_graph.proofs.HeldRoots.{pin_copy, pin_some, pin_among}
 use Rattle.image_graph.proofs.ImagesHold.{open_tops_sum}
 use Rattle.image_graph.proofs.Walked.{walk_keeps}
 use Rattle.image_graph.proofs.Fewer.{ArePinnedThere, open_kept_are_fewer}
-use Rattle.image_graph.proofs.Served.{requests_are_answered}
+use Rattle.image_graph.proofs.TurnWords.{requests_are_answered}
 
 -- so many ones
 ones : (n : ℕ) → sum_below (λ k. 1) n ≡ n
@@ -61,16 +61,16 @@ module _ (config : Config) (memory : Word → ℕ) (block : Plot) (graph : Graph
   pub pinned_there : ArePinnedThere config.region_words shut block kept graph
   pinned_there t i pinned is =
       let at = rooted.no_more_pins t i pinned is in
-      let same : graph.pin (at.0 + 1) i ≡ Some pinned = ap (λ u. graph.pin u i) (sym at.2) ∙ is in
+      let same : graph.pin (at.0 + 1) i ≡ Some pinned = ap (λ thread. graph.pin thread i) (sym at.2) ∙ is in
       let word = memory (Pin at.0 i) in
       let copy = pin_copy memory block word (graph.pin (at.0 + 1) i) pinned (rooted.pins at.0 i at.1 at.3) same in
       let piece = copy.1 in
-      let lies = piece_inside config (λ r. memory (Top r)) block holds.plotted word (thing pinned.name piece.0 piece.1) piece.2 in
-      let other = none_at_0 config (λ r. memory (Top r)) block holds.plotted word pinned.name (ap name_at piece.2) in
+      let lies = piece_inside config (λ region. memory (Top region)) block holds.plotted word (thing pinned.name piece.0 piece.1) piece.2 in
+      let other = none_at_0 config (λ region. memory (Top region)) block holds.plotted word pinned.name (ap name_at piece.2) in
       let closed = word_pinned config memory at.0 i at.1 at.3 lies.0 (omega (arith, lies.1)) in
       let own : now_in memory word ≡ word = cond-false (is_forwarded (memory (Heap word))) (forwardee_in (memory (Heap word))) word copy.2 in
       let led = (walk_keeps config memory block (with_promised graph promises) holds).words (now_in memory word)
-      (from_root word (pin_among config (λ r. memory (Top r)) memory block graph promises holds.plotted rooted at.0 i at.1 at.3) other) in
+      (from_root word (pin_among config (λ region. memory (Top region)) memory block graph promises holds.plotted rooted at.0 i at.1 at.3) other) in
       let size : kept (now_in memory word) ≡ kept word = ap kept own in
       let some : 0 < kept word = omega (arith, led, size) in
       (subst (λ a. 0 < kept a) copy.0 some, ap (λ a. shut (a / config.region_words)) (sym copy.0) ∙ closed, subst (λ a. IsCopy block a pinned.name) copy.0 piece)
@@ -96,9 +96,9 @@ module _ (config : Config) (memory : Word → ℕ) (block : Plot) (graph : Graph
     one r = cond (shut (r + 1)) 1 0
 
     shut_if : (r : ℕ) → 0 < one r → shut (r + 1) ≡ true
-    shut_if r some = ⊎_elim
+    shut_if r positive = ⊎_elim
         (λ (closed : shut (r + 1) ≡ true). closed)
-        (λ (opened : shut (r + 1) ≡ false). absurd (let none = cond-false {A = ℕ} (shut (r + 1)) 1 0 opened in omega (arith, none, some)))
+        (λ (opened : shut (r + 1) ≡ false). absurd (let none = cond-false {A = ℕ} (shut (r + 1)) 1 0 opened in omega (arith, none, positive)))
         (cases_Bool (shut (r + 1)))
 
     one_at_most : (r : ℕ) → one r ≤ 1
@@ -108,11 +108,11 @@ module _ (config : Config) (memory : Word → ℕ) (block : Plot) (graph : Graph
     pub few_are_shut : sum_below one config.regions ≤ length rows
     few_are_shut =
         let less = sum_of_things one (λ k. 1) config.regions (length rows)
-        (λ r below some. let at = row_listed r below (shut_if r some) in (at.0, at.1, one_at_most r))
+        (λ region below some. let at = row_listed region below (shut_if region some) in (at.0, at.1, one_at_most region))
         (λ r q less_r some_r less_q some_q same.
         let at = row_listed r less_r (shut_if r some_r) in
         let bt = row_listed q less_q (shut_if q some_q) in
-        let rows_same : get_or rows at.0 0 ≡ get_or rows bt.0 0 = ap (λ k. get_or rows k 0) same in
+        let rows_same : get_or rows at.0 0 ≡ get_or rows bt.0 0 = ap (λ index. get_or rows index 0) same in
         omega (arith, rows_same, at.2, bt.2))
         in
         omega (arith, less, ones (length rows))
@@ -126,7 +126,7 @@ unfolding packed
 same_asked config memory shut now kept mutator = (refl, refl)
 
 pub full_is_crowded : (config : Config) (memory : Word → ℕ) (block : Plot) (graph : Graph) (promises : Promises) (names : List Name) (held pinned : ℕ)
-    → HoldsGraph config (λ r. memory (Top r)) (λ a. memory (Heap a)) block (now_in memory) (IsAmong (held_words config memory)) (with_promised graph promises)
+    → HoldsGraph config (λ region. memory (Top region)) (λ address. memory (Heap address)) block (now_in memory) (IsAmong (held_words config memory)) (with_promised graph promises)
     → RootsStand config memory block graph promises → AreFresh config.mutators graph promises → IsReach graph names → Held graph held → PinnedRegions config.region_words graph pinned
     → (mutator : ℕ) → mutator < config.mutators → memory (Wait mutator) ≢ 0 → asked_in memory mutator ≤ config.region_words → full_from config memory (Answer mutator) ≡ 1
     → (config.regions - pinned) * (config.region_words - asked_in memory mutator + 1)
@@ -139,9 +139,9 @@ full_is_crowded config memory block graph promises names held pinned holds roote
     let after : Word → ℕ = packed config shut now kept memory in
     let open_one : ℕ → Bool = λ r. not (shut (r + 1)) in
     let are = walk_keeps config memory block (with_promised graph promises) holds in
-    let can = can_pack config (λ r. memory (Top r)) (λ a. memory (Heap a)) block now (IsAmong (held_words config memory)) (with_promised graph promises) holds kept are in
+    let can = can_pack config (λ region. memory (Top region)) (λ address. memory (Heap address)) block now (IsAmong (held_words config memory)) (with_promised graph promises) holds kept are in
     let sum = open_tops_sum config memory block (with_promised graph promises).object shut now kept can in
-    let live = open_kept_are_fewer config shut (λ r. memory (Top r)) (λ a. memory (Heap a)) block now kept (IsAmong (held_words config memory)) graph promises names held holds are fresh reach is_held
+    let live = open_kept_are_fewer config shut (λ region. memory (Top region)) (λ address. memory (Heap address)) block now kept (IsAmong (held_words config memory)) graph promises names held holds are fresh reach is_held
     (pinned_there config memory block graph promises holds rooted) (heap_end config) in
     let same = same_asked config memory shut now kept mutator in
     let answered = (requests_are_answered config after).answered mutator inside (λ is_zero. waits (sym same.0 ∙ is_zero)) in

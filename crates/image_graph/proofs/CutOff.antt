@@ -5,18 +5,18 @@ use Rattle.std.proofs.lemmas.Option.{none-some}
 use Rattle.heap_words.specs.declared.config.Config.{Config}
 use Rattle.regions.specs.Place.{base_of}
 use Rattle.heap_world.specs.World.{Block, Plot, words_of, IsPlotted, IsFilled}
-use Rattle.heap_world.proofs.Updates.{updated, updated_same, updated_there, updated_else}
+use Rattle.heap_world.proofs.FunctionUpdates.{updated, updated_same, updated_there, updated_else}
 use Rattle.heap_world.proofs.Pieces.{behind}
 
 -- A piece ends at the top of a region, and pieces have a word at least.
-pub record CanCutOff (config : Config) (top : ℕ → ℕ) (block : Plot) (region at : ℕ) (piece : Block) : Type 0 where
+pub record CanCutOff (config : Config) (top : ℕ → ℕ) (block : Plot) (region other_address : ℕ) (piece : Block) : Type 0 where
   pub plotted : IsPlotted config top block
   pub filled : IsFilled config top block
   pub long : (address : ℕ) (other_piece : Block) → block address ≡ Some other_piece → 1 ≤ words_of other_piece
   pub within : region < config.regions
-  pub from_base : base_of config region ≤ at
-  pub here : block at ≡ Some piece
-  pub at_top : at + words_of piece ≡ base_of config region + top region
+  pub from_base : base_of config region ≤ other_address
+  pub here : block other_address ≡ Some piece
+  pub at_top : other_address + words_of piece ≡ base_of config region + top region
 
 module _ (config : Config) (top : ℕ → ℕ) (block : Plot) (region at : ℕ) (piece : Block) (can : CanCutOff config top block region at piece) where
   -- the tops then
@@ -96,14 +96,14 @@ module _ (config : Config) (top : ℕ → ℕ) (block : Plot) (region at : ℕ) 
 
   -- the piece is in no other region
   other_region : (r a : ℕ) → r ≢ region → base_of config r ≤ a → a < base_of config r + config.region_words → a ≢ at
-  other_region r a other from before same =
+  other_region r a other at_most before same =
       let at_from = can.from_base in
       let end = can.at_top in
       let most = can.plotted.tops region can.within in
       let some = can.long at piece can.here in
       ⊎_elim
       (λ (less : r < region). let far = behind config r region less in omega (arith, far, before, same, at_from))
-      (λ (least : region ≤ r). let far = behind config region r (omega (arith, least, other)) in omega (arith, far, from, same, end, most, some))
+      (λ (least : region ≤ r). let far = behind config region r (omega (arith, least, other)) in omega (arith, far, at_most, same, end, most, some))
       (cases_lt r region)
 
   -- they fill the parts in use

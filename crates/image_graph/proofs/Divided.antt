@@ -37,14 +37,14 @@ module _ (config : Config) (memory : Word → ℕ) (region : ℕ) where
   edge_is : (n : ℕ) → IsEdge config memory region (edge_below config memory region n)
   unfolding edge_below
   edge_is zero = IsEdge.is_top refl
-  edge_is (suc n) = lesser_is n (edge_below config memory region n) (edge_is n)
+  edge_is (suc seat) = lesser_is seat (edge_below config memory region seat) (edge_is seat)
 
 -- what it is to be the last one in a region
-last_parts : (config : Config) (memory : Word → ℕ) (r seat : ℕ) → is_last_in config memory r seat ≡ true → (memory (Current seat) ≢ 0) × (buffer_region config (memory (Current seat)) ≡ r) × (is_last config memory (memory (Current seat)) ≡ true)
-last_parts config memory r seat is =
-    let both = and_parts (not (memory (Current seat) == 0) && (buffer_region config (memory (Current seat)) == r)) (is_last config memory (memory (Current seat))) is in
-    let first = and_parts (not (memory (Current seat) == 0)) (buffer_region config (memory (Current seat)) == r) both.0 in
-    (eqb-false (memory (Current seat)) 0 (not-true (memory (Current seat) == 0) first.0), eqb-true (buffer_region config (memory (Current seat))) r first.1, both.1)
+last_parts : (config : Config) (memory : Word → ℕ) (region seat : ℕ) → is_last_in config memory region seat ≡ true → (memory (Current seat) ≢ 0) × (buffer_region config (memory (Current seat)) ≡ region) × (is_last config memory (memory (Current seat)) ≡ true)
+last_parts config memory region seat is =
+    let both = and_parts (not (memory (Current seat) == 0) && (buffer_region config (memory (Current seat)) == region)) (is_last config memory (memory (Current seat))) is in
+    let first = and_parts (not (memory (Current seat) == 0)) (buffer_region config (memory (Current seat)) == region) both.0 in
+    (eqb-false (memory (Current seat)) 0 (not-true (memory (Current seat) == 0) first.0), eqb-true (buffer_region config (memory (Current seat))) region first.1, both.1)
 
 module _ (config : Config) (memory : Word → ℕ) (block : Plot) (plotted : IsPlotted config (λ r. memory (Top r)) block) (long_enough : (a : ℕ) (x : Block) → block a ≡ Some x → 1 ≤ words_of x)
     (buffers : AreBuffers config (λ r. memory (Top r)) (λ s. memory (Current s)) block) (uncarved : (a seat words : ℕ) → block a ≡ Some (carved seat words) → ⊥) where
@@ -52,8 +52,8 @@ module _ (config : Config) (memory : Word → ℕ) (block : Plot) (plotted : IsP
   tops region = memory (Top region)
 
   -- the region of a buffer
-  region_is : (seat : ℕ) (b : IsBuffer config tops block seat (memory (Current seat))) → buffer_region config (memory (Current seat)) ≡ b.region
-  region_is seat b = buffer_region_is config tops block seat (memory (Current seat)) b (plotted.tops b.region b.within)
+  region_is : (seat : ℕ) (buffer : IsBuffer config tops block seat (memory (Current seat))) → buffer_region config (memory (Current seat)) ≡ buffer.region
+  region_is seat buffer = buffer_region_is config tops block seat (memory (Current seat)) buffer (plotted.tops buffer.region buffer.within)
 
   -- a piece lies in its region, below the top
   piece_place : (address : ℕ) (piece : Block) → block address ≡ Some piece → (base_of config (region_with config address) ≤ address) × (address + words_of piece ≤ base_of config (region_with config address) + tops (region_with config address))

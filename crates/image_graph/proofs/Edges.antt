@@ -33,11 +33,11 @@ module _ (config : Config) (memory : Word → ℕ) (region : ℕ) where
   below_free : (n seat : ℕ) → seat < n → is_last_in config memory region seat ≡ true → edge_below config memory region n ≤ free_at seat
   unfolding edge_below
   below_free zero seat below last = absurd (omega (arith, below))
-  below_free (suc n) seat below last = ⊎_elim
-      (λ (same : seat ≡ n). subst (λ k. (if is_last_in config memory region n && nat_lt (free_at n) (edge_below config memory region n) then free_at n else edge_below config memory region n) ≤ free_at k) (sym same)
-      ((lesser (is_last_in config memory region n) (free_at n) (edge_below config memory region n)).1 (subst (λ k. is_last_in config memory region k ≡ true) same last)))
-      (λ (other : seat ≢ n). (let one = (lesser (is_last_in config memory region n) (free_at n) (edge_below config memory region n)).0 in let rest = below_free n seat (omega (arith, below, other)) last in omega (arith, one, rest)))
-      (cases_eq seat n)
+  below_free (suc other_seat) seat below last = ⊎_elim
+      (λ (same : seat ≡ other_seat). subst (λ k. (if is_last_in config memory region other_seat && nat_lt (free_at other_seat) (edge_below config memory region other_seat) then free_at other_seat else edge_below config memory region other_seat) ≤ free_at k) (sym same)
+      ((lesser (is_last_in config memory region other_seat) (free_at other_seat) (edge_below config memory region other_seat)).1 (subst (λ seat. is_last_in config memory region seat ≡ true) same last)))
+      (λ (other : seat ≢ other_seat). (let one = (lesser (is_last_in config memory region other_seat) (free_at other_seat) (edge_below config memory region other_seat)).0 in let rest = below_free other_seat seat (omega (arith, below, other)) last in omega (arith, one, rest)))
+      (cases_eq seat other_seat)
 
 -- Edges are told by tops and buffers.
 module _ (config : Config) (memory other_memory : Word → ℕ) (region : ℕ) (tops : (q : ℕ) → other_memory (Top q) ≡ memory (Top q)) (buffers : (seat : ℕ) → other_memory (Current seat) ≡ memory (Current seat)) where
@@ -54,10 +54,10 @@ module _ (config : Config) (memory other_memory : Word → ℕ) (region : ℕ) (
       ∙ ap (λ top. turn (memory (Current seat)) top (edge_below config other_memory region seat)) (tops (buffer_region config (memory (Current seat))))
       ∙ ap (turn (memory (Current seat)) (memory (Top (buffer_region config (memory (Current seat)))))) (edges_same seat)
 
-pub edges_lie : (config : Config) (memory : Word → ℕ) (r : ℕ) → EdgesLie config memory r
-edges_lie config memory r = record {
-  below_top = below_top config memory r (seat_count config.mutators config.helpers);
-  below_free = λ seat below last. below_free config memory r (seat_count config.mutators config.helpers) seat below last;
+pub edges_lie : (config : Config) (memory : Word → ℕ) (region : ℕ) → EdgesLie config memory region
+edges_lie config memory region = record {
+  below_top = below_top config memory region (seat_count config.mutators config.helpers);
+  below_free = λ seat below last. below_free config memory region (seat_count config.mutators config.helpers) seat below last;
 }
 
 -- where nothing is in use no edge is but 0

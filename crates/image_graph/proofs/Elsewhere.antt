@@ -14,15 +14,15 @@ use Rattle.image_graph.proofs.OneTurn.{if_at}
 
 -- the words that they may write
 abbrev pub IsOfBuffers : Word → Type 0
-IsOfBuffers (Heap a) = ⊤
-IsOfBuffers (Top r) = ⊤
+IsOfBuffers (Heap address) = ⊤
+IsOfBuffers (Top region) = ⊤
 IsOfBuffers (Current seat) = ⊤
 IsOfBuffers word = ⊥
 
 module _ (word : Word) (other : IsOfBuffers word → ⊥) where
   not_written : (memory : Word → ℕ) (at : Word) (value : ℕ) → IsOfBuffers at → write memory at value word ≡ memory word
-  not_written memory at value of = ⊎_elim
-      (λ (same : same_word at word ≡ true). absurd (other (subst IsOfBuffers (same_word_true at word same) of)))
+  not_written memory at value of_buffers = ⊎_elim
+      (λ (same : same_word at word ≡ true). absurd (other (subst IsOfBuffers (same_word_true at word same) of_buffers)))
       (λ (differs : same_word at word ≡ false). cond-false (same_word at word) value (memory word) differs)
       (cases_Bool (same_word at word))
 
@@ -47,9 +47,9 @@ module _ (word : Word) (other : IsOfBuffers word → ⊥) where
   pub settled_same : (config : Config) (memory : Word → ℕ) (n : ℕ) → settled_below config memory n word ≡ memory word
   unfolding settled_below
   settled_same config memory zero = refl
-  settled_same config memory (suc n) = settled_else config (settled_below config memory n) n ∙ settled_same config memory n
+  settled_same config memory (suc seat) = settled_else config (settled_below config memory seat) seat ∙ settled_same config memory seat
 
   pub let_go_same : (config : Config) (memory : Word → ℕ) (n : ℕ) → let_go_below config memory n word ≡ memory word
   unfolding let_go_below
   let_go_same config memory zero = refl
-  let_go_same config memory (suc n) = let_go_else config (let_go_below config memory n) n ∙ let_go_same config memory n
+  let_go_same config memory (suc seat) = let_go_else config (let_go_below config memory seat) seat ∙ let_go_same config memory seat

@@ -10,7 +10,7 @@ use Rattle.shen_graph.specs.Graph.{Graph}
 use Rattle.heap_world.specs.World.{spare, Plot, IsBuffer, AreBuffers, AreBuffersOutside}
 use Rattle.heap_world.specs.Asking.{Asking}
 use Rattle.heap_world.specs.Represents.{RepresentsWith}
-use Rattle.heap_world.proofs.Updates.{updated, updated_same, updated_else}
+use Rattle.heap_world.proofs.FunctionUpdates.{updated, updated_same, updated_else}
 use Rattle.image_graph.proofs.Refitted.{refitted}
 use Rattle.image_graph.proofs.StandsStill.{IsOfRoots, stands_still}
 use Rattle.image_graph.proofs.SeatTurns.{IsDropped}
@@ -44,28 +44,28 @@ fewer_outside config cset current fewer same outside s some inside =
 
 -- so they are without a seat's
 pub without_fewer : (current : ℕ → ℕ) (seat s : ℕ) → updated current seat 0 s ≢ 0 → updated current seat 0 s ≡ current s
-without_fewer current seat s some = ⊎_elim
-    (λ (at : seat ≡ s). absurd (some (updated_same current seat 0 s at)))
+without_fewer current seat s positive = ⊎_elim
+    (λ (at : seat ≡ s). absurd (positive (updated_same current seat 0 s at)))
     (λ (other : seat ≢ s). updated_else current seat 0 s other)
     (cases_eq seat s)
 
 -- and where some are dropped
 pub dropped_fewer : (current then_current : ℕ → ℕ) → ((seat : ℕ) → IsDropped current then_current seat) → (s : ℕ) → then_current s ≢ 0 → then_current s ≡ current s
-dropped_fewer current then_current dropped s some = ⊎_elim (λ same. same) (λ gone. absurd (some gone.0)) (dropped s)
+dropped_fewer current then_current dropped s positive = ⊎_elim (λ same. same) (λ gone. absurd (positive gone.0)) (dropped s)
 
-module _ (Asks : (Word → ℕ) → Plot → Type 0) (of_roots : IsOfRoots Asks) (config : Config) (memory : Word → ℕ) (graph : Graph) (asking : ℕ → Asking) (r : RepresentsWith (Asks memory) config memory graph asking) (current : ℕ → ℕ)
+module _ (Asks : (Word → ℕ) → Plot → Type 0) (of_roots : IsOfRoots Asks) (config : Config) (memory : Word → ℕ) (graph : Graph) (asking : ℕ → Asking) (represents_with : RepresentsWith (Asks memory) config memory graph asking) (current : ℕ → ℕ)
     (dropped : (seat : ℕ) → IsDropped (λ s. memory (Current s)) current seat) where
-  pub rebuffered : RepresentsWith (Asks (refitted memory (λ q. memory (Top q)) (λ x. memory (Heap x)) current)) config (refitted memory (λ q. memory (Top q)) (λ x. memory (Heap x)) current) graph asking
-  rebuffered = stands_still Asks of_roots config memory graph asking r (λ q. memory (Top q)) (λ x. memory (Heap x)) current r.block
+  pub rebuffered : RepresentsWith (Asks (refitted memory (λ region. memory (Top region)) (λ address. memory (Heap address)) current)) config (refitted memory (λ region. memory (Top region)) (λ address. memory (Heap address)) current) graph asking
+  rebuffered = stands_still Asks of_roots config memory graph asking represents_with (λ region. memory (Top region)) (λ address. memory (Heap address)) current represents_with.block
       (record { stays = λ a x fixed is. is; came = λ a x fixed is. is }) (λ a s more is. is) (λ a s more is. is) (λ a k s more is below. refl)
       (record {
-        parsable = r.shared.parsable;
-        contents = r.shared.contents;
-        owned = record { free_word = r.shared.owned.free_word; shared_one = r.shared.owned.shared_one; rooms = r.shared.owned.rooms; buffers = buffers_dropped config (λ q. memory (Top q)) (λ s. memory (Current s)) current r.block dropped r.shared.owned.rooms.spares r.shared.owned.buffers; outside = fewer_outside config (memory Cset) (λ s. memory (Current s)) current (dropped_fewer (λ s. memory (Current s)) current dropped) r.shared.owned.outside };
-        phased = r.shared.phased;
-        unwritten = r.shared.unwritten;
-        marked = r.shared.marked;
-        evacuated = r.shared.evacuated;
-        updated = r.shared.updated;
-        pinned = r.shared.pinned;
+        parsable = represents_with.shared.parsable;
+        contents = represents_with.shared.contents;
+        owned = record { free_word = represents_with.shared.owned.free_word; shared_one = represents_with.shared.owned.shared_one; rooms = represents_with.shared.owned.rooms; buffers = buffers_dropped config (λ region. memory (Top region)) (λ seat. memory (Current seat)) current represents_with.block dropped represents_with.shared.owned.rooms.spares represents_with.shared.owned.buffers; outside = fewer_outside config (memory Cset) (λ seat. memory (Current seat)) current (dropped_fewer (λ seat. memory (Current seat)) current dropped) represents_with.shared.owned.outside };
+        phased = represents_with.shared.phased;
+        unwritten = represents_with.shared.unwritten;
+        marked = represents_with.shared.marked;
+        evacuated = represents_with.shared.evacuated;
+        updated = represents_with.shared.updated;
+        pinned = represents_with.shared.pinned;
       })

@@ -23,12 +23,12 @@ use Rattle.image_graph.specs.Promised.{Promises, with_promised, AreFresh, promis
 use Rattle.image_graph.proofs.Reached.{can_pack}
 use Rattle.image_graph.proofs.Origin.{kept_inside}
 use Rattle.image_graph.proofs.Live.{kept_one}
-use Rattle.image_graph.proofs.Roots.{copy_named}
+use Rattle.image_graph.proofs.HeldRoots.{copy_named}
 use Rattle.image_graph.proofs.Promised.{old_object, kept_are_live_or_promised}
 
 -- two objects at one address have one name
 one_copy : (block : Plot) (address : ℕ) (name other_name : Name) → IsCopy block address name → IsCopy block address other_name → name ≡ other_name
-one_copy block address name other_name one other = same_Some name other_name (sym (copy_named block address name one) ∙ copy_named block address other_name other)
+one_copy block address name other_name copy other = same_Some name other_name (sym (copy_named block address name copy) ∙ copy_named block address other_name other)
 
 -- where each object that a slot holds is kept in a shut region, at its place
 abbrev pub ArePinnedThere : (region_words : ℕ) (shut : ℕ → Bool) → Plot → (kept : ℕ → ℕ) → Graph → Type 0
@@ -63,14 +63,14 @@ module _ (config : Config) (shut : ℕ → Bool) (top heap : ℕ → ℕ) (block
   Found k = (a : ℕ) × (a < heap_end config) × (both k ≤ kept a) × (IsOpenAt k a ⊎ IsPinnedAt k a)
 
   kept_below : (a : ℕ) → 0 < kept a → a < heap_end config
-  kept_below a some =
+  kept_below a positive =
       let can = can_pack config top heap block now IsRoot (with_promised graph promises) holds kept are in
-      omega (arith, (kept_inside config top heap block (with_promised graph promises).object now kept can a some).1, some)
+      omega (arith, (kept_inside config top heap block (with_promised graph promises).object now kept can a positive).1, positive)
 
   found_open : (k : ℕ) → k < end → 0 < both k → Found k
-  found_open k below some =
+  found_open k below positive =
       let weight = cond-true (nat_lt k end) (counts k) (words_of_name (k - end)) (lt-ltb k end below) in
-      let is = is_open config.region_words shut kept k (omega (arith, some, weight)) in
+      let is = is_open config.region_words shut kept k (omega (arith, positive, weight)) in
       (k, kept_below k is.0, omega (arith, weight, is.2), inl (below, refl, is.1))
 
   -- a pinned object is kept where its slot says
@@ -90,8 +90,8 @@ module _ (config : Config) (shut : ℕ → Bool) (top heap : ℕ → ℕ) (block
       (place, kept_below place at.0, omega (arith, weight, one.words, old), inr (past, within, at.1, subst (IsCopy block place) slot.4 at.2))
 
   found : (k : ℕ) → k < end + length names → 0 < both k → Found k
-  found k below some = ⊎_elim
-      (λ (open_one : k < end). found_open k open_one some)
+  found k below positive = ⊎_elim
+      (λ (open_one : k < end). found_open k open_one positive)
       (λ (past : end ≤ k). found_pinned k past (omega (arith, below, past)))
       (cases_lt k end)
 

@@ -1,23 +1,12 @@
 -- What is found in turns, each of which takes the next address of a list and adds its fields.
-use Rattle.std.proofs.Common.{◌≡◌, ℕ, ◌+◌, ◌-◌, ◌≤◌, zero, suc, List, [], ◌∷◌, ◌++◌, length, slice_get, Option, Some, None, refl, sym, ap, ◌∙◌, arith}
+use Rattle.std.proofs.Common.{◌≡◌, ℕ, ◌+◌, ◌-◌, ◌≤◌, zero, suc, List, [], ◌∷◌, ◌++◌, length, slice_get, Some, None, refl, sym, ap, ◌∙◌, arith}
 use Rattle.heap_world.specs.Walk.{with_addresses}
-use Rattle.heap_world.proofs.Marks.{with_addresses-append}
+use Rattle.heap_world.proofs.TakenDown.{with_addresses-append}
 use Rattle.image_graph.specs.Held.{with_fields, found_in}
 
 -- one list after another
 pub noted_both : (order xs ys : List ℕ) → with_addresses (with_addresses order xs) ys ≡ with_addresses order (xs ++ ys)
 noted_both order xs ys = sym (with_addresses-append order xs ys)
-
--- what is nothing
-pub is_none : (found : Option ℕ) → ((x : ℕ) → found ≡ Some x → ⊥) → found ≡ None
-is_none None never = refl
-is_none (Some x) never = absurd (never x refl)
-
--- past the end of a list there is nothing
-pub none_left : (xs : List ℕ) (index : ℕ) → slice_get xs index ≡ None → length xs ≤ index
-none_left [] index none = omega arith
-none_left (x ∷ xs) zero none = absurd (cc)
-none_left (x ∷ xs) (suc index) none = omega (arith, none_left xs index none)
 
 module _ (fields : ℕ → List ℕ) (roots : List ℕ) where
   abbrev found : ℕ → List ℕ
@@ -51,6 +40,6 @@ module _ (fields : ℕ → List ℕ) (roots : List ℕ) where
       get_none (x ∷ xs) (suc index) past = get_none xs index (omega (arith, past))
 
   pub last_turn : (n most : ℕ) → length (found n) ≤ n → n ≤ most → found n ≡ found most
-  last_turn n most short few =
-      let all : (most - n) + n ≡ most = omega (arith, few) in
+  last_turn n most short at_most =
+      let all : (most - n) + n ≡ most = omega (arith, at_most) in
       sym (stays n (most - n) short) ∙ ap found all

@@ -10,7 +10,7 @@ use Rattle.std.proofs.lemmas.Map.Keys.{IsDistinct-push, IsDistinct-from_apart}
 use Rattle.std.proofs.lemmas.Map.Made.{length-le_from_is_member}
 use Rattle.std.proofs.lemmas.Option.{slice_get_within, none-some, same_Some}
 use Rattle.heap_world.specs.Walk.{has, with_address, with_addresses}
-use Rattle.heap_world.proofs.Marks.{has-range, kept, new, only, prefix}
+use Rattle.heap_world.proofs.TakenDown.{has-range, kept, new, only, prefix}
 use Rattle.image_graph.specs.Held.{with_fields, found_in}
 
 -- one step of the recursion
@@ -114,7 +114,7 @@ module _ (fields : ℕ → List ℕ) (roots : List ℕ) where
   -- the roots are found from the start
   pub roots_found : (n q : ℕ) → q ≢ 0 → has roots q ≡ true → has (found n) q ≡ true
   roots_found zero q other is = ap (λ xs. has xs q) (found_first fields roots) ∙ new [] roots q other is
-  roots_found (suc n) q other is = found_keeps n q (roots_found n q other is)
+  roots_found (suc index) q other is = found_keeps index q (roots_found index q other is)
 
   -- no address twice
   once_grown : (n : ℕ) (o : Option ℕ) → IsDistinct nat_eq (found n) → IsDistinct nat_eq (grown n o)
@@ -144,16 +144,16 @@ module _ (fields : ℕ → List ℕ) (roots : List ℕ) where
 
     module _ (first size : ℕ) (inside : (q : ℕ) → Held q → (first ≤ q) × (q < first + size)) where
       -- so there are at most as many as the heap has addresses
-      found_few : (n : ℕ) → length (found n) ≤ size
-      found_few n =
-          let few : length (found n) ≤ length (range_with_len first size) =
-          length-le_from_is_member nat_eq_equiv (found n) (range_with_len first size) (found_once n)
-          (λ q is. let at = inside q (found_held n q is) in has-range first size q at.0 at.1) in
+      found_few : (index : ℕ) → length (found index) ≤ size
+      found_few index =
+          let few : length (found index) ≤ length (range_with_len first size) =
+          length-le_from_is_member nat_eq_equiv (found index) (range_with_len first size) (found_once index)
+          (λ q is. let at = inside q (found_held index q is) in has-range first size q at.0 at.1) in
           omega (arith, few, length-range_with_len first size)
 
       -- once every address had its turn, no turn changes anything
-      past : (n : ℕ) → length (found n) ≤ n → found (suc n) ≡ found n
-      past n short = found_next fields roots n ∙ ap (grown n) (get_none (found n) n short)
+      past : (index : ℕ) → length (found index) ≤ index → found (suc index) ≡ found index
+      past index short = found_next fields roots index ∙ ap (grown index) (get_none (found index) index short)
 
       -- the fields of what had its turn are found
       turned : (other_index index a q : ℕ) → index < other_index → slice_get (found other_index) index ≡ Some a → q ≢ 0 → has (fields a) q ≡ true → has (found other_index) q ≡ true

@@ -75,7 +75,7 @@ module _ (config : Config) (memory : Word → ℕ) (objects : List ℕ) (laid : 
   abbrev graph : Graph
   graph = record {
     object = λ n. option_map object_at (found objects n);
-    root = λ t i. if is_root_of config.mutators t i then reference (memory (Root (t - 1) i)) else None;
+    root = λ t index. if is_root_of config.mutators t index then reference (memory (Root (t - 1) index)) else None;
     count = made;
     pin = λ t slot. None;
   }
@@ -90,8 +90,8 @@ module _ (config : Config) (memory : Word → ℕ) (objects : List ℕ) (laid : 
   lies : (a : ℕ) → has objects a ≡ true → LiesRight config memory objects a
   lies a is = let at = place_of a is in subst (LiesRight config memory objects) at.2 (laid.lies at.0 at.1)
 
-  reads : (a : ℕ) → has objects a ≡ true → ReadsRight config memory objects a
-  reads a is = let at = place_of a is in subst (ReadsRight config memory objects) at.2 (laid.reads at.0 at.1)
+  reads : (address : ℕ) → has objects address ≡ true → ReadsRight config memory objects address
+  reads address is = let at = place_of address is in subst (ReadsRight config memory objects) at.2 (laid.reads at.0 at.1)
 
   -- a later object begins behind an earlier one, and has a higher name
   behind : (i index : ℕ) → i < index → index < length objects → (address i + laid_words memory (address i) ≤ address index) × (memory (Heap (address i + 2)) < memory (Heap (address index + 2)))
@@ -206,7 +206,7 @@ module _ (config : Config) (memory : Word → ℕ) (objects : List ℕ) (laid : 
       let inside : address < (config.regions + 1) * config.region_words = omega (arith, at.below) in
       (regions_tile.in_range config address (at.above, inside), regions_tile.of_one config address (at.above, inside))
 
-  plotted : IsPlotted config (λ r. memory (Top r)) block
+  plotted : IsPlotted config (λ region. memory (Top region)) block
   plotted = record {
     tops = λ r within. (laid.regions r within).within;
     in_use = λ a b is.
@@ -226,7 +226,7 @@ module _ (config : Config) (memory : Word → ℕ) (objects : List ℕ) (laid : 
   some_piece : (address : ℕ) → has objects address ≡ true → (piece : Block) × (block address ≡ Some piece)
   some_piece address is = (thing (name_of address) (refs_at address) (nums_at address), piece_there address is)
 
-  filled : IsFilled config (λ r. memory (Top r)) block
+  filled : IsFilled config (λ region. memory (Top region)) block
   filled = record {
     first = λ r within used. some_piece (base_of config r) ((laid.regions r within).first used);
     next = λ r a x within from is below.
@@ -234,13 +234,13 @@ module _ (config : Config) (memory : Word → ℕ) (objects : List ℕ) (laid : 
         let long : laid_words memory a ≡ words_of x = ap words_of at.1 in
         let most = (laid.regions r within).within in
         let region : region_with config a ≡ r = regions_tile.of_no_other config r a (record { from = from; before = omega (arith, below, most) }) in
-        let end : used_end config memory a ≡ base_of config r + memory (Top r) = ap (λ k. base_of config k + memory (Top k)) region in
+        let end : used_end config memory a ≡ base_of config r + memory (Top r) = ap (λ region. base_of config region + memory (Top region)) region in
         let there = (lies a at.0).next (λ e. omega (arith, e, end, below, long)) in
         subst (λ w. (piece : Block) × (block (a + w) ≡ Some piece)) long (some_piece (a + laid_words memory a) there);
   }
 
   -- the words of an object
-  is_thing : (address : ℕ) → has objects address ≡ true → IsThing (λ x. memory (Heap x)) block address (refs_at address) (nums_at address) (name_of address) (object_at address)
+  is_thing : (address : ℕ) → has objects address ≡ true → IsThing (λ address. memory (Heap address)) block address (refs_at address) (nums_at address) (name_of address) (object_at address)
   is_thing address is =
       let own = reads address is in
       record {
@@ -259,10 +259,10 @@ module _ (config : Config) (memory : Word → ℕ) (objects : List ℕ) (laid : 
 
   -- what a piece is as an object
   abbrev ObjectAt : ℕ → Block → Type 0
-  ObjectAt address (thing n refs nums) = (object : Object) × (graph.object n ≡ Some object) × IsThing (λ x. memory (Heap x)) block address refs nums n object
+  ObjectAt address (thing name refs nums) = (object : Object) × (graph.object name ≡ Some object) × IsThing (λ address. memory (Heap address)) block address refs nums name object
   ObjectAt address _ = Unit {0}
 
-  objects_are : AreObjects (λ x. memory (Heap x)) block graph.object
+  objects_are : AreObjects (λ address. memory (Heap address)) block graph.object
   objects_are = record {
     each = λ a refs nums n is.
         let at = piece_at a (thing n refs nums) is in
@@ -281,21 +281,21 @@ module _ (config : Config) (memory : Word → ℕ) (objects : List ℕ) (laid : 
         (and_from (nat_le (t + 1) config.mutators) (nat_lt i 16) (le-leb (t + 1) config.mutators (omega (arith, inside))) (lt-ltb i 16 few)) in
         let back : t + 1 - 1 ≡ t = omega arith in
         let root : graph.root (t + 1) i ≡ reference (memory (Root t i)) =
-        cond-true (is_root_of config.mutators (t + 1) i) (reference (memory (Root (t + 1 - 1) i))) None own ∙ ap (λ k. reference (memory (Root k i))) back in
+        cond-true (is_root_of config.mutators (t + 1) i) (reference (memory (Root (t + 1 - 1) i))) None own ∙ ap (λ mutator. reference (memory (Root mutator i))) back in
         subst (Points block (memory (Root t i))) (sym root) (points (memory (Root t i)) ((laid.mutators t inside).roots i few));
     answers = λ t inside. inl ((laid.mutators t inside).answer, refl);
-    no_more_roots = λ t i n is. ⊎_elim
-        (λ (yes : is_root_of config.mutators t i ≡ true).
-        let one = and_parts (nat_le 1 t) (nat_le t config.mutators && nat_lt i 16) yes in
-        let two = and_parts (nat_le t config.mutators) (nat_lt i 16) one.1 in
-        let low = leb-true 1 t one.0 in
-        let high = leb-true t config.mutators two.0 in
-        (t - 1, omega (arith, low, high), omega (arith, low), ltb-true i 16 two.1))
-        (λ (other : is_root_of config.mutators t i ≡ false). absurd (none-some n (sym (cond-false (is_root_of config.mutators t i) (reference (memory (Root (t - 1) i))) None other) ∙ is)))
-        (cases_Bool (is_root_of config.mutators t i));
+    no_more_roots = λ thread index name is. ⊎_elim
+        (λ (yes : is_root_of config.mutators thread index ≡ true).
+        let one = and_parts (nat_le 1 thread) (nat_le thread config.mutators && nat_lt index 16) yes in
+        let two = and_parts (nat_le thread config.mutators) (nat_lt index 16) one.1 in
+        let low = leb-true 1 thread one.0 in
+        let high = leb-true thread config.mutators two.0 in
+        (thread - 1, omega (arith, low, high), omega (arith, low), ltb-true index 16 two.1))
+        (λ (other : is_root_of config.mutators thread index ≡ false). absurd (none-some name (sym (cond-false (is_root_of config.mutators thread index) (reference (memory (Root (thread - 1) index))) None other) ∙ is)))
+        (cases_Bool (is_root_of config.mutators thread index));
     pins = λ t i inside few. (laid.mutators t inside).pins i few;
     no_more_pins = λ t i held is. absurd (none-some held is);
-    no_more_promised = λ t n is. absurd (none-some n is);
+    no_more_promised = λ thread name is. absurd (none-some name is);
   }
 
   -- no piece only fills
@@ -307,8 +307,8 @@ module _ (config : Config) (memory : Word → ℕ) (objects : List ℕ) (laid : 
     plotted = plotted;
     filled = filled;
     objects = objects_are;
-    things = λ a b is. (let at = piece_at a b is in inl (name_of a, refs_at a, nums_at a, sym at.1));
-    fillers = λ a words is. absurd (no_filler a words is);
+    things = λ address piece is. (let at = piece_at address piece is in inl (name_of address, refs_at address, nums_at address, sym at.1));
+    fillers = λ address words is. absurd (no_filler address words is);
     free_word = record {
       no_more = laid.free;
       empty = λ r within member. (laid.regions r within).empty member;
@@ -323,7 +323,7 @@ module _ (config : Config) (memory : Word → ℕ) (objects : List ℕ) (laid : 
       let back : mutator + 1 - 1 ≡ mutator = omega arith in
       let some : mutator + 1 ≢ 0 = omega arith in
       cond-false (mutator + 1 == 0) 4294967296 (cond (memory (Wait (mutator + 1 - 1)) == 0) 4294967296 (request_count_in (memory (Wait (mutator + 1 - 1))) - 1)) (ne_eqb (mutator + 1) 0 some)
-      ∙ ap (λ k. cond (memory (Wait k) == 0) 4294967296 (request_count_in (memory (Wait k)) - 1)) back
+      ∙ ap (λ mutator. cond (memory (Wait mutator) == 0) 4294967296 (request_count_in (memory (Wait mutator)) - 1)) back
       ∙ cond-false (memory (Wait mutator) == 0) 4294967296 (request_count_in (memory (Wait mutator)) - 1) (ne_eqb (memory (Wait mutator)) 0 waits)
 
   made_idle : (mutator : ℕ) → memory (Wait mutator) ≡ 0 → made (mutator + 1) ≡ 4294967296
@@ -331,7 +331,7 @@ module _ (config : Config) (memory : Word → ℕ) (objects : List ℕ) (laid : 
       let back : mutator + 1 - 1 ≡ mutator = omega arith in
       let some : mutator + 1 ≢ 0 = omega arith in
       cond-false (mutator + 1 == 0) 4294967296 (cond (memory (Wait (mutator + 1 - 1)) == 0) 4294967296 (request_count_in (memory (Wait (mutator + 1 - 1))) - 1)) (ne_eqb (mutator + 1) 0 some)
-      ∙ ap (λ k. cond (memory (Wait k) == 0) 4294967296 (request_count_in (memory (Wait k)) - 1)) back
+      ∙ ap (λ mutator. cond (memory (Wait mutator) == 0) 4294967296 (request_count_in (memory (Wait mutator)) - 1)) back
       ∙ cond-true (memory (Wait mutator) == 0) 4294967296 (request_count_in (memory (Wait mutator)) - 1) (eq-eqb (memory (Wait mutator)) 0 idle)
 
   -- a name of an object was given
@@ -375,8 +375,8 @@ module _ (config : Config) (memory : Word → ℕ) (objects : List ℕ) (laid : 
 
   is_new : (mutator : ℕ) → mutator < config.mutators → memory (Wait mutator) ≢ 0 → (found : Option Object) → graph.object (asked_name memory mutator) ≡ found → graph.object (asked_name memory mutator) ≡ None
   is_new mutator inside waits None is = is
-  is_new mutator inside waits (Some o) is =
-      let at = object_from (asked_name memory mutator) o is in
+  is_new mutator inside waits (Some object) is =
+      let at = object_from (asked_name memory mutator) object is in
       let thread : thread_in (memory (Heap (at.0 + 2))) ≡ mutator + 1 = ap (λ (name : Name). name.thread) at.2 in
       let count : count_in (memory (Heap (at.0 + 2))) ≡ request_count_in (memory (Wait mutator)) = ap (λ (name : Name). name.count) at.2 in
       absurd (let less = (reads at.0 at.1).name.unasked mutator inside thread waits in omega (arith, less, count))
@@ -405,7 +405,7 @@ module _ (config : Config) (memory : Word → ℕ) (objects : List ℕ) (laid : 
     free_word = stands.free_word;
     shared_one = laid.shared_one;
     buffers = record { each = λ seat some. absurd (some (nobody seat)); spares = λ a seat words is. let differ = (piece_at a (spare seat words) is).1 in absurd cc };
-    asking = λ t from inside waits. is_asking t inside waits;
+    asking = λ mutator from inside waits. is_asking mutator inside waits;
     next = record {
       asked = next_asked;
       promised = λ t n is. absurd (none-some n is);
@@ -422,11 +422,11 @@ module _ (config : Config) (memory : Word → ℕ) (objects : List ℕ) (laid : 
   sized : AreSized memory block
   sized = record {
     objects = λ a b is whole. ap words_of (piece_at a b is).1;
-    headers = λ a b is whole. (let at = piece_at a b is in ap is_filler (reads a at.0).header);
+    headers = λ address piece is whole. (let at = piece_at address piece is in ap is_filler (reads address at.0).header);
     fillers = λ a words is. let differ = (piece_at a (filler words) is).1 in absurd cc;
   }
 
-  pub laid_sized : ((s : ℕ) → seat_count config.mutators config.helpers ≤ s → memory (Current s) ≡ 0) → HoldsSized config memory
+  pub laid_sized : ((seat : ℕ) → seat_count config.mutators config.helpers ≤ seat → memory (Current seat) ≡ 0) → HoldsSized config memory
   laid_sized beyond = ∣ (graph, block, (λ r. None), no_promise, holds_by nobody, sized) ∣₁
     where
       nobody : (s : ℕ) → memory (Current s) ≡ 0

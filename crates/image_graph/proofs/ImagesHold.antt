@@ -28,7 +28,7 @@ use Rattle.image_graph.proofs.FreeWord.{free_again}
 
 -- the tops of open regions are together what is kept in them, whatever stands in shut ones
 pub open_tops_sum : (config : Config) (memory : Word → ℕ) (block : Plot) (object : Name → Option Object) (shut : ℕ → Bool) (now kept : ℕ → ℕ)
-    → CanPack config (λ region. memory (Top region)) (λ a. memory (Heap a)) block object now kept
+    → CanPack config (λ region. memory (Top region)) (λ address. memory (Heap address)) block object now kept
     → tops_where (λ region. not (shut (region + 1))) (λ region. packed config shut now kept memory (Top region)) config.regions ≡ sum_below (open_kept config.region_words shut kept) (heap_end config)
 unfolding packed
 open_tops_sum config memory block object shut now kept can =
@@ -80,9 +80,9 @@ module _ (config : Config) (memory : Word → ℕ) (block : Plot) (graph : Graph
       (origins.block_from config top heap block graph.object now kept can shut a piece is)
 
   -- the pieces are the graph's objects
-  objects_again : AreObjects (λ a. packed config shut now kept memory (Heap a)) new_block graph.object
+  objects_again : AreObjects (λ address. packed config shut now kept memory (Heap address)) new_block graph.object
   objects_again =
-      slid_are_objects config top heap block graph.object now kept can shut (λ a. packed config shut now kept memory (Heap a))
+      slid_are_objects config top heap block graph.object now kept can shut (λ address. packed config shut now kept memory (Heap address))
       (placed_words config memory block graph.object now kept can shut before.parsed)
 
   -- what a root word leads to is kept

@@ -24,7 +24,7 @@ use Rattle.image_graph.proofs.Origin.{lie_apart}
 use Rattle.image_graph.proofs.ImagesHold.{keeps_graph}
 use Rattle.image_graph.proofs.PinnedRows.{word_pinned}
 use Rattle.image_graph.proofs.Walked.{walk_keeps}
-use Rattle.image_graph.proofs.Roots.{pin_stays, root_named, root_held, root_among, answer_among, pin_among, no_pins}
+use Rattle.image_graph.proofs.HeldRoots.{pin_stays, root_named, root_held, root_among, answer_among, pin_among, no_pins}
 
 -- an object with a plain header is its own current copy
 pub own_copy : (memory : Word → ℕ) (address : ℕ) → memory (Heap address) ≡ plain_header → now_in memory address ≡ address
@@ -36,9 +36,9 @@ pub packed_pin : (config : Config) (shut : ℕ → Bool) (now kept : ℕ → ℕ
 unfolding packed
 packed_pin config shut now kept memory mutator index = refl
 
-pub objects_hold : (config : Config) (memory : Word → ℕ) (block : Plot) (graph : Graph) (promises : Promises) → IsPlotted config (λ r. memory (Top r)) block → AreThings block
-    → AreObjects (λ a. memory (Heap a)) block (with_promised graph promises).object → RootsStand config memory block graph promises
-    → HoldsGraph config (λ r. memory (Top r)) (λ a. memory (Heap a)) block (now_in memory) (IsAmong (held_words config memory)) (with_promised graph promises)
+pub objects_hold : (config : Config) (memory : Word → ℕ) (block : Plot) (graph : Graph) (promises : Promises) → IsPlotted config (λ region. memory (Top region)) block → AreThings block
+    → AreObjects (λ address. memory (Heap address)) block (with_promised graph promises).object → RootsStand config memory block graph promises
+    → HoldsGraph config (λ region. memory (Top region)) (λ address. memory (Heap address)) block (now_in memory) (IsAmong (held_words config memory)) (with_promised graph promises)
 objects_hold config memory block graph promises plotted things objects rooted = record {
   plotted = plotted;
   current = λ word name is.
@@ -47,13 +47,13 @@ objects_hold config memory block graph promises plotted things objects rooted = 
       (piece.0, piece.1, ap block (own_copy memory word object.2.header) ∙ piece.2);
   each = λ a refs nums name held is. objects.each a refs nums name is;
   once = λ a b refs nums more_refs more_nums name held_a held_b is_a is_b. objects.once a b refs nums more_refs more_nums name is_a is_b;
-  root_named = root_named config (λ r. memory (Top r)) memory block graph promises plotted rooted;
-  root_held = root_held config (λ r. memory (Top r)) memory block graph promises plotted rooted;
-  pinless = no_pins config (λ r. memory (Top r)) memory block graph promises plotted rooted;
+  root_named = root_named config (λ region. memory (Top region)) memory block graph promises plotted rooted;
+  root_held = root_held config (λ region. memory (Top region)) memory block graph promises plotted rooted;
+  pinless = no_pins config (λ region. memory (Top region)) memory block graph promises plotted rooted;
 }
 
 pub standing_holds : (config : Config) (memory : Word → ℕ) (block : Plot) (graph : Graph) (promises : Promises) → ImageStands config memory block graph promises
-    → HoldsGraph config (λ r. memory (Top r)) (λ a. memory (Heap a)) block (now_in memory) (IsAmong (held_words config memory)) (with_promised graph promises)
+    → HoldsGraph config (λ region. memory (Top region)) (λ address. memory (Heap address)) block (now_in memory) (IsAmong (held_words config memory)) (with_promised graph promises)
 standing_holds config memory block graph promises stands = objects_hold config memory block graph promises stands.plotted stands.things stands.objects stands.rooted
 
 module _ (config : Config) (memory : Word → ℕ) (block : Plot) (graph : Graph) (promises : Promises)
@@ -119,23 +119,23 @@ module _ (config : Config) (memory : Word → ℕ) (block : Plot) (graph : Graph
 
   root_again : (mutator index : ℕ) → mutator < config.mutators → index < 16 → Points new_block (after (Root mutator index)) (graph.root (mutator + 1) index)
   unfolding packed
-  root_again mutator index inside few = keeps.root_words (memory (Root mutator index)) (graph.root (mutator + 1) index) (root_among config top memory block graph promises holds.plotted rooted mutator index inside few) (rooted.roots mutator index inside few)
+  root_again mutator index inside below = keeps.root_words (memory (Root mutator index)) (graph.root (mutator + 1) index) (root_among config top memory block graph promises holds.plotted rooted mutator index inside below) (rooted.roots mutator index inside below)
 
   -- the object of a pin slot stays where it is, and is its own current copy
   pin_there : (mutator index : ℕ) → mutator < config.mutators → index < 4 → (name : Name) → IsCopy block (memory (Pin mutator index)) name → is_forwarded (memory (Heap (memory (Pin mutator index)))) ≡ false
       → IsCopy new_block (memory (Pin mutator index)) name × (is_forwarded (after (Heap (memory (Pin mutator index)))) ≡ false)
-  pin_there mutator index inside few name copy plain =
+  pin_there mutator index inside below name copy plain =
       let word = memory (Pin mutator index) in
       let lies = piece_inside config top block holds.plotted word (thing name copy.0 copy.1) copy.2 in
-      let closed = word_pinned config memory mutator index inside few lies.0 (omega (arith, lies.1)) in
+      let closed = word_pinned config memory mutator index inside below lies.0 (omega (arith, lies.1)) in
       let current : now word ≡ word = cond-false (is_forwarded (memory (Heap word))) (forwardee_in (memory (Heap word))) word plain in
-      let stays = keeps.stays word name (pin_among config top memory block graph promises holds.plotted rooted mutator index inside few) current closed copy in
+      let stays = keeps.stays word name (pin_among config top memory block graph promises holds.plotted rooted mutator index inside below) current closed copy in
       (stays, ap is_forwarded (keeps.objects.each word stays.0 stays.1 name stays.2).2.header)
 
   pin_again : (mutator index : ℕ) → mutator < config.mutators → index < 4 → PinWordStands after new_block (after (Pin mutator index)) (graph.pin (mutator + 1) index)
-  pin_again mutator index inside few =
+  pin_again mutator index inside below =
       subst (λ word. PinWordStands after new_block word (graph.pin (mutator + 1) index)) (sym (packed_pin config shut now kept memory mutator index))
-      (pin_stays memory after block new_block (memory (Pin mutator index)) (graph.pin (mutator + 1) index) (pin_there mutator index inside few) (rooted.pins mutator index inside few))
+      (pin_stays memory after block new_block (memory (Pin mutator index)) (graph.pin (mutator + 1) index) (pin_there mutator index inside below) (rooted.pins mutator index inside below))
 
   pub packed_stands : ImageStands config after new_block graph promises
   packed_stands = record {

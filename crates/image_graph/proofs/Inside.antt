@@ -9,25 +9,25 @@ use Rattle.heap_world.specs.World.{Plot, IsPlotted, IsBuffer, AreBuffers}
 use Rattle.image_graph.specs.SeatBuffers.{IsInside, AreInside}
 
 -- a buffer's last word is of its region
-pub buffer_ends : (config : Config) (top : ℕ → ℕ) (block : Plot) (seat word : ℕ) (b : IsBuffer config top block seat word) → top b.region ≤ config.region_words → IsOf config b.region (end_in word - 1)
-buffer_ends config top block seat word b most = let low = b.some in let high = b.to_top in record { from = omega (arith, low); before = omega (arith, low, high, most) }
+pub buffer_ends : (config : Config) (top : ℕ → ℕ) (block : Plot) (seat word : ℕ) (buffer : IsBuffer config top block seat word) → top buffer.region ≤ config.region_words → IsOf config buffer.region (end_in word - 1)
+buffer_ends config top block seat word buffer most = let low = buffer.some in let high = buffer.to_top in record { from = omega (arith, low); before = omega (arith, low, high, most) }
 
-pub buffer_region_is : (config : Config) (top : ℕ → ℕ) (block : Plot) (seat word : ℕ) (b : IsBuffer config top block seat word) → top b.region ≤ config.region_words → region_with config (end_in word - 1) ≡ b.region
-buffer_region_is config top block seat word b most = regions_tile.of_no_other config b.region (end_in word - 1) (buffer_ends config top block seat word b most)
+pub buffer_region_is : (config : Config) (top : ℕ → ℕ) (block : Plot) (seat word : ℕ) (buffer : IsBuffer config top block seat word) → top buffer.region ≤ config.region_words → region_with config (end_in word - 1) ≡ buffer.region
+buffer_region_is config top block seat word buffer most = regions_tile.of_no_other config buffer.region (end_in word - 1) (buffer_ends config top block seat word buffer most)
 
 -- so it lies in one region of the heap
-pub buffer_inside : (config : Config) (top : ℕ → ℕ) (block : Plot) (seat word : ℕ) (b : IsBuffer config top block seat word) → top b.region ≤ config.region_words → IsInside config word
-buffer_inside config top block seat word b most =
-    let is = buffer_region_is config top block seat word b most in
-    let high = b.to_top in
+pub buffer_inside : (config : Config) (top : ℕ → ℕ) (block : Plot) (seat word : ℕ) (buffer : IsBuffer config top block seat word) → top buffer.region ≤ config.region_words → IsInside config word
+buffer_inside config top block seat word buffer most =
+    let is = buffer_region_is config top block seat word buffer most in
+    let high = buffer.to_top in
     record {
-      region = subst (λ q. q < config.regions) (sym is) b.within;
-      from_base = subst (λ q. base_of config q ≤ next_in word) (sym is) b.from_base;
-      ordered = b.ordered;
+      region = subst (λ q. q < config.regions) (sym is) buffer.within;
+      from_base = subst (λ q. base_of config q ≤ next_in word) (sym is) buffer.from_base;
+      ordered = buffer.ordered;
       to_end = subst (λ q. end_in word ≤ base_of config q + config.region_words) (sym is) (omega (arith, high, most));
     }
 
-pub buffers_inside : (config : Config) (memory : Word → ℕ) (block : Plot) → IsPlotted config (λ r. memory (Top r)) block → AreBuffers config (λ r. memory (Top r)) (λ s. memory (Current s)) block → AreInside config memory
+pub buffers_inside : (config : Config) (memory : Word → ℕ) (block : Plot) → IsPlotted config (λ region. memory (Top region)) block → AreBuffers config (λ region. memory (Top region)) (λ seat. memory (Current seat)) block → AreInside config memory
 buffers_inside config memory block plotted buffers seat below some =
     let b = buffers.each seat some in
-    buffer_inside config (λ r. memory (Top r)) block seat (memory (Current seat)) b (plotted.tops b.region b.within)
+    buffer_inside config (λ region. memory (Top region)) block seat (memory (Current seat)) b (plotted.tops b.region b.within)

@@ -39,10 +39,10 @@ module _ (config : Config) (memory : Word → ℕ) where
   pub none_left : (n seat : ℕ) → seat < n → let_go_below config memory n (Current seat) ≡ 0
   unfolding let_go_below
   none_left zero seat below = absurd (omega (arith, below))
-  none_left (suc n) seat below = ⊎_elim
-      (λ (same : seat ≡ n). subst (λ k. let_go_at config (let_go_below config memory n) n (Current k) ≡ 0) (sym same) (turn_own config (let_go_below config memory n) n))
-      (λ (other : seat ≢ n). turn_other config (let_go_below config memory n) n seat (λ same. other (sym same)) ∙ none_left n seat (omega (arith, below, other)))
-      (cases_eq seat n)
+  none_left (suc other_seat) seat below = ⊎_elim
+      (λ (same : seat ≡ other_seat). subst (λ seat. let_go_at config (let_go_below config memory other_seat) other_seat (Current seat) ≡ 0) (sym same) (turn_own config (let_go_below config memory other_seat) other_seat))
+      (λ (other : seat ≢ other_seat). turn_other config (let_go_below config memory other_seat) other_seat seat (λ same. other (sym same)) ∙ none_left other_seat seat (omega (arith, below, other)))
+      (cases_eq seat other_seat)
 
 -- Where nobody has a buffer there is none to let go.
 pub none_to_let_go : (config : Config) (memory : Word → ℕ) (other_seat : ℕ) → ((seat : ℕ) → seat < other_seat → memory (Current seat) ≡ 0) → let_go_below config memory other_seat ≡ memory

@@ -24,8 +24,8 @@ pub record KeptOne (block : Plot) (graph : Graph) (kept : ℕ → ℕ) (address 
 module _ (config : Config) (top heap : ℕ → ℕ) (block : Plot) (now kept : ℕ → ℕ) (IsRoot : ℕ → Type 0) (graph : Graph)
     (holds : HoldsGraph config top heap block now IsRoot graph) (are : AreHeldKept heap (IsLedTo now heap IsRoot) kept) where
   pub kept_one : (address : ℕ) → 0 < kept address → KeptOne block graph kept address
-  kept_one address some =
-      let held = are.only address some in
+  kept_one address positive =
+      let held = are.only address positive in
       let at = held_is_reached config top heap block now IsRoot graph holds address held in
       let object = holds.each address at.1 at.2 at.0 held at.3 in
       let facts = object.2 in
@@ -41,12 +41,12 @@ module _ (config : Config) (top heap : ℕ → ℕ) (block : Plot) (now kept : �
       }
 
   -- two kept addresses of one name are one
-  pub one_name : (address b : ℕ) (some_a : 0 < kept address) (some_b : 0 < kept b) → (kept_one address some_a).name ≡ (kept_one b some_b).name → address ≡ b
-  one_name address b some_a some_b same =
+  pub one_name : (address other_address : ℕ) (some_a : 0 < kept address) (some_b : 0 < kept other_address) → (kept_one address some_a).name ≡ (kept_one other_address some_b).name → address ≡ other_address
+  one_name address other_address some_a some_b same =
       let one = kept_one address some_a in
-      let other = kept_one b some_b in
+      let other = kept_one other_address some_b in
       let is : block address ≡ Some (thing other.name one.refs one.nums) = one.is ∙ ap (λ (name : Name). Some (thing name one.refs one.nums)) same in
-      holds.once address b one.refs one.nums other.refs other.nums other.name (are.only address some_a) (are.only b some_b) is other.is
+      holds.once address other_address one.refs one.nums other.refs other.nums other.name (are.only address some_a) (are.only other_address some_b) is other.is
 
   pub kept_are_live : (names : List Name) → IsReach graph names → (end : ℕ) → sum_below kept end ≤ sum_by (λ n. size (named graph (Some n))) names
   kept_are_live names reach end =

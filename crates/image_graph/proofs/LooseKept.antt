@@ -19,7 +19,7 @@ use Rattle.image_graph.proofs.Divided.{divided}
 
 -- that roots may be used
 abbrev Usable : Config → (Word → ℕ) → Plot → Type 0
-Usable config memory block = AreUsable config (memory Cset) (memory Evac) block (λ t i. memory (Root t i))
+Usable config memory block = AreUsable config (memory Cset) (memory Evac) block (λ mutator index. memory (Root mutator index))
 
 -- a word may be used still where objects stay
 usable_still : (config : Config) (cset evac : ℕ) (plot other_plot : Plot) → SameButLoose plot other_plot → (word : ℕ) → IsUsable config cset evac plot word → IsUsable config cset evac other_plot word
@@ -28,13 +28,13 @@ usable_still config cset evac plot other_plot same word (inr at) = inr (at.0, at
 
 usable_of_roots : (config : Config) → IsOfRoots (Usable config)
 usable_of_roots config = record {
-  refits = λ m top heap current block is. is;
-  stays = λ m u w same is. λ t i below small. usable_still config (m Cset) (m Evac) u w same (m (Root t i)) (is t i below small);
+  refits = λ memory top heap current block is. is;
+  stays = λ m plot w same is. λ mutator index below small. usable_still config (m Cset) (m Evac) plot w same (m (Root mutator index)) (is mutator index below small);
 }
 
 -- nothing is asked of them
 nothing_of_roots : IsOfRoots (λ m block. Unit {0})
-nothing_of_roots = record { refits = λ m top heap current block is. is; stays = λ m u w same is. is }
+nothing_of_roots = record { refits = λ memory top heap current block is. is; stays = λ m u w same is. is }
 
 pub settling_keeps : (config : Config) (memory : Word → ℕ) (graph : Graph) (asking : ℕ → Asking) → SettlingKeeps config memory graph asking
 settling_keeps config memory graph asking = record {
@@ -50,10 +50,10 @@ letting_go_keeps config memory graph asking beyond = record {
 
 -- Whatever seats there are, so it is but for buffers without free words.
 pub trimmed_copies : (config : Config) (memory : Word → ℕ) (graph : Graph) (asking : ℕ → Asking) → RepresentsByCopies config memory graph asking → RepresentsByCopies config (trim (let_go config memory)) graph asking
-trimmed_copies config memory graph asking r = let_go_trims (λ k block. Unit {0}) nothing_of_roots config graph asking memory r
+trimmed_copies config memory graph asking represents_by_copies = let_go_trims (λ k block. Unit {0}) nothing_of_roots config graph asking memory represents_by_copies
 
 pub edges_divide : LastDivide
-edges_divide c m g asking r last = divided c m r.block r.shared.parsable.plotted (some_words c (λ q. m (Top q)) r.block r.shared.parsable r.shared.owned.rooms) r.shared.owned.buffers r.uncarved r.none
+edges_divide c m g asking r last = divided c m r.block r.shared.parsable.plotted (some_words c (λ region. m (Top region)) r.block r.shared.parsable r.shared.owned.rooms) r.shared.owned.buffers r.uncarved r.none
     (λ a seat words is. r.shared.owned.rooms.seated a seat (spare seat words) is refl) last
 
 pub none_have_room : NoneHaveRoom

@@ -1,8 +1,8 @@
 pub mod Resized
-pub mod Divided
+pub mod DividedPieces
 pub mod Loosened
-pub mod OneTurn
+pub mod OneBuffer
 pub mod AllSettled
-pub mod LettingGo
+pub mod AllLetGo
 pub mod Laws
-pub mod Inside
+pub mod BuffersInside

@@ -21,7 +21,7 @@ module _ (block : Plot) (things : AreThings block) where
       ⊎_elim
       (λ (found : IsObject piece.0).
       let same : found.0 ≡ name = same_Some found.0 name (ap (λ x. name_at (Some x)) (sym found.3) ∙ piece.2) in
-      (found.1, found.2, piece.1 ∙ ap Some found.3 ∙ ap (λ n. Some (thing n found.1 found.2)) same))
+      (found.1, found.2, piece.1 ∙ ap Some found.3 ∙ ap (λ name. Some (thing name found.1 found.2)) same))
       (λ (fills : IsFiller piece.0). absurd (none-some name (ap (λ x. name_at (Some x)) (sym fills.2) ∙ piece.2)))
       (things word piece.0 piece.1)
 
@@ -67,7 +67,7 @@ module _ (block : Plot) (things : AreThings block) where
   named_things = record {
     named = thing_at;
     unpromised = no_promised;
-    unheld = λ a seat words is. no_room a seat (hand seat words) is refl;
-    uncarved = λ a seat words is. no_room a seat (carved seat words) is refl;
+    unheld = λ address seat words is. no_room address seat (hand seat words) is refl;
+    uncarved = λ address seat words is. no_room address seat (carved seat words) is refl;
     some = some_words;
   }

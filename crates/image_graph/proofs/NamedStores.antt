@@ -23,29 +23,29 @@ placed_inside config other_config word at same is place = omega (arith, word_ins
 
 -- Clearing.
 
-cleared_none_at : (a : ℕ) (memory : Word → ℕ) (word : Word) → memory word ≡ heap_cleared a 0 memory word
-cleared_none_at a memory (Heap x) = grind (arith, nat_tests)
-cleared_none_at a memory _ = refl
+cleared_none_at : (address : ℕ) (memory : Word → ℕ) (word : Word) → memory word ≡ heap_cleared address 0 memory word
+cleared_none_at address memory (Heap other_address) = grind (arith, nat_tests)
+cleared_none_at address memory _ = refl
 
-pub cleared_none : (a : ℕ) (memory : Word → ℕ) → memory ≡ heap_cleared a 0 memory
-cleared_none a memory = fun_ext (λ w. cleared_none_at a memory w)
+pub cleared_none : (address : ℕ) (memory : Word → ℕ) → memory ≡ heap_cleared address 0 memory
+cleared_none address memory = fun_ext (λ word. cleared_none_at address memory word)
 
 clear_one : (a n x y : ℕ) → cond (a + n == x) 0 (cond (nat_le a x && nat_lt x (a + n)) 0 y) ≡ cond (nat_le a x && nat_lt x (a + (n + 1))) 0 y
 clear_one a n x y = grind (arith, nat_tests)
 
-cleared_next_at : (address n : ℕ) (memory : Word → ℕ) (word : Word) → write (heap_cleared address n memory) (Heap (address + n)) 0 word ≡ heap_cleared address (n + 1) memory word
-cleared_next_at address n memory (Heap x) = clear_one address n x (memory (Heap x))
-cleared_next_at address n memory _ = refl
+cleared_next_at : (address words : ℕ) (memory : Word → ℕ) (word : Word) → write (heap_cleared address words memory) (Heap (address + words)) 0 word ≡ heap_cleared address (words + 1) memory word
+cleared_next_at address words memory (Heap other_address) = clear_one address words other_address (memory (Heap other_address))
+cleared_next_at address words memory _ = refl
 
-pub cleared_next : (address n : ℕ) (memory : Word → ℕ) → write (heap_cleared address n memory) (Heap (address + n)) 0 ≡ heap_cleared address (n + 1) memory
-cleared_next address n memory = fun_ext (λ w. cleared_next_at address n memory w)
+pub cleared_next : (address words : ℕ) (memory : Word → ℕ) → write (heap_cleared address words memory) (Heap (address + words)) 0 ≡ heap_cleared address (words + 1) memory
+cleared_next address words memory = fun_ext (λ word. cleared_next_at address words memory word)
 
 -- Making an object.
 
 heap_made : (a words shape name before x : ℕ) → 3 ≤ words
     → cond (a + 2 == x) name (cond (a + 1 == x) shape (cond (a == x) 1 (cond (nat_le a x && nat_lt x (a + words)) 0 before)))
     ≡ cond (nat_le a x && nat_lt x (a + words)) (cond (a == x) 1 (cond (a + 1 == x) shape (cond (a + 2 == x) name 0))) before
-heap_made a words shape name before x some = grind (arith, nat_tests)
+heap_made a words shape name before x at_most = grind (arith, nat_tests)
 
 -- the words after these stores
 abbrev pub made_by_stores : (Word → ℕ) → (mutator region address shape name top free : ℕ) → Word → ℕ
@@ -57,9 +57,9 @@ made_at : (config : Config) (memory : Word → ℕ) (mutator region : ℕ) (word
     → made_by_stores memory mutator region (base_of config region + memory (Top region)) (request_shape_in (memory (Wait mutator))) (name_code (mutator + 1) (request_count_in (memory (Wait mutator))))
     (memory (Top region) + object_words (request_shape_in (memory (Wait mutator)))) (bit_and (memory Free) (all_but region)) word ≡ made_in config memory mutator region word
 unfolding made_in
-made_at config memory mutator region (Heap x) =
+made_at config memory mutator region (Heap address) =
     heap_made (base_of config region + memory (Top region)) (object_words (request_shape_in (memory (Wait mutator)))) (request_shape_in (memory (Wait mutator)))
-    (name_code (mutator + 1) (request_count_in (memory (Wait mutator)))) (memory (Heap x)) x (omega arith)
+    (name_code (mutator + 1) (request_count_in (memory (Wait mutator)))) (memory (Heap address)) address (omega arith)
 made_at config memory mutator region _ = refl
 
 pub made_steps : (config : Config) (memory : Word → ℕ) (mutator region address shape name top free : ℕ)
@@ -68,10 +68,10 @@ pub made_steps : (config : Config) (memory : Word → ℕ) (mutator region addre
     → made_by_stores memory mutator region address shape name top free ≡ made_in config memory mutator region
 made_steps config memory mutator region address shape name top free at is named grown taken =
     let top_is : top ≡ memory (Top region) + object_words (request_shape_in (memory (Wait mutator))) = grown ∙ ap (λ s. memory (Top region) + object_words s) is in
-    ap (λ a. made_by_stores memory mutator region a shape name top free) at
-    ∙ ap (λ s. made_by_stores memory mutator region (base_of config region + memory (Top region)) s name top free) is
-    ∙ ap (λ n. made_by_stores memory mutator region (base_of config region + memory (Top region)) (request_shape_in (memory (Wait mutator))) n top free) named
-    ∙ ap (λ k. made_by_stores memory mutator region (base_of config region + memory (Top region)) (request_shape_in (memory (Wait mutator))) (name_code (mutator + 1) (request_count_in (memory (Wait mutator)))) k free) top_is
-    ∙ ap (λ k. made_by_stores memory mutator region (base_of config region + memory (Top region)) (request_shape_in (memory (Wait mutator))) (name_code (mutator + 1) (request_count_in (memory (Wait mutator))))
-    (memory (Top region) + object_words (request_shape_in (memory (Wait mutator)))) k) taken
-    ∙ fun_ext (λ w. made_at config memory mutator region w)
+    ap (λ address. made_by_stores memory mutator region address shape name top free) at
+    ∙ ap (λ shape. made_by_stores memory mutator region (base_of config region + memory (Top region)) shape name top free) is
+    ∙ ap (λ name. made_by_stores memory mutator region (base_of config region + memory (Top region)) (request_shape_in (memory (Wait mutator))) name top free) named
+    ∙ ap (λ top. made_by_stores memory mutator region (base_of config region + memory (Top region)) (request_shape_in (memory (Wait mutator))) (name_code (mutator + 1) (request_count_in (memory (Wait mutator)))) top free) top_is
+    ∙ ap (λ free. made_by_stores memory mutator region (base_of config region + memory (Top region)) (request_shape_in (memory (Wait mutator))) (name_code (mutator + 1) (request_count_in (memory (Wait mutator))))
+    (memory (Top region) + object_words (request_shape_in (memory (Wait mutator)))) free) taken
+    ∙ fun_ext (λ word. made_at config memory mutator region word)

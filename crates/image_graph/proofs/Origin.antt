@@ -42,22 +42,22 @@ origin_is place kept p (suc e) a is = ⊎_elim
 
 -- and what is placed there is found
 pub origin_found : (place kept : ℕ → ℕ) → PlacesApart place kept → (e a : ℕ) → 0 < kept a → a < e → origin place kept (place a) e ≡ Some a
-origin_found place kept apart zero a some below = absurd (omega (arith, below))
-origin_found place kept apart (suc e) a some below = ⊎_elim
+origin_found place kept apart zero a positive below = absurd (omega (arith, below))
+origin_found place kept apart (suc e) a positive below = ⊎_elim
     (λ (here : (nat_lt 0 (kept e) && (place e == place a)) ≡ true).
     let parts = and_parts (nat_lt 0 (kept e)) (place e == place a) here in
-    let same = places_differ place kept apart e a (ltb-true 0 (kept e) parts.0) some (eqb-true (place e) (place a) parts.1) in
+    let same = places_differ place kept apart e a (ltb-true 0 (kept e) parts.0) positive (eqb-true (place e) (place a) parts.1) in
     origin_next place kept (place a) e
     ∙ cond-true (nat_lt 0 (kept e) && (place e == place a)) (Some e) (origin place kept (place a) e) here ∙ ap Some same)
     (λ (other : (nat_lt 0 (kept e) && (place e == place a)) ≡ false).
     let differs : a ≢ e = λ same.
-    let begins : 0 < kept e = subst (λ k. 0 < kept k) same some in
+    let begins : 0 < kept e = subst (λ k. 0 < kept k) same positive in
     let test = and_from (nat_lt 0 (kept e)) (place e == place a) (lt-ltb 0 (kept e) begins) (eq-eqb (place e) (place a) (ap place (sym same))) in
     true≢false (sym test ∙ other)
     in
     origin_next place kept (place a) e
     ∙ cond-false (nat_lt 0 (kept e) && (place e == place a)) (Some e) (origin place kept (place a) e) other
-    ∙ origin_found place kept apart e a some (omega (arith, below, differs)))
+    ∙ origin_found place kept apart e a positive (omega (arith, below, differs)))
     (cases_Bool (nat_lt 0 (kept e) && (place e == place a)))
 
 -- a piece that was made to fill
@@ -68,8 +68,8 @@ from_left (Some other_piece) piece is = (other_piece, refl, same_Some (left_piec
 module _ (config : Config) (top heap : ℕ → ℕ) (block : Plot) (object : Name → Option Object) (now kept : ℕ → ℕ) (can : CanPack config top heap block object now kept) where
   -- a kept object lies in the heap
   pub kept_inside : (a : ℕ) → 0 < kept a → (config.region_words ≤ a) × (a + kept a ≤ heap_end config)
-  kept_inside a some =
-      let at = can.things a some in
+  kept_inside a positive =
+      let at = can.things a positive in
       let inside = piece_inside config top block can.plotted a (thing at.0 at.1 at.2) at.3 in
       (inside.0, omega (arith, inside.1, at.4))
 
@@ -97,9 +97,9 @@ module _ (config : Config) (top heap : ℕ → ℕ) (block : Plot) (object : Nam
 
   -- in at most 64 regions
   pub kept_low : (a : ℕ) → 0 < kept a → a < 65 * config.region_words
-  kept_low a some =
+  kept_low a positive =
       let rows = mul-le (config.regions + 1) config.region_words 65 config.region_words (omega (arith, config.in_range.most_regions)) (omega arith) in
-      omega (arith, rows, (kept_inside a some).1, some)
+      omega (arith, rows, (kept_inside a positive).1, positive)
 
   module _ (shut : ℕ → Bool) where
     abbrev place : ℕ → ℕ
@@ -113,7 +113,7 @@ module _ (config : Config) (top heap : ℕ → ℕ) (block : Plot) (object : Nam
 
     -- a new place is in a region of the kind that the object was in
     pub kind : (a : ℕ) → 0 < kept a → shut (place a / config.region_words) ≡ shut (a / config.region_words)
-    kind a some = same_kind config.region_words shut kept lie_apart kept_low a some
+    kind a positive = same_kind config.region_words shut kept lie_apart kept_low a positive
 
     -- what stands in a region that is shut, and in one that is not
     abbrev stayed : ℕ → Option Block
@@ -130,19 +130,19 @@ module _ (config : Config) (top heap : ℕ → ℕ) (block : Plot) (object : Nam
 
     -- at the new place of a kept object is its piece
     pub block_at : (address : ℕ) → 0 < kept address → new_block (place address) ≡ block address
-    block_at address some =
+    block_at address positive =
         let row : shut (region_with config (place address) + 1) ≡ shut (address / config.region_words) =
-        ap shut (row_above config (place address) (stays_above config.region_words shut kept lie_apart address some)) ∙ kind address some in
+        ap shut (row_above config (place address) (stays_above config.region_words shut kept lie_apart address positive)) ∙ kind address positive in
         ⊎_elim
         (λ (closed : shut (address / config.region_words) ≡ true).
         let stays : place address ≡ address = new_shut config.region_words shut kept address closed in
         let size : kept (place address) ≡ kept address = ap kept stays in
         in_shut (place address) (row ∙ closed)
-        ∙ cond-false (kept (place address) == 0) (option_map left_piece (block (place address))) (block (place address)) (ne_eqb (kept (place address)) 0 (λ none. omega (arith, none, size, some)))
+        ∙ cond-false (kept (place address) == 0) (option_map left_piece (block (place address))) (block (place address)) (ne_eqb (kept (place address)) 0 (λ none. omega (arith, none, size, positive)))
         ∙ ap block stays)
         (λ (opened : shut (address / config.region_words) ≡ false).
-        let inside = kept_inside address some in
-        in_open (place address) (row ∙ opened) ∙ ap (option_and_then block) (origin_found place kept places (heap_end config) address some (omega (arith, inside.1, some))))
+        let inside = kept_inside address positive in
+        in_open (place address) (row ∙ opened) ∙ ap (option_and_then block) (origin_found place kept places (heap_end config) address positive (omega (arith, inside.1, positive))))
         (cases_Bool (shut (address / config.region_words)))
 
     -- an old piece of a shut region leaves a piece there
@@ -162,17 +162,17 @@ module _ (config : Config) (top heap : ℕ → ℕ) (block : Plot) (object : Nam
     IsLeft address piece = (other_piece : Block) × (shut (address / config.region_words) ≡ true) × (kept address ≡ 0) × (block address ≡ Some other_piece) × (left_piece other_piece ≡ piece)
 
     -- a kept object's piece has its words
-    kept_words : (address : ℕ) (b : Block) → 0 < kept address → block address ≡ Some b → words_of b ≡ kept address
-    kept_words address b some found =
-        let piece = can.things address some in
+    kept_words : (address : ℕ) (piece : Block) → 0 < kept address → block address ≡ Some piece → words_of piece ≡ kept address
+    kept_words address b positive found =
+        let piece = can.things address positive in
         let same : thing piece.0 piece.1 piece.2 ≡ b = same_Some (thing piece.0 piece.1 piece.2) b (sym piece.3 ∙ found) in
         ap words_of (sym same) ∙ sym piece.4
 
-    from_origin : (p : ℕ) (piece : Block) (o : Option ℕ) → origin place kept p (heap_end config) ≡ o → option_and_then block o ≡ Some piece → IsFrom p piece
+    from_origin : (p : ℕ) (piece : Block) (found : Option ℕ) → origin place kept p (heap_end config) ≡ found → option_and_then block found ≡ Some piece → IsFrom p piece
     from_origin p piece None is found = absurd (none-some piece found)
-    from_origin p piece (Some a) is found =
-        let at = origin_is place kept p (heap_end config) a is in
-        (a, at.0, at.1, at.2, found, kept_words a piece at.0 found)
+    from_origin p piece (Some address) is found =
+        let at = origin_is place kept p (heap_end config) address is in
+        (address, at.0, at.1, at.2, found, kept_words address piece at.0 found)
 
     from_stayed : (address : ℕ) (piece : Block) → shut (region_with config address + 1) ≡ true → stayed address ≡ Some piece → IsFrom address piece ⊎ IsLeft address piece
     from_stayed address piece closed found = ⊎_elim

@@ -10,7 +10,7 @@ use Rattle.heap_words.specs.Words.{Top, word_at, table_words, heap_size, heap_st
 use Rattle.regions.specs.Tops.{top_before}
 use Rattle.regions.specs.Slide.{IsSlidTo, renewed}
 use Rattle.regions.specs.Table.{word_of, kept_of, place_of, now_of, LeadsToKept, IsRenewedBy}
-use Rattle.image_graph.specs.Pack.{IsPacked}
+use Rattle.image_graph.specs.PackedTable.{IsPacked}
 
 -- what stands behind a front of a list
 drop_front : (xs ys : List ℕ) (n : ℕ) → length xs ≡ n → drop n (xs ++ ys) ≡ ys
@@ -88,7 +88,7 @@ module _ (config : Config) (marks : List Bool) (before low heap behind tops afte
       let part : between top (top + config.regions) front ≡ tops =
       between-put_mid top config.regions low tops (top + config.regions) (omega (arith, low_long)) (omega (arith, few)) in
       let at : word_at config (Top region) ≡ top + region = omega arith in
-      ap (λ k. get_or after k 0) at
+      ap (λ index. get_or after index 0) at
       ∙ front_word (top + region) (omega (arith, inside))
       ∙ sym (get_or-between front top (top + config.regions) region 0 (omega (arith, inside)))
       ∙ ap (λ xs. get_or xs region 0) part
@@ -103,53 +103,53 @@ module _ (config : Config) (marks : List Bool) (before low heap behind tops afte
   other_word index below (inr behind) =
       let here : index + 0 ≡ index = omega arith in
       front_word index below
-      ∙ ap (λ i. get_or front i 0) (sym here)
+      ∙ ap (λ index. get_or front index 0) (sym here)
       ∙ sym (get_or-drop index front 0 0)
       ∙ ap (λ xs. get_or xs 0 0) (drop-put_mid top config.regions low tops index behind (omega (arith, low_long)) few)
       ∙ get_or-drop index low 0 0
-      ∙ ap (λ i. get_or low i 0) here
+      ∙ ap (λ index. get_or low index 0) here
       ∙ low_word index below
 
   -- what stands behind the heap
   behind_word : (index : ℕ) → heap_start config + heap_size config ≤ index → get_or after index 0 ≡ get_or before index 0
   behind_word index past =
       let start : heap_start config + (heap_size config + (index - heap_start config - heap_size config)) ≡ index = omega (arith, past) in
-      ap (λ i. get_or after i 0) (sym start)
+      ap (λ index. get_or after index 0) (sym start)
       ∙ sym (get_or-drop (heap_start config) after (heap_size config + (index - heap_start config - heap_size config)) 0)
       ∙ ap (λ xs. get_or xs (heap_size config + (index - heap_start config - heap_size config)) 0) (drop_front front (after_heap ++ behind) (heap_start config) front_long)
       ∙ sym (get_or-drop (heap_size config) (after_heap ++ behind) (index - heap_start config - heap_size config) 0)
       ∙ ap (λ xs. get_or xs (index - heap_start config - heap_size config) 0) (drop_front after_heap behind (heap_size config) (omega (arith, all, heap_long)) ∙ behind_is)
       ∙ get_or-drop (heap_size config) (drop (heap_start config) before) (index - heap_start config - heap_size config) 0
       ∙ get_or-drop (heap_start config) before (heap_size config + (index - heap_start config - heap_size config)) 0
-      ∙ ap (λ i. get_or before i 0) start
+      ∙ ap (λ index. get_or before index 0) start
 
   -- the tops as they were
   old_top : (region : ℕ) → region < config.regions → get_or (between top (top + config.regions) low) region 0 ≡ get_or before (word_at config (Top region)) 0
   old_top region inside =
       let at : top + region ≡ word_at config (Top region) = omega arith in
-      get_or-between low top (top + config.regions) region 0 (omega (arith, inside)) ∙ low_word (top + region) (omega (arith, inside)) ∙ ap (λ k. get_or before k 0) at
+      get_or-between low top (top + config.regions) region 0 (omega (arith, inside)) ∙ low_word (top + region) (omega (arith, inside)) ∙ ap (λ index. get_or before index 0) at
 
   -- what packing the slices says, of the table
-  pub packed_from : (shut : ℕ → Bool) (w : ℕ) (old_tops : List ℕ) → w ≡ config.region_words
-      → IsSlidTo (w + length heap) w (place_of w shut heap marks) (kept_of w heap marks) (renewed (place_of w shut heap marks) (now_of w heap)) (word_of w heap) (word_of w after_heap)
-      → ((index : ℕ) → index < length tops → slice_index tops index ≡ cond (shut (index + 1)) (slice_index old_tops index) (top_before w shut (kept_of w heap marks) index (w + length heap)))
-      → ((word : ℕ) → LeadsToKept w heap marks word → IsRenewedBy w shut heap marks places word)
+  pub packed_from : (shut : ℕ → Bool) (region_words : ℕ) (old_tops : List ℕ) → region_words ≡ config.region_words
+      → IsSlidTo (region_words + length heap) region_words (place_of region_words shut heap marks) (kept_of region_words heap marks) (renewed (place_of region_words shut heap marks) (now_of region_words heap)) (word_of region_words heap) (word_of region_words after_heap)
+      → ((index : ℕ) → index < length tops → slice_index tops index ≡ cond (shut (index + 1)) (slice_index old_tops index) (top_before region_words shut (kept_of region_words heap marks) index (region_words + length heap)))
+      → ((word : ℕ) → LeadsToKept region_words heap marks word → IsRenewedBy region_words shut heap marks places word)
       → old_tops ≡ between top (top + config.regions) low
       → IsPacked config shut marks before after places
-  packed_from shut w old_tops w_is slid tops_are renews old =
+  packed_from shut region_words old_tops w_is slid tops_are renews old =
       let Slid : ℕ → List ℕ → ℕ → List ℕ → Type 0 = λ v h n more. IsSlidTo (v + n) v (place_of v shut h marks) (kept_of v h marks) (renewed (place_of v shut h marks) (now_of v h)) (word_of v h) (word_of v more) in
       let Tops : ℕ → List ℕ → ℕ → Type 0 = λ v h n. (index : ℕ) → index < length tops → slice_index tops index ≡ cond (shut (index + 1)) (slice_index old_tops index) (top_before v shut (kept_of v h marks) index (v + n)) in
       let Renews : ℕ → List ℕ → Type 0 = λ v h. (word : ℕ) → LeadsToKept v h marks word → IsRenewedBy v shut h marks places word in
       let tops_now : Tops config.region_words (heap_in config before) (heap_size config) =
-      subst (λ v. Tops v (heap_in config before) (heap_size config)) w_is (subst (λ h. Tops w h (heap_size config)) heap_before (subst (λ n. Tops w heap n) heap_long tops_are)) in
+      subst (λ v. Tops v (heap_in config before) (heap_size config)) w_is (subst (λ h. Tops region_words h (heap_size config)) heap_before (subst (λ n. Tops region_words heap n) heap_long tops_are)) in
       record {
         slid = subst (λ v. Slid v (heap_in config before) (heap_size config) (heap_in config after)) w_is
-            (subst (λ more. Slid w (heap_in config before) (heap_size config) more) (sym heap_after)
-            (subst (λ h. Slid w h (heap_size config) after_heap) heap_before (subst (λ n. Slid w heap n after_heap) heap_long slid)));
+            (subst (λ more. Slid region_words (heap_in config before) (heap_size config) more) (sym heap_after)
+            (subst (λ h. Slid region_words h (heap_size config) after_heap) heap_before (subst (λ n. Slid region_words heap n after_heap) heap_long slid)));
         tops = λ index inside. top_word index inside ∙ tops_now index (omega (arith, inside, few))
             ∙ ap (λ k. cond (shut (index + 1)) k (top_before config.region_words shut (kept_of config.region_words (heap_in config before) marks) index (config.region_words + heap_size config)))
             (ap (λ (xs : List ℕ). get_or xs index 0) old ∙ old_top index inside);
         others = other_word;
         behind = behind_word;
-        renews = subst (λ v. Renews v (heap_in config before)) w_is (subst (λ h. Renews w h) heap_before renews);
+        renews = subst (λ v. Renews v (heap_in config before)) w_is (subst (λ h. Renews region_words h) heap_before renews);
       }

@@ -25,8 +25,8 @@ use Rattle.image_graph.proofs.Origin as origins
 module _ (config : Config) (memory : Word → ℕ) (block : Plot) (object : Name → Option Object) (now kept : ℕ → ℕ)
     (can : CanPack config (λ r. memory (Top r)) (λ a. memory (Heap a)) block object now kept) (shut : ℕ → Bool)
     (parsed : AreParsed config shut (λ r. memory (Top r)) (λ a. memory (Heap a)) block) where
-  abbrev w : ℕ
-  w = config.region_words
+  abbrev region_words : ℕ
+  region_words = config.region_words
 
   abbrev top : ℕ → ℕ
   top region = memory (Top region)
@@ -35,7 +35,7 @@ module _ (config : Config) (memory : Word → ℕ) (block : Plot) (object : Name
   heap address = memory (Heap address)
 
   abbrev place : ℕ → ℕ
-  place = new_place w shut kept
+  place = new_place region_words shut kept
 
   abbrev renew : ℕ → ℕ
   renew = renewed place now
@@ -55,7 +55,7 @@ module _ (config : Config) (memory : Word → ℕ) (block : Plot) (object : Name
   abbrev lie : LieApart config.region_words kept
   lie = origins.lie_apart config top heap block object now kept can
 
-  kind : (a : ℕ) → 0 < kept a → shut (place a / w) ≡ shut (a / w)
+  kind : (a : ℕ) → 0 < kept a → shut (place a / region_words) ≡ shut (a / region_words)
   kind = origins.kind config top heap block object now kept can shut
 
   -- whether an object is left over at an address
@@ -71,7 +71,7 @@ module _ (config : Config) (memory : Word → ℕ) (block : Plot) (object : Name
   after_moved address unmet = cond-false (is_left address) (filler_header (object_words (heap (address + 1)))) (moved_heap config shut now kept memory address) unmet
 
   -- a word of a kept object of a shut region at which something begins is its first one
-  first_word : (a i : ℕ) → i < kept a → shut (a / w) ≡ true → (b : Block) → block (a + i) ≡ Some b → i ≡ 0
+  first_word : (a i : ℕ) → i < kept a → shut (a / region_words) ≡ true → (piece : Block) → block (a + i) ≡ Some piece → i ≡ 0
   first_word a i within closed b is = ⊎_elim
       (λ (none : i ≡ 0). none)
       (λ (some : i ≢ 0).
@@ -85,15 +85,15 @@ module _ (config : Config) (memory : Word → ℕ) (block : Plot) (object : Name
   left_alone a i within =
       let x = place a + i in
       let begun : 0 < kept a = omega (arith, within) in
-      let low = stays_above w shut kept lie a begun in
+      let low = stays_above region_words shut kept lie a begun in
       let row = row_above config x (omega (arith, low)) in
-      let one = row_of_word w (place a) (kept a) x (stays_within w shut kept lie a begun) (omega arith) (omega (arith, within)) in
+      let one = row_of_word region_words (place a) (kept a) x (stays_within region_words shut kept lie a begun) (omega arith) (omega (arith, within)) in
       ⊎_elim
       (λ (closed : shut (region_with config x + 1) ≡ true). ⊎_elim
       (λ (met : begins config memory x ≡ true).
-      let there : shut (x / w) ≡ true = ap shut (sym row) ∙ closed in
-      let old : shut (a / w) ≡ true = sym (kind a begun) ∙ ap shut (sym one) ∙ there in
-      let stays : place a ≡ a = new_shut w shut kept a old in
+      let there : shut (x / region_words) ≡ true = ap shut (sym row) ∙ closed in
+      let old : shut (a / region_words) ≡ true = sym (kind a begun) ∙ ap shut (sym one) ∙ there in
+      let stays : place a ≡ a = new_shut region_words shut kept a old in
       let at : x ≡ a + i = ap (λ k. k + i) stays in
       let piece = begins_piece config shut memory block can.plotted parsed x there met in
       let start = first_word a i within old piece.0 (ap block (sym at) ∙ piece.1) in
@@ -108,21 +108,21 @@ module _ (config : Config) (memory : Word → ℕ) (block : Plot) (object : Name
       (cases_Bool (shut (region_with config x + 1)))
 
   -- so these are the words of the object
-  pub placed_words : (address i : ℕ) → i < kept address → after (place address + i) ≡ slid_word renew heap address i
-  placed_words address i within =
+  pub placed_words : (address index : ℕ) → index < kept address → after (place address + index) ≡ slid_word renew heap address index
+  placed_words address index within =
       let inside = origins.kept_inside config top heap block object now kept can address (omega (arith, within)) in
-      after_moved (place address + i) (left_alone address i within)
-      ∙ (slid_is place kept renew heap (origins.places config top heap block object now kept can shut) 0 (heap_end config)).moved address i (omega (arith, inside.1, within)) within
+      after_moved (place address + index) (left_alone address index within)
+      ∙ (slid_is place kept renew heap (origins.places config top heap block object now kept can shut) 0 (heap_end config)).moved address index (omega (arith, inside.1, within)) within
 
   -- the first word of another piece of a shut region is in no new place
-  uncovered : (address : ℕ) (piece : Block) → shut (address / w) ≡ true → kept address ≡ 0 → block address ≡ Some piece → slid place kept renew heap (heap_end config) address ≡ heap address
+  uncovered : (address : ℕ) (piece : Block) → shut (address / region_words) ≡ true → kept address ≡ 0 → block address ≡ Some piece → slid place kept renew heap (heap_end config) address ≡ heap address
   uncovered address piece closed none is =
       (slid_is place kept renew heap (origins.places config top heap block object now kept can shut) 0 (heap_end config)).others address (omega arith)
       (λ b i below inside same.
       let begun : 0 < kept b = omega (arith, inside) in
-      let one = row_of_word w (place b) (kept b) address (stays_within w shut kept lie b begun) (omega (arith, same)) (omega (arith, same, inside)) in
-      let old : shut (b / w) ≡ true = sym (kind b begun) ∙ ap shut (sym one) ∙ closed in
-      let stays : place b ≡ b = new_shut w shut kept b old in
+      let one = row_of_word region_words (place b) (kept b) address (stays_within region_words shut kept lie b begun) (omega (arith, same)) (omega (arith, same, inside)) in
+      let old : shut (b / region_words) ≡ true = sym (kind b begun) ∙ ap shut (sym one) ∙ closed in
+      let stays : place b ≡ b = new_shut region_words shut kept b old in
       let at : address ≡ b + i = omega (arith, same, stays) in
       let start = first_word b i inside old piece (ap block (sym at) ∙ is) in
       let size : kept address ≡ kept b = ap kept {x = address} {y = b} (omega (arith, at, start)) in

@@ -1,11 +1,10 @@
 -- A row is shut where a pin slot holds an address there, and only there.
-use Rattle.std.proofs.Common.{◌≡◌, ℕ, ◌+◌, ◌-◌, ◌*◌, ◌/◌, ◌<◌, ◌≤◌, ◌==◌, nat_le, nat_lt, Bool, true, zero, suc, length, get_or, ⊎_elim, sym, ap, ◌∙◌, arith}
+use Rattle.std.proofs.Common.{◌≡◌, ℕ, ◌+◌, ◌-◌, ◌*◌, ◌/◌, ◌<◌, ◌≤◌, ◌==◌, nat_le, nat_lt, Bool, true, zero, suc, ⊎_elim, sym, ap, ◌∙◌, arith}
 use Rattle.std.specs.List.{range_with_len, list_any}
 use Rattle.std.specs.Int.{bit_at}
 use Rattle.std.proofs.lemmas.Bool.{cases_lt, and_parts, and_from, or_cases, leb-true, ltb-true, eqb-true, le-leb, lt-ltb, eq-eqb, false≢true}
 use Rattle.std.proofs.lemmas.Nat.{div-add-mod', mod_below, mul-le}
-use Rattle.std.proofs.lemmas.List.FromFn.{length-range_with_len, get_or-range_with_len}
-use Rattle.std.proofs.lemmas.List.Folds.{list_any_at}
+use Rattle.shen_graph.proofs.Lists.{any_from_zero}
 use Rattle.heap_words.specs.declared.config.Config.{Config}
 use Rattle.heap_words.specs.Words.{Word, Pin}
 use Rattle.regions.specs.Place.{base_of, region_with}
@@ -23,21 +22,14 @@ any_in_range test first (suc n) is = ⊎_elim
     (at.0, omega (arith, at.1), omega (arith, at.2), at.3))
     (or_cases (test first) (list_any test (range_with_len (first + 1) n)) is)
 
--- and any does where one does
-pub range_has_any : (test : ℕ → Bool) (n index : ℕ) → index < n → test index ≡ true → list_any test (range_with_len 0 n) ≡ true
-range_has_any test n index below met =
-    let within : index < length (range_with_len 0 n) = omega (arith, below, length-range_with_len 0 n) in
-    let read : get_or (range_with_len 0 n) index 0 ≡ index = omega (arith, get_or-range_with_len 0 n index 0 below) in
-    list_any_at test (range_with_len 0 n) index 0 within (ap test read ∙ met)
-
 module _ (config : Config) (memory : Word → ℕ) where
   -- the region of an address that a slot holds is pinned
   pub pins_region : (region mutator index : ℕ) → mutator < config.mutators → index < 4 → base_of config region ≤ memory (Pin mutator index) → memory (Pin mutator index) < base_of config region + config.region_words → is_pinned config memory region ≡ true
-  pins_region region mutator index inside few low high =
+  pins_region region mutator index inside below low high =
       let lies : lies_in config region (memory (Pin mutator index)) ≡ true =
       and_from (nat_le (base_of config region) (memory (Pin mutator index))) (nat_lt (memory (Pin mutator index)) (base_of config region + config.region_words))
       (le-leb (base_of config region) (memory (Pin mutator index)) low) (lt-ltb (memory (Pin mutator index)) (base_of config region + config.region_words) high) in
-      range_has_any (has_pin config memory region) config.mutators mutator inside (range_has_any (λ k. lies_in config region (memory (Pin mutator k))) 4 index few lies)
+      any_from_zero (has_pin config memory region) config.mutators mutator inside (any_from_zero (λ slot. lies_in config region (memory (Pin mutator slot))) 4 index below lies)
 
   -- so is its row shut
   pub row_pinned : (region : ℕ) → region < config.regions → is_pinned config memory region ≡ true → is_row_pinned config memory (region + 1) ≡ true
@@ -66,14 +58,14 @@ module _ (config : Config) (memory : Word → ℕ) where
 
   -- and a row of the heap that is shut has such a slot
   pub has_slot : (region : ℕ) → region < config.regions → is_row_pinned config memory (region + 1) ≡ true
-      → (t : ℕ) × (i : ℕ) × (t < config.mutators) × (i < 4) × (base_of config region ≤ memory (Pin t i)) × (memory (Pin t i) < base_of config region + config.region_words)
+      → (mutator : ℕ) × (slot : ℕ) × (mutator < config.mutators) × (slot < 4) × (base_of config region ≤ memory (Pin mutator slot)) × (memory (Pin mutator slot) < base_of config region + config.region_words)
   has_slot region inside shut =
       let set = pinned_set config memory in
       let back : region + 1 - 1 ≡ region = omega arith in
       let bit = eqb-true (bit_at set (region + 1 - 1)) 1 (and_parts (nat_le (region + 1) 64) (bit_at set (region + 1 - 1) == 1) shut).1 in
       let pinned = set_is (is_pinned config memory) config.regions region inside (ap (bit_at set) (sym back) ∙ bit) in
       let t = any_in_range (has_pin config memory region) 0 config.mutators pinned in
-      let i = any_in_range (λ k. lies_in config region (memory (Pin t.0 k))) 0 4 t.3 in
+      let i = any_in_range (λ slot. lies_in config region (memory (Pin t.0 slot))) 0 4 t.3 in
       let word = memory (Pin t.0 i.0) in
       let lies = and_parts (nat_le (base_of config region) word) (nat_lt word (base_of config region + config.region_words)) i.3 in
       (t.0, i.0, omega (arith, t.2), omega (arith, i.2), leb-true (base_of config region) word lies.0, ltb-true word (base_of config region + config.region_words) lies.1)

@@ -15,12 +15,12 @@ use Rattle.heap_world.specs.World.{Plot}
 use Rattle.image_graph.specs.Held.{IsLedTo, AreHeldKept, HoldsGraph}
 use Rattle.image_graph.specs.Promised.{Promises, with_promised, AreFresh, words_if, promised_words}
 use Rattle.image_graph.proofs.Live.{KeptOne, kept_one, one_name}
-use Rattle.image_graph.proofs.Rooted.{IsPromisedRoot, IsPinRoot, root_cases}
+use Rattle.image_graph.proofs.PromisedRoots.{IsPromisedRoot, IsPinRoot, root_cases}
 
 -- two references that are a name's are one
 pub same_reference-true : (reference : Reference) (name : Name) → same_reference reference (Some name) ≡ true → reference ≡ Some name
 same_reference-true None name is = absurd (false≢true is)
-same_reference-true (Some m) name is = ap Some (same_name-true m name is)
+same_reference-true (Some other_name) name is = ap Some (same_name-true other_name name is)
 
 -- a blank object has no reference but null
 blank_leads_nowhere : (refs field : ℕ) (name : Name) → slice_get (replicate refs None) field ≡ Some (Some name) → ⊥
@@ -56,21 +56,21 @@ module _ (threads : ℕ) (graph : Graph) (promises : Promises) (fresh : AreFresh
 
   -- the graph with the promised objects reaches what the graph reaches, and what is promised
   pub reaches_promised : (name : Name) → IsReachable more name → IsReachable graph name ⊎ IsPromised name
-  reaches_promised name (reach.from_root t i _ is) = ⊎_elim
-      (λ (extra : IsPromisedRoot graph promises t i name). inr (t, extra.1))
-      (λ (other : IsPinRoot graph promises t i name ⊎ (graph.root t i ≡ Some name)). ⊎_elim
-      (λ (pin : IsPinRoot graph promises t i name). inl (subst (IsReachable graph) pin.4 (reach.from_pin t (i - 17) pin.2 pin.3)))
-      (λ (plain : graph.root t i ≡ Some name). inl (reach.from_root t i name plain))
+  reaches_promised name (reach.from_root thread root _ is) = ⊎_elim
+      (λ (extra : IsPromisedRoot graph promises thread root name). inr (thread, extra.1))
+      (λ (other : IsPinRoot graph promises thread root name ⊎ (graph.root thread root ≡ Some name)). ⊎_elim
+      (λ (pin : IsPinRoot graph promises thread root name). inl (subst (IsReachable graph) pin.4 (reach.from_pin thread (root - 17) pin.2 pin.3)))
+      (λ (plain : graph.root thread root ≡ Some name). inl (reach.from_root thread root name plain))
       other)
-      (root_cases graph promises t i name is)
-  reaches_promised _ (reach.from_pin t slot held is) = absurd (none-some held is)
-  reaches_promised name (reach.from_field m _ field reached is) = ⊎_elim
-      (λ (old : IsReachable graph m). inl (reach.from_field m name field old (sym (ap (λ (object : Object). slice_get object.refs field) (old_object m old)) ∙ is)))
-      (λ (new : IsPromised m).
-      let own : m.thread ≡ new.0 = fresh.own new.0 m new.1 in
-      let blank_is = promised_object m (ap promises.ref own ∙ new.1) in
-      absurd (blank_leads_nowhere (promises.refs m.thread) field name (sym (ap (λ (object : Object). slice_get object.refs field) blank_is) ∙ is)))
-      (reaches_promised m reached)
+      (root_cases graph promises thread root name is)
+  reaches_promised _ (reach.from_pin thread slot held is) = absurd (none-some held is)
+  reaches_promised name (reach.from_field other_name _ field reached is) = ⊎_elim
+      (λ (old : IsReachable graph other_name). inl (reach.from_field other_name name field old (sym (ap (λ (object : Object). slice_get object.refs field) (old_object other_name old)) ∙ is)))
+      (λ (new : IsPromised other_name).
+      let own : other_name.thread ≡ new.0 = fresh.own new.0 other_name new.1 in
+      let blank_is = promised_object other_name (ap promises.ref own ∙ new.1) in
+      absurd (blank_leads_nowhere (promises.refs other_name.thread) field name (sym (ap (λ (object : Object). slice_get object.refs field) blank_is) ∙ is)))
+      (reaches_promised other_name reached)
 
 module _ (config : Config) (top heap : ℕ → ℕ) (block : Plot) (now kept : ℕ → ℕ) (IsRoot : ℕ → Type 0) (graph : Graph) (promises : Promises)
     (holds : HoldsGraph config top heap block now IsRoot (with_promised graph promises)) (are : AreHeldKept heap (IsLedTo now heap IsRoot) kept)
@@ -125,7 +125,7 @@ module _ (config : Config) (top heap : ℕ → ℕ) (block : Plot) (now kept : �
   one_place : (other_index index : ℕ) (name other_name : Name) → IsOf other_index name → IsOf index other_name → other_index ≡ index → name ≡ other_name
   one_place other_index index name other_name of_n of_m same = ⊎_elim
       (λ (one : (other_index < count) × (get_or names other_index hub ≡ name)). ⊎_elim
-      (λ (other : (index < count) × (get_or names index hub ≡ other_name)). sym one.1 ∙ ap (λ i. get_or names i hub) same ∙ other.1)
+      (λ (other : (index < count) × (get_or names index hub ≡ other_name)). sym one.1 ∙ ap (λ index. get_or names index hub) same ∙ other.1)
       (λ (other : (count ≤ index) × (promises.ref (index - count) ≡ Some other_name)). absurd (omega (arith, one.0, other.0, same)))
       of_m)
       (λ (one : (count ≤ other_index) × (promises.ref (other_index - count) ≡ Some name)). ⊎_elim

@@ -15,10 +15,10 @@ use Rattle.image_graph.specs.Packing.{CanPack}
 
 -- a shape word reads as what it was made of
 pub refs_read : (refs nums : ℕ) → refs ≤ 16 → nums ≤ 16 → refs_in (shape_word refs nums) ≡ refs
-refs_read refs nums few less = omega (arith, few, less)
+refs_read refs nums at_most less = omega (arith, at_most, less)
 
 pub words_read : (refs nums : ℕ) → refs ≤ 16 → nums ≤ 16 → object_words (shape_word refs nums) ≡ 3 + refs + nums
-words_read refs nums few less = omega (arith, few, less)
+words_read refs nums at_most less = omega (arith, at_most, less)
 
 -- no piece is at 0
 pub none_at_0 : (config : Config) (top : ℕ → ℕ) (block : Plot) → IsPlotted config top block → (word : ℕ) (name : Name) → name_at (block word) ≡ Some name → word ≢ 0
@@ -41,33 +41,33 @@ module _ (config : Config) (top heap : ℕ → ℕ) (block : Plot) (now : ℕ �
       let root = holds.root_named word is other in
       let copy = holds.current word root.2 root.4 in
       (root.2, copy.0, copy.1, copy.2, reach.from_root root.0 root.1 root.2 root.3)
-  held_is_reached _ (from_field address i held few other) =
+  held_is_reached _ (from_field address other_field held few other) =
       let at = held_is_reached address held in
       let object = holds.each address at.1 at.2 at.0 held at.3 in
       let is = object.2 in
       let shape : refs_in (heap (address + 1)) ≡ at.1 = ap refs_in is.shape ∙ refs_read at.1 at.2 is.few_refs is.few_nums in
-      let r : Reference = get_or object.0.refs i None in
-      let there : slice_get object.0.refs i ≡ Some r = slice_get-get_or object.0.refs i None (omega (arith, few, shape, is.refs_are)) in
-      let to = named_if_not_0 config top block holds.plotted (heap (address + 3 + i)) r (is.references i r there) other in
-      let copy = holds.current (heap (address + 3 + i)) to.0 to.2 in
-      let field : slice_get (named graph (Some at.0)).refs i ≡ Some (Some to.0) = ap (λ (object : Object). slice_get object.refs i) (named_object graph at.0 object.0 object.1) ∙ there ∙ ap Some to.1 in
-      (to.0, copy.0, copy.1, copy.2, reach.from_field at.0 to.0 i at.4 field)
+      let reference : Reference = get_or object.0.refs other_field None in
+      let there : slice_get object.0.refs other_field ≡ Some reference = slice_get-get_or object.0.refs other_field None (omega (arith, few, shape, is.refs_are)) in
+      let to = named_if_not_0 config top block holds.plotted (heap (address + 3 + other_field)) reference (is.references other_field reference there) other in
+      let copy = holds.current (heap (address + 3 + other_field)) to.0 to.2 in
+      let field : slice_get (named graph (Some at.0)).refs other_field ≡ Some (Some to.0) = ap (λ (object : Object). slice_get object.refs other_field) (named_object graph at.0 object.0 object.1) ∙ there ∙ ap Some to.1 in
+      (to.0, copy.0, copy.1, copy.2, reach.from_field at.0 to.0 other_field at.4 field)
 
   -- an object that the graph reaches, held
   abbrev HasHeld : Name → Type 0
   HasHeld name = (address : ℕ) × (refs : ℕ) × (nums : ℕ) × IsLedTo now heap IsRoot address × (block address ≡ Some (thing name refs nums))
 
   pub reached_is_held : (name : Name) → IsReachable graph name → HasHeld name
-  reached_is_held name (reach.from_root t i _ is) =
-      let root = holds.root_held t i name is in
+  reached_is_held name (reach.from_root thread other_root _ is) =
+      let root = holds.root_held thread other_root name is in
       let copy = holds.current root.0 name root.2 in
       (now root.0, copy.0, copy.1, from_root root.0 root.1 (none_at_0 config top block holds.plotted root.0 name root.2), copy.2)
-  reached_is_held _ (reach.from_pin t slot held is) = absurd (holds.pinless t slot held is)
-  reached_is_held name (reach.from_field m _ field reached is) =
-      let at = reached_is_held m reached in
-      let object = holds.each at.0 at.1 at.2 m at.3 at.4 in
+  reached_is_held _ (reach.from_pin thread slot held is) = absurd (holds.pinless thread slot held is)
+  reached_is_held name (reach.from_field other_name _ field reached is) =
+      let at = reached_is_held other_name reached in
+      let object = holds.each at.0 at.1 at.2 other_name at.3 at.4 in
       let facts = object.2 in
-      let there : slice_get object.0.refs field ≡ Some (Some name) = sym (ap (λ (object : Object). slice_get object.refs field) (named_object graph m object.0 object.1)) ∙ is in
+      let there : slice_get object.0.refs field ≡ Some (Some name) = sym (ap (λ (object : Object). slice_get object.refs field) (named_object graph other_name object.0 object.1)) ∙ is in
       let word = heap (at.0 + 3 + field) in
       let points : name_at (block word) ≡ Some name = facts.references field (Some name) there in
       let shape : refs_in (heap (at.0 + 1)) ≡ at.1 = ap refs_in facts.shape ∙ refs_read at.1 at.2 facts.few_refs facts.few_nums in

@@ -2,12 +2,12 @@
 use Rattle.std.proofs.Common.{◌≡◌, ℕ, refl}
 use Rattle.std.proofs.Math.Path.{fun_ext}
 use Rattle.heap_words.specs.Words.{Word, Pause, Left, End, State, Phase, Cset, Free, Evac, Claim, Ask, Top, Tams, Limit, Current, Root, Count, Buffer, Wait, Answer, Grey, Black, Heap, Share, Pin, write}
-use Rattle.heap_world.proofs.Updates.{updated}
+use Rattle.heap_world.proofs.FunctionUpdates.{updated}
 
 -- the memory
 abbrev pub refitted : (Word → ℕ) → (top heap current : ℕ → ℕ) → Word → ℕ
-refitted memory top heap current (Top r) = top r
-refitted memory top heap current (Heap a) = heap a
+refitted memory top heap current (Top region) = top region
+refitted memory top heap current (Heap address) = heap address
 refitted memory top heap current (Current seat) = current seat
 refitted memory top heap current word = memory word
 
@@ -23,10 +23,10 @@ module _ (memory : Word → ℕ) where
   currents_of seat = memory (Current seat)
 
   -- with these it is the same
-  pub refit_same : memory ≡ refitted memory (λ r. memory (Top r)) (λ a. memory (Heap a)) (λ seat. memory (Current seat))
+  pub refit_same : memory ≡ refitted memory (λ region. memory (Top region)) (λ address. memory (Heap address)) (λ seat. memory (Current seat))
   refit_same = fun_ext by_word
     where
-      by_word : (word : Word) → memory word ≡ refitted memory (λ r. memory (Top r)) (λ a. memory (Heap a)) (λ seat. memory (Current seat)) word
+      by_word : (word : Word) → memory word ≡ refitted memory (λ region. memory (Top region)) (λ address. memory (Heap address)) (λ seat. memory (Current seat)) word
       by_word Pause = refl
       by_word Left = refl
       by_word End = refl
@@ -84,10 +84,10 @@ module _ (memory : Word → ℕ) where
         by_word (Pin t i) = refl
 
     -- a word of it is written
-    pub refit_heap : (at value : ℕ) → write (refitted memory top heap current) (Heap at) value ≡ refitted memory top (updated heap at value) current
-    refit_heap at value = fun_ext by_word
+    pub refit_heap : (address value : ℕ) → write (refitted memory top heap current) (Heap address) value ≡ refitted memory top (updated heap address value) current
+    refit_heap address value = fun_ext by_word
       where
-        by_word : (word : Word) → write (refitted memory top heap current) (Heap at) value word ≡ refitted memory top (updated heap at value) current word
+        by_word : (word : Word) → write (refitted memory top heap current) (Heap address) value word ≡ refitted memory top (updated heap address value) current word
         by_word Pause = refl
         by_word Left = refl
         by_word End = refl
@@ -113,10 +113,10 @@ module _ (memory : Word → ℕ) where
         by_word Share = refl
         by_word (Pin t i) = refl
 
-    pub refit_top : (at value : ℕ) → write (refitted memory top heap current) (Top at) value ≡ refitted memory (updated top at value) heap current
-    refit_top at value = fun_ext by_word
+    pub refit_top : (region value : ℕ) → write (refitted memory top heap current) (Top region) value ≡ refitted memory (updated top region value) heap current
+    refit_top region value = fun_ext by_word
       where
-        by_word : (word : Word) → write (refitted memory top heap current) (Top at) value word ≡ refitted memory (updated top at value) heap current word
+        by_word : (word : Word) → write (refitted memory top heap current) (Top region) value word ≡ refitted memory (updated top region value) heap current word
         by_word Pause = refl
         by_word Left = refl
         by_word End = refl
@@ -142,7 +142,7 @@ module _ (memory : Word → ℕ) where
         by_word Share = refl
         by_word (Pin t i) = refl
 
-    pub refit_current : (at value : ℕ) → write (refitted memory top heap current) (Current at) value ≡ refitted memory top heap (updated current at value)
+    pub refit_current : (seat value : ℕ) → write (refitted memory top heap current) (Current seat) value ≡ refitted memory top heap (updated current seat value)
     refit_current at value = fun_ext by_word
       where
         by_word : (word : Word) → write (refitted memory top heap current) (Current at) value word ≡ refitted memory top heap (updated current at value) word

@@ -17,8 +17,8 @@ use Rattle.image_graph.specs.Make.{AreInHeap, AreWithin}
 none_fits : (config : Config) (memory : Word → ℕ) (tops : List ℕ) (words below : ℕ) → below ≤ config.regions
     → ((region : ℕ) → region < config.regions → slice_index tops region ≡ memory (Top region)) → AreWithin config memory
     → EachHasLess config tops 0 words below → (region : ℕ) → region < below → config.region_words < memory (Top region) + words
-none_fits config memory tops words below few is within less region lower =
-    omega (arith, is region (omega (arith, lower, few)), within region (omega (arith, lower, few)), less region lower (bit_at-zero region))
+none_fits config memory tops words below at_most is within less region lower =
+    omega (arith, is region (omega (arith, lower, at_most)), within region (omega (arith, lower, at_most)), less region lower (bit_at-zero region))
 
 pub room_found : (config : Config) (memory : Word → ℕ) (tops : List ℕ) (words : ℕ) (result : Option ℕ)
     → ((region : ℕ) → region < config.regions → slice_index tops region ≡ memory (Top region)) → AreWithin config memory
@@ -27,7 +27,7 @@ pub room_found : (config : Config) (memory : Word → ℕ) (tops : List ℕ) (wo
 room_found config memory tops words None is within none first =
     sym (all_full config.region_words (λ region. memory (Top region)) words config.regions (none_fits config memory tops words config.regions (omega arith) is within (none.0 refl)))
 room_found config memory tops words (Some region) is within none first =
-    sym (lowest_is config.region_words (λ q. memory (Top q)) words config.regions region (record {
+    sym (lowest_is config.region_words (λ region. memory (Top region)) words config.regions region (record {
       below = first.below;
       room = omega (arith, first.room, is region first.below, within region first.below);
       none_lower = none_fits config memory tops words region (omega (arith, first.below)) is within first.none_lower;
@@ -49,17 +49,17 @@ made_within config memory mutator region within room q below = ⊎_elim
     (cases_eq region q)
 
 -- what the answer for a request of a thread says
-pub found_room : (config : Config) (memory : Word → ℕ) (words asked r : ℕ) (result : Option ℕ) → result ≡ lowest_room config.region_words (λ q. memory (Top q)) words config.regions
-    → words ≡ asked → result ≡ Some r → IsLowestRoom config.region_words (λ q. memory (Top q)) asked config.regions r
+pub found_room : (config : Config) (memory : Word → ℕ) (words asked r : ℕ) (result : Option ℕ) → result ≡ lowest_room config.region_words (λ region. memory (Top region)) words config.regions
+    → words ≡ asked → result ≡ Some r → IsLowestRoom config.region_words (λ region. memory (Top region)) asked config.regions r
 found_room config memory words asked r result is same found =
-    has_room config.region_words (λ q. memory (Top q)) asked config.regions r
-    (ap (λ n. lowest_room config.region_words (λ q. memory (Top q)) n config.regions) (sym same) ∙ sym is ∙ found)
+    has_room config.region_words (λ region. memory (Top region)) asked config.regions r
+    (ap (λ words. lowest_room config.region_words (λ region. memory (Top region)) words config.regions) (sym same) ∙ sym is ∙ found)
 
-pub found_none : (config : Config) (memory : Word → ℕ) (words asked : ℕ) (result : Option ℕ) → result ≡ lowest_room config.region_words (λ q. memory (Top q)) words config.regions
-    → words ≡ asked → result ≡ None → NoneHasRoom config.region_words (λ q. memory (Top q)) asked config.regions
+pub found_none : (config : Config) (memory : Word → ℕ) (words asked : ℕ) (result : Option ℕ) → result ≡ lowest_room config.region_words (λ region. memory (Top region)) words config.regions
+    → words ≡ asked → result ≡ None → NoneHasRoom config.region_words (λ region. memory (Top region)) asked config.regions
 found_none config memory words asked result is same none =
-    none_has_room config.region_words (λ q. memory (Top q)) asked config.regions
-    (ap (λ n. lowest_room config.region_words (λ q. memory (Top q)) n config.regions) (sym same) ∙ sym is ∙ none)
+    none_has_room config.region_words (λ region. memory (Top region)) asked config.regions
+    (ap (λ words. lowest_room config.region_words (λ region. memory (Top region)) words config.regions) (sym same) ∙ sym is ∙ none)
 
 -- what fits above a region's top is of the heap
 pub room_in_heap : (config : Config) (region top words : ℕ) → region < config.regions → top + words ≤ config.region_words → AreInHeap config (base_of config region + top) words

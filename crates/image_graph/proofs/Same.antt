@@ -14,7 +14,7 @@ carried P image other_image same holds =
     subst (λ (config : Config). P config (memory_of other_image)) (sym same.config) (subst (P (config_of image)) (sym (memory_same image other_image same)) holds)
 
 pub both : (i j k : Image) → IsUnchanged i j → IsUnchanged j k → IsUnchanged i k
-both i j k one other = record { config = other.config ∙ one.config; words = other.words ∙ one.words }
+both image other_image k unchanged other = record { config = other.config ∙ unchanged.config; words = other.words ∙ unchanged.words }
 
 -- what was found is found still where neither flags nor list change
 pub found_same : (image other_image : Image) → config_of other_image ≡ config_of image → marks_of other_image ≡ marks_of image → found_of other_image ≡ found_of image → AreFound image → AreFound other_image

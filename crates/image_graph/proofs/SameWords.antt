@@ -20,31 +20,31 @@ drop_past zero n xs = ap (λ k. drop k xs) (omega arith)
 drop_past (suc s) n [] = drop_nothing (suc s + n) ∙ sym (drop_nothing n)
 drop_past (suc s) n (x ∷ xs) = let more : suc s + n ≡ suc (s + n) = omega arith in ap (λ k. drop k (x ∷ xs)) more ∙ drop_past s n xs
 
-same_range : (s a b : ℕ) (u w : List ℕ) → s ≤ a → drop s u ≡ drop s w → slice_range u a b ≡ slice_range w a b
-same_range s a b u w low same =
+same_range : (s a b : ℕ) (xs other_xs : List ℕ) → s ≤ a → drop s xs ≡ drop s other_xs → slice_range xs a b ≡ slice_range other_xs a b
+same_range s a b xs other_xs low same =
     let place : a ≡ s + (a - s) = omega (arith, low) in
-    let both : drop a u ≡ drop a w =
-    ap (λ k. drop k u) place ∙ drop_past s (a - s) u ∙ ap (drop (a - s)) same ∙ sym (drop_past s (a - s) w) ∙ ap (λ k. drop k w) (sym place) in
+    let both : drop a xs ≡ drop a other_xs =
+    ap (λ k. drop k xs) place ∙ drop_past s (a - s) xs ∙ ap (drop (a - s)) same ∙ sym (drop_past s (a - s) other_xs) ∙ ap (λ k. drop k other_xs) (sym place) in
     ap (take (b - a)) both
 
-module _ (config : Config) (u w : List ℕ) (same : drop (image_start config) u ≡ drop (image_start config) w) where
-  same_heap : heap_in config u ≡ heap_in config w
-  same_heap = same_range (image_start config) (heap_start config) (heap_start config + heap_size config) u w (omega arith) same
+module _ (config : Config) (other_xs w : List ℕ) (same : drop (image_start config) other_xs ≡ drop (image_start config) w) where
+  same_heap : heap_in config other_xs ≡ heap_in config w
+  same_heap = same_range (image_start config) (heap_start config) (heap_start config + heap_size config) other_xs w (omega arith) same
 
-  same_roots : roots_in config u ≡ roots_in config w
-  same_roots = same_range (image_start config) (roots_start config) (roots_start config + 16 * config.mutators) u w (omega arith) same
+  same_roots : roots_in config other_xs ≡ roots_in config w
+  same_roots = same_range (image_start config) (roots_start config) (roots_start config + 16 * config.mutators) other_xs w (omega arith) same
 
-  same_pins : pins_in config u ≡ pins_in config w
-  same_pins = same_range (image_start config) (pins_start config) (pins_start config + 4 * config.mutators) u w (omega arith) same
+  same_pins : pins_in config other_xs ≡ pins_in config w
+  same_pins = same_range (image_start config) (pins_start config) (pins_start config + 4 * config.mutators) other_xs w (omega arith) same
 
-  stands_either : (v : List ℕ) (at : ℕ → Option Name) (graph : Graph) → heap_in config v ≡ heap_in config u → roots_in config v ≡ roots_in config u → pins_in config v ≡ pins_in config u
-      → WordsStand config.region_words (heap_in config v) (roots_in config v) (pins_in config v) at graph → WordsStand config.region_words (heap_in config u) (roots_in config u) (pins_in config u) at graph
+  stands_either : (v : List ℕ) (at : ℕ → Option Name) (graph : Graph) → heap_in config v ≡ heap_in config other_xs → roots_in config v ≡ roots_in config other_xs → pins_in config v ≡ pins_in config other_xs
+      → WordsStand config.region_words (heap_in config v) (roots_in config v) (pins_in config v) at graph → WordsStand config.region_words (heap_in config other_xs) (roots_in config other_xs) (pins_in config other_xs) at graph
   stands_either v at graph heap roots pins stands =
-      subst (λ k. WordsStand config.region_words k (roots_in config u) (pins_in config u) at graph) heap
-      (subst (λ k. WordsStand config.region_words (heap_in config v) k (pins_in config u) at graph) roots (subst (λ k. WordsStand config.region_words (heap_in config v) (roots_in config v) k at graph) pins stands))
+      subst (λ heap. WordsStand config.region_words heap (roots_in config other_xs) (pins_in config other_xs) at graph) heap
+      (subst (λ roots. WordsStand config.region_words (heap_in config v) roots (pins_in config other_xs) at graph) roots (subst (λ pins. WordsStand config.region_words (heap_in config v) (roots_in config v) pins at graph) pins stands))
 
-  pub stands_same : StandsForSome config w → StandsForSome config u
+  pub stands_same : StandsForSome config w → StandsForSome config other_xs
   stands_same some = ∥∥₁_map some (λ s. (s.0, (s.1.0, stands_either w s.0 s.1.0 (sym same_heap) (sym same_roots) (sym same_pins) s.1.1)))
 
-  pub shows_same : (text : Text) → ShowsTheGraph config u text → ShowsTheGraph config w text
+  pub shows_same : (text : Text) → ShowsTheGraph config other_xs text → ShowsTheGraph config w text
   shows_same text shows at g stands = shows at g (stands_either w at g (sym same_heap) (sym same_roots) (sym same_pins) stands)

@@ -9,7 +9,7 @@ use Rattle.heap_words.specs.Ranges.{seat_count}
 use Rattle.heap_words.specs.Encoding.{filler_header, next_in, end_in}
 use Rattle.heap_words.specs.Words.{Word, Top, Current, Heap, write}
 use Rattle.regions.specs.Place.{base_of}
-use Rattle.heap_world.proofs.Updates.{updated, updated_same, updated_else}
+use Rattle.heap_world.proofs.FunctionUpdates.{updated, updated_same, updated_else}
 use Rattle.image_graph.specs.SeatBuffers.{buffer_region, is_last, IsInside, filled_over}
 use Rattle.image_graph.specs.Settled.{settled_at, settled_below}
 use Rattle.image_graph.specs.LetGo.{given_back, let_go_at, let_go_below, let_go}
@@ -45,31 +45,31 @@ AreOrdered memory = (seat : ℕ) → next_in (memory (Current seat)) ≤ end_in 
 
 -- Settling: the turn of a seat.
 module _ (config : Config) (Stand : (Word → ℕ) → Type 0) (keeps : KeepsFilling config Stand) where
-  module _ (memory : Word → ℕ) (r : Stand memory) (seat : ℕ) where
+  module _ (memory : Word → ℕ) (stand : Stand memory) (seat : ℕ) where
     abbrev its : ℕ
     its = memory (Current seat)
 
     -- a buffer goes that is not the last
     gone : its ≢ 0 → is_last config memory its ≡ false → Stand (write (filled_over memory its) (Current seat) 0)
-    gone some other = ⊎_elim
+    gone positive other = ⊎_elim
         (λ (more : next_in its < end_in its).
         subst Stand
         (sym (ap (λ k. write k (Current seat) 0) (cond-true (nat_lt (next_in its) (end_in its)) (write memory (Heap (next_in its)) (filler_header (end_in its - next_in its))) memory (lt-ltb (next_in its) (end_in its) more))
         ∙ fill_is memory seat (next_in its) (filler_header (end_in its - next_in its))))
-        (keeps.fills memory r seat its refl some more other))
+        (keeps.fills memory stand seat its refl positive more other))
         (λ (empty : end_in its ≤ next_in its).
         subst Stand
         (sym (ap (λ k. write k (Current seat) 0) (cond-false (nat_lt (next_in its) (end_in its)) (write memory (Heap (next_in its)) (filler_header (end_in its - next_in its))) memory (le-ltb (next_in its) (end_in its) empty))
         ∙ clear_is memory seat))
-        (keeps.drops memory r (updated (currents_of memory) seat 0) (λ s. ⊎_elim
-        (λ (same : seat ≡ s). inr (updated_same (currents_of memory) seat 0 s same, subst (λ k. end_in (memory (Current k)) ≤ next_in (memory (Current k))) same empty))
+        (keeps.drops memory stand (updated (currents_of memory) seat 0) (λ s. ⊎_elim
+        (λ (same : seat ≡ s). inr (updated_same (currents_of memory) seat 0 s same, subst (λ seat. end_in (memory (Current seat)) ≤ next_in (memory (Current seat))) same empty))
         (λ (other : seat ≢ s). inl (updated_else (currents_of memory) seat 0 s other))
         (cases_eq seat s))))
         (cases_lt (next_in its) (end_in its))
 
     settling : Stand (settled_at config memory seat)
     settling = ⊎_elim
-        (λ (stays : ((its == 0) || is_last config memory its) ≡ true). subst Stand (sym (cond-true ((its == 0) || is_last config memory its) memory (write (filled_over memory its) (Current seat) 0) stays)) r)
+        (λ (stays : ((its == 0) || is_last config memory its) ≡ true). subst Stand (sym (cond-true ((its == 0) || is_last config memory its) memory (write (filled_over memory its) (Current seat) 0) stays)) stand)
         (λ (goes : ((its == 0) || is_last config memory its) ≡ false).
         subst Stand (sym (cond-false ((its == 0) || is_last config memory its) memory (write (filled_over memory its) (Current seat) 0) goes)) (gone (eqb-false its 0 (or_parts (its == 0) (is_last config memory its) goes).0) (or_parts (its == 0) (is_last config memory its) goes).1))
         (cases_Bool ((its == 0) || is_last config memory its))
@@ -77,12 +77,12 @@ module _ (config : Config) (Stand : (Word → ℕ) → Type 0) (keeps : KeepsFil
   -- after any number of turns
   pub settled_by_turns : (memory : Word → ℕ) → Stand memory → (n : ℕ) → Stand (settled_below config memory n)
   unfolding settled_below
-  settled_by_turns memory r zero = r
-  settled_by_turns memory r (suc n) = settling (settled_below config memory n) (settled_by_turns memory r n) n
+  settled_by_turns memory stand zero = stand
+  settled_by_turns memory stand (suc n) = settling (settled_below config memory n) (settled_by_turns memory stand n) n
 
 -- Letting go: the turn of a seat.
 module _ (config : Config) (Stand : (Word → ℕ) → Type 0) (keeps : KeepsTurns config Stand) where
-  module _ (memory : Word → ℕ) (r : Stand (trim memory)) (ordered : AreOrdered memory) (seat : ℕ) where
+  module _ (memory : Word → ℕ) (stand : Stand (trim memory)) (ordered : AreOrdered memory) (seat : ℕ) where
     abbrev word : ℕ
     word = memory (Current seat)
 
@@ -98,12 +98,12 @@ module _ (config : Config) (Stand : (Word → ℕ) → Type 0) (keeps : KeepsTur
       fills other = subst Stand
           (sym (ap trim (fill_is memory seat (next_in word) (filler_header (end_in word - next_in word)))
           ∙ trim_without memory (tops_of memory) (updated (heap_of memory) (next_in word) (filler_header (end_in word - next_in word))) seat))
-          (keeps.filling.fills (trim memory) r seat word is_there some more other)
+          (keeps.filling.fills (trim memory) stand seat word is_there some more other)
 
       gives_back : is_last config memory word ≡ true → Stand (trim (write (given_back config memory word) (Current seat) 0))
       gives_back last = subst Stand
           (sym (ap trim (back_is config memory seat word) ∙ trim_without memory (updated (tops_of memory) region (next_in word - base_of config region)) (heap_of memory) seat))
-          (keeps.gives (trim memory) r seat word is_there some more last (λ s is_some. all_full (currents_of memory) s is_some))
+          (keeps.gives (trim memory) stand seat word is_there some more last (λ seat is_some. all_full (currents_of memory) seat is_some))
 
     -- and one that has none
     module _ (empty : end_in word ≤ next_in word) where
@@ -127,14 +127,14 @@ module _ (config : Config) (Stand : (Word → ℕ) → Type 0) (keeps : KeepsTur
     gone_last : word ≢ 0 → is_last config memory word ≡ true → Stand (trim (write (given_back config memory word) (Current seat) 0))
     gone_last some last = ⊎_elim
         (λ (more : next_in word < end_in word). gives_back some more last)
-        (λ (empty : end_in word ≤ next_in word). subst Stand (sym (back_same empty last)) r)
+        (λ (empty : end_in word ≤ next_in word). subst Stand (sym (back_same empty last)) stand)
         (cases_lt (next_in word) (end_in word))
 
     gone_else : word ≢ 0 → is_last config memory word ≡ false → Stand (trim (write (filled_over memory word) (Current seat) 0))
     gone_else some other = ⊎_elim
         (λ (more : next_in word < end_in word). subst (λ k. Stand (trim (write k (Current seat) 0)))
         (sym (cond-true (nat_lt (next_in word) (end_in word)) (write memory (Heap (next_in word)) (filler_header (end_in word - next_in word))) memory (lt-ltb (next_in word) (end_in word) more))) (fills some more other))
-        (λ (empty : end_in word ≤ next_in word). subst Stand (sym (fill_same empty)) r)
+        (λ (empty : end_in word ≤ next_in word). subst Stand (sym (fill_same empty)) stand)
         (cases_lt (next_in word) (end_in word))
 
     -- its words without the buffer
@@ -149,14 +149,14 @@ module _ (config : Config) (Stand : (Word → ℕ) → Type 0) (keeps : KeepsTur
 
     letting_go : Stand (trim (let_go_at config memory seat))
     letting_go = ⊎_elim
-        (λ (none : word ≡ 0). subst (λ k. Stand (trim k)) (sym (cond-true (word == 0) memory (write rest (Current seat) 0) (eq-eqb word 0 none))) r)
+        (λ (none : word ≡ 0). subst (λ k. Stand (trim k)) (sym (cond-true (word == 0) memory (write rest (Current seat) 0) (eq-eqb word 0 none))) stand)
         (λ (some : word ≢ 0). subst (λ k. Stand (trim k)) (sym (cond-false (word == 0) memory (write rest (Current seat) 0) (ne_eqb word 0 some))) (goes some))
         (cases_eq word 0)
 
   -- buffers are ordered still
   ordered_still : (memory : Word → ℕ) (seat : ℕ) → AreOrdered memory → AreOrdered (let_go_at config memory seat)
   ordered_still memory seat ordered s = ⊎_elim
-      (λ (same : seat ≡ s). subst (λ k. next_in (let_go_at config memory seat (Current k)) ≤ end_in (let_go_at config memory seat (Current k))) same (let none = turn_own config memory seat in subst (λ k. next_in k ≤ end_in k) (sym none) (omega arith)))
+      (λ (same : seat ≡ s). subst (λ other_seat. next_in (let_go_at config memory seat (Current other_seat)) ≤ end_in (let_go_at config memory seat (Current other_seat))) same (let none = turn_own config memory seat in subst (λ k. next_in k ≤ end_in k) (sym none) (omega arith)))
       (λ (other : seat ≢ s). subst (λ k. next_in k ≤ end_in k) (sym (turn_other config memory seat s other)) (ordered s))
       (cases_eq seat s)
 
@@ -168,17 +168,17 @@ module _ (config : Config) (Stand : (Word → ℕ) → Type 0) (keeps : KeepsTur
   -- after any number of turns
   let_go_trimmed : (memory : Word → ℕ) → Stand (trim memory) → AreOrdered memory → (n : ℕ) → Stand (trim (let_go_below config memory n))
   unfolding let_go_below
-  let_go_trimmed memory r ordered zero = r
-  let_go_trimmed memory r ordered (suc n) = letting_go (let_go_below config memory n) (let_go_trimmed memory r ordered n) (ordered_below memory ordered n) n
+  let_go_trimmed memory stand ordered zero = stand
+  let_go_trimmed memory stand ordered (suc n) = letting_go (let_go_below config memory n) (let_go_trimmed memory stand ordered n) (ordered_below memory ordered n) n
 
   -- What stood stands after all turns, where buffers without free words count as none.
   pub trimmed_by_turns : (memory : Word → ℕ) → Stand memory → Stand (trim (let_go config memory))
-  trimmed_by_turns memory r =
+  trimmed_by_turns memory stand =
       let ordered : AreOrdered memory = λ seat. ⊎_elim
       (λ (none : memory (Current seat) ≡ 0). subst (λ k. next_in k ≤ end_in k) (sym none) (omega arith))
-      (λ (some : memory (Current seat) ≢ 0). (keeps.lies memory r seat (memory (Current seat)) refl some).ordered)
+      (λ (some : memory (Current seat) ≢ 0). (keeps.lies memory stand seat (memory (Current seat)) refl some).ordered)
       (cases_eq (memory (Current seat)) 0) in
-      let_go_trimmed memory (keeps.filling.drops memory r (trimmed (currents_of memory)) (λ seat. ⊎_elim
+      let_go_trimmed memory (keeps.filling.drops memory stand (trimmed (currents_of memory)) (λ seat. ⊎_elim
       (λ (more : next_in (memory (Current seat)) < end_in (memory (Current seat))). inl (trimmed_full (currents_of memory) seat more))
       (λ (empty : end_in (memory (Current seat)) ≤ next_in (memory (Current seat))). inr (trimmed_empty (currents_of memory) seat empty, empty))
       (cases_lt (next_in (memory (Current seat))) (end_in (memory (Current seat)))))) ordered (seat_count config.mutators config.helpers)
@@ -187,10 +187,10 @@ module _ (config : Config) (Stand : (Word → ℕ) → Type 0) (keeps : KeepsTur
   none_beyond : (memory : Word → ℕ) (seat : ℕ) → memory (Current seat) ≡ 0 → (n : ℕ) → let_go_below config memory n (Current seat) ≡ 0
   unfolding let_go_below
   none_beyond memory seat none zero = none
-  none_beyond memory seat none (suc n) = ⊎_elim
-      (λ (same : n ≡ seat). subst (λ k. let_go_at config (let_go_below config memory n) n (Current k) ≡ 0) same (turn_own config (let_go_below config memory n) n))
-      (λ (other : n ≢ seat). turn_other config (let_go_below config memory n) n seat other ∙ none_beyond memory seat none n)
-      (cases_eq n seat)
+  none_beyond memory seat none (suc other_seat) = ⊎_elim
+      (λ (same : other_seat ≡ seat). subst (λ seat. let_go_at config (let_go_below config memory other_seat) other_seat (Current seat) ≡ 0) same (turn_own config (let_go_below config memory other_seat) other_seat))
+      (λ (other : other_seat ≢ seat). turn_other config (let_go_below config memory other_seat) other_seat seat other ∙ none_beyond memory seat none other_seat)
+      (cases_eq other_seat seat)
 
   module _ (memory : Word → ℕ) (beyond : (seat : ℕ) → seat_count config.mutators config.helpers ≤ seat → memory (Current seat) ≡ 0) where
     -- nobody has a buffer
@@ -202,7 +202,7 @@ module _ (config : Config) (Stand : (Word → ℕ) → Type 0) (keeps : KeepsTur
 
     -- What stood stands after all turns.
     pub let_go_by_turns : Stand memory → Stand (let_go config memory)
-    let_go_by_turns r =
+    let_go_by_turns stand =
         subst Stand
         (sym (refit_same (let_go config memory) ∙ ap (refitted (let_go config memory) (tops_of (let_go config memory)) (heap_of (let_go config memory))) (fun_ext (λ seat. none_at_all seat ∙ sym (trimmed_none (currents_of (let_go config memory)) seat (none_at_all seat))))))
-        (trimmed_by_turns memory r)
+        (trimmed_by_turns memory stand)

@@ -41,9 +41,9 @@ module _ (config : Config) (memory : Word → ℕ) (seat : ℕ) where
 
 module _ (config : Config) (memory : Word → ℕ) where
   -- one turn more
-  turn_is : (n : ℕ) → settled_below config memory (suc n) ≡ settled_at config (settled_below config memory n) n
+  turn_is : (seat : ℕ) → settled_below config memory (suc seat) ≡ settled_at config (settled_below config memory seat) seat
   unfolding settled_below
-  turn_is n = refl
+  turn_is seat = refl
 
   -- tops stay
   pub settled_top : (n region : ℕ) → settled_below config memory n (Top region) ≡ memory (Top region)
@@ -54,15 +54,15 @@ module _ (config : Config) (memory : Word → ℕ) where
   -- and who had a turn is left so
   pub settled_left : (n seat : ℕ) → seat < n → IsLeft config (settled_below config memory n) seat
   settled_left zero seat below = absurd (omega (arith, below))
-  settled_left (suc n) seat below = subst (λ k. IsLeft config k seat) (sym (turn_is n)) (⊎_elim
-      (λ (same : seat ≡ n). subst (λ k. IsLeft config (settled_at config (settled_below config memory n) n) k) (sym same) (turn_own config (settled_below config memory n) n))
-      (λ (other : seat ≢ n).
-      let word = turn_other config (settled_below config memory n) n seat (λ same. other (sym same)) in
+  settled_left (suc other_seat) seat below = subst (λ k. IsLeft config k seat) (sym (turn_is other_seat)) (⊎_elim
+      (λ (same : seat ≡ other_seat). subst (λ k. IsLeft config (settled_at config (settled_below config memory other_seat) other_seat) k) (sym same) (turn_own config (settled_below config memory other_seat) other_seat))
+      (λ (other : seat ≢ other_seat).
+      let word = turn_other config (settled_below config memory other_seat) other_seat seat (λ same. other (sym same)) in
       ⊎_elim
       (λ none. inl (word ∙ none))
-      (λ last. inr (ap (λ k. is_last config (settled_at config (settled_below config memory n) n) k) word ∙ last_same config (settled_below config memory n) (settled_at config (settled_below config memory n) n) (settled_below config memory n (Current seat)) (turn_top config (settled_below config memory n) n) ∙ last))
-      (settled_left n seat (omega (arith, below, other))))
-      (cases_eq seat n))
+      (λ last. inr (ap (λ k. is_last config (settled_at config (settled_below config memory other_seat) other_seat) k) word ∙ last_same config (settled_below config memory other_seat) (settled_at config (settled_below config memory other_seat) other_seat) (settled_below config memory other_seat (Current seat)) (turn_top config (settled_below config memory other_seat) other_seat) ∙ last))
+      (settled_left other_seat seat (omega (arith, below, other))))
+      (cases_eq seat other_seat))
 
 pub settling_leaves : (config : Config) (memory : Word → ℕ) → SettlingLeaves config memory
 settling_leaves config memory = record {

@@ -28,13 +28,13 @@ use Rattle.image_graph.specs.Promised.{Promises, with_promised}
 use Rattle.image_graph.specs.Image.{PinWordStands}
 use Rattle.image_graph.proofs.Reached.{held_is_reached, refs_read, named_object, none_at_0}
 use Rattle.image_graph.proofs.Promised.{same_reference-true, reaches_promised}
-use Rattle.image_graph.proofs.Roots.{root_among, pin_among}
+use Rattle.image_graph.proofs.HeldRoots.{root_among, pin_among}
 use Rattle.image_graph.proofs.Walked.{walk_keeps}
 use Rattle.image_graph.specs.Holds.{HoldsBy}
 
 -- a piece, if it is an object that is not promised
 abbrev old_piece : Promises → Option Block → Option Block
-old_piece promises (Some (thing n refs nums)) = if same_reference (promises.ref n.thread) (Some n) then None else Some (thing n refs nums)
+old_piece promises (Some (thing name refs nums)) = if same_reference (promises.ref name.thread) (Some name) then None else Some (thing name refs nums)
 old_piece promises _ = None
 
 -- an object that is shown, if it was an object: it is not promised
@@ -42,12 +42,12 @@ abbrev IsOld : Promises → Option Block → Block → Type 0
 IsOld promises found piece = (name : Name) × (refs : ℕ) × (nums : ℕ) × (piece ≡ thing name refs nums) × (found ≡ Some (thing name refs nums)) × (same_reference (promises.ref name.thread) (Some name) ≡ false)
 
 old_from : (promises : Promises) (found : Option Block) (piece : Block) → old_piece promises found ≡ Some piece → IsOld promises found piece
-old_from promises (Some (thing n refs nums)) piece is = ⊎_elim
-    (λ (yes : same_reference (promises.ref n.thread) (Some n) ≡ true). absurd (none-some piece (sym (cond-true (same_reference (promises.ref n.thread) (Some n)) None (Some (thing n refs nums)) yes) ∙ is)))
-    (λ (other : same_reference (promises.ref n.thread) (Some n) ≡ false).
-    let same : thing n refs nums ≡ piece = same_Some (thing n refs nums) piece (sym (cond-false (same_reference (promises.ref n.thread) (Some n)) None (Some (thing n refs nums)) other) ∙ is) in
-    (n, refs, nums, sym same, refl, other))
-    (cases_Bool (same_reference (promises.ref n.thread) (Some n)))
+old_from promises (Some (thing name refs nums)) piece is = ⊎_elim
+    (λ (yes : same_reference (promises.ref name.thread) (Some name) ≡ true). absurd (none-some piece (sym (cond-true (same_reference (promises.ref name.thread) (Some name)) None (Some (thing name refs nums)) yes) ∙ is)))
+    (λ (other : same_reference (promises.ref name.thread) (Some name) ≡ false).
+    let same : thing name refs nums ≡ piece = same_Some (thing name refs nums) piece (sym (cond-false (same_reference (promises.ref name.thread) (Some name)) None (Some (thing name refs nums)) other) ∙ is) in
+    (name, refs, nums, sym same, refl, other))
+    (cases_Bool (same_reference (promises.ref name.thread) (Some name)))
 old_from promises _ piece is = absurd (none-some piece is)
 
 module _ (config : Config) (memory : Word → ℕ) (block : Plot) (owner : ℕ → Option ℕ) (promises : Promises) (graph : Graph) (holds : HoldsBy config memory block owner promises graph) where
@@ -136,22 +136,22 @@ module _ (config : Config) (memory : Word → ℕ) (block : Plot) (owner : ℕ �
     copy : block (now_in memory address) ≡ Some (thing name refs nums)
     plain_name : same_reference (promises.ref name.thread) (Some name) ≡ false
 
-  is_shown : (a : ℕ) (name : Name) → name_at (shown a) ≡ Some name → IsShown a name
-  is_shown a name is =
-      let x = named a name is in
-      let at = shown_thing a x.0 x.1 name x.2 in
-      let copy = holds.objects.current a name (ap name_at at.1) in
+  is_shown : (address : ℕ) (name : Name) → name_at (shown address) ≡ Some name → IsShown address name
+  is_shown address name is =
+      let x = named address name is in
+      let at = shown_thing address x.0 x.1 name x.2 in
+      let copy = holds.objects.current address name (ap name_at at.1) in
       record { piece_refs = x.0; piece_nums = x.1; piece = at.1; refs = copy.0; nums = copy.1; held = at.0; copy = copy.2; plain_name = at.2 }
 
   current_shown : (a : ℕ) (name : Name) → IsShown a name → name_at (shown (now_in memory a)) ≡ Some name
-  current_shown a name x =
-      let own = held_own (now_in memory a) x.refs x.nums name x.held x.copy in
-      ap name_at (shows (now_in memory a) x.refs x.nums name (subst Held (sym own) x.held) x.copy x.plain_name)
+  current_shown a name shown =
+      let own = held_own (now_in memory a) shown.refs shown.nums name shown.held shown.copy in
+      ap name_at (shows (now_in memory a) shown.refs shown.nums name (subst Held (sym own) shown.held) shown.copy shown.plain_name)
 
   -- an object that is held and not promised is one that the graph reaches
   reached_of : (address refs nums : ℕ) (name : Name) → Held address → block address ≡ Some (thing name refs nums) → same_reference (promises.ref name.thread) (Some name) ≡ false → IsReachable graph name
   reached_of address refs nums name here is other =
-      let held = held_is_reached config (λ r. memory (Top r)) heap block (now_in memory) IsRoot more holds.objects address here in
+      let held = held_is_reached config (λ region. memory (Top region)) heap block (now_in memory) IsRoot more holds.objects address here in
       let same : held.0 ≡ name = same_Some held.0 name (ap name_at (sym held.3 ∙ is)) in
       ⊎_elim
       (λ (old : IsReachable graph name). old)
@@ -163,7 +163,7 @@ module _ (config : Config) (memory : Word → ℕ) (block : Plot) (owner : ℕ �
 
   -- it is the object that the graph has
   abbrev IsGraphs : ℕ → Name → ℕ → ℕ → Type 0
-  IsGraphs a name refs nums = (object : Object) × (graph.object name ≡ Some object) × IsObject heap (λ word. name_at (shown word)) a refs nums name object
+  IsGraphs address name refs nums = (object : Object) × (graph.object name ≡ Some object) × IsObject heap (λ word. name_at (shown word)) address refs nums name object
 
   object_of : (address refs nums : ℕ) (name : Name) → Held address → block address ≡ Some (thing name refs nums) → same_reference (promises.ref name.thread) (Some name) ≡ false → IsGraphs address name refs nums
   object_of address refs nums name held is other =
@@ -195,14 +195,14 @@ module _ (config : Config) (memory : Word → ℕ) (block : Plot) (owner : ℕ �
           shows_name word f reached (from_field address i held few (none_at_0 config (λ reference. memory (Top reference)) block holds.objects.plotted word f points)) points
 
   roots : (mutator index : ℕ) → mutator < config.mutators → index < 16 → Points shown (memory (Root mutator index)) (graph.root (mutator + 1) index)
-  roots mutator index inside few = by_root (graph.root (mutator + 1) index) refl (holds.rooted.roots mutator index inside few)
+  roots mutator index inside below = by_root (graph.root (mutator + 1) index) refl (holds.rooted.roots mutator index inside below)
     where
       by_root : (reference : Reference) → graph.root (mutator + 1) index ≡ reference → Points block (memory (Root mutator index)) reference → Points shown (memory (Root mutator index)) reference
       by_root None is points = points
       by_root (Some n) is points =
           let word = memory (Root mutator index) in
           shows_name word n (reach.from_root (mutator + 1) index n is)
-          (from_root word (root_among config (λ reference. memory (Top reference)) memory block graph promises holds.objects.plotted holds.rooted mutator index inside few) (none_at_0 config (λ reference. memory (Top reference)) block holds.objects.plotted word n points))
+          (from_root word (root_among config (λ reference. memory (Top reference)) memory block graph promises holds.objects.plotted holds.rooted mutator index inside below) (none_at_0 config (λ reference. memory (Top reference)) block holds.objects.plotted word n points))
           points
 
   no_more : HasNoMoreRoots config.mutators graph
@@ -218,7 +218,7 @@ module _ (config : Config) (memory : Word → ℕ) (block : Plot) (owner : ℕ �
           absurd (true≢false (sym one ∙ none))
 
   pins : (mutator index : ℕ) → mutator < config.mutators → index < 4 → HoldsPin heap (λ a. name_at (shown a)) (memory (Pin mutator index)) (graph.pin (mutator + 1) index)
-  pins mutator index inside few = by_slot (graph.pin (mutator + 1) index) refl (holds.rooted.pins mutator index inside few)
+  pins mutator index inside below = by_slot (graph.pin (mutator + 1) index) refl (holds.rooted.pins mutator index inside below)
     where
       by_slot : (found : Option Pinned) → graph.pin (mutator + 1) index ≡ found → PinWordStands memory block (memory (Pin mutator index)) found → HoldsPin heap (λ a. name_at (shown a)) (memory (Pin mutator index)) found
       by_slot None is zero = zero
@@ -229,7 +229,7 @@ module _ (config : Config) (memory : Word → ℕ) (block : Plot) (owner : ℕ �
           let own : now_in memory word ≡ word = cond-false (is_forwarded (heap word)) (forwardee_in (heap word)) word stands.2 in (
             stands.0,
             shows_name word held.name (reach.from_pin (mutator + 1) index held is)
-                (from_root word (pin_among config (λ r. memory (Top r)) memory block graph promises holds.objects.plotted holds.rooted mutator index inside few) (none_at_0 config (λ r. memory (Top r)) block holds.objects.plotted word held.name points))
+                (from_root word (pin_among config (λ region. memory (Top region)) memory block graph promises holds.objects.plotted holds.rooted mutator index inside below) (none_at_0 config (λ region. memory (Top region)) block holds.objects.plotted word held.name points))
                 points,
             own,
           )
@@ -257,7 +257,7 @@ module _ (config : Config) (words : List ℕ) (block : Plot) (owner : ℕ → Op
   are_copies : AreCopies config words block names graph
   are_copies = record {
     plotted = holds.objects.plotted;
-    piece = λ a n is. (let x = is_shown config memory block owner promises graph holds a n is in (thing n x.piece_refs x.piece_nums, x.piece, omega arith));
+    piece = λ a name is. (let x = is_shown config memory block owner promises graph holds a name is in (thing name x.piece_refs x.piece_nums, x.piece, omega arith));
     current = λ a n is. current_shown config memory block owner promises graph holds a n (is_shown config memory block owner promises graph holds a n is);
     object = λ a n is.
         let x = is_shown config memory block owner promises graph holds a n is in

@@ -34,12 +34,12 @@ module _ (heap : ℕ → ℕ) (base : ℕ) where
 
   -- each word of an object is one of the object
   pub starts_within : (k j : ℕ) → start k ≡ k → j < words k → start (k + j) ≡ k
-  starts_within k zero begun few = let same : k + zero ≡ k = omega arith in ap start same ∙ begun
-  starts_within k (suc j) begun few =
-      let before : start (k + j) ≡ k = starts_within k j begun (omega (arith, few)) in
+  starts_within k zero begun below = let same : k + zero ≡ k = omega arith in ap start same ∙ begun
+  starts_within k (suc j) begun below =
+      let before : start (k + j) ≡ k = starts_within k j begun (omega (arith, below)) in
       let next : k + suc j ≡ suc (k + j) = omega arith in
       let long : words (start (k + j)) ≡ words k = ap words before in
-      ap start next ∙ start_goes_on heap base (k + j) (λ ends. omega (arith, ends, before, long, few)) ∙ before
+      ap start next ∙ start_goes_on heap base (k + j) (λ ends. omega (arith, ends, before, long, below)) ∙ before
 
   -- an object ends at a distance, or it does not
   pub next_ends : (k : ℕ) → base + start (k - 1) + words (start (k - 1)) ≡ base + k → start k ≡ k

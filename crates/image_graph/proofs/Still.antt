@@ -4,12 +4,12 @@ use Rattle.std.proofs.lemmas.Bool.{cases_eq}
 use Rattle.heap_words.specs.declared.config.Config.{Config}
 use Rattle.heap_words.specs.Words.{Word, Phase, Cset, Evac, Current, Wait, Share, Pin}
 use Rattle.image_graph.specs.Full.{packed, packed_in, made_in, served_in, room_for, served, refused, full_from}
-use Rattle.image_graph.proofs.Served.{served_first, turn_idle, turn_waits}
+use Rattle.image_graph.proofs.TurnWords.{served_first, turn_idle, turn_waits}
 
 module _ (config : Config) (word : Word) (made : (m : Word → ℕ) (t r : ℕ) → made_in config m t r word ≡ m word) where
-  turn_still : (memory : Word → ℕ) (t : ℕ) (found : Option ℕ) → served_in config memory t found word ≡ memory word
-  turn_still memory t None = refl
-  turn_still memory t (Some r) = made memory t r
+  turn_still : (memory : Word → ℕ) (thread : ℕ) (found : Option ℕ) → served_in config memory thread found word ≡ memory word
+  turn_still memory thread None = refl
+  turn_still memory thread (Some r) = made memory thread r
 
   pub served_still : (memory : Word → ℕ) (mutator : ℕ) → served config memory mutator word ≡ memory word
   served_still memory zero = served_first config memory word

@@ -16,15 +16,15 @@ use Rattle.image_graph.proofs.Origin.{block_at, IsFrom, IsLeft, block_from}
 
 -- the words of an object in its new place, by their index
 pub word_stays : (renew : ℕ → ℕ) (refs index word : ℕ) → index ≢ 0 → (index < 3) → placed_word renew refs index word ≡ word
-word_stays renew refs index word some low =
-    cond-false (index == 0) plain_header (cond (nat_le 3 index && nat_lt index (3 + refs)) (renew word) word) (ne_eqb index 0 some)
+word_stays renew refs index word positive low =
+    cond-false (index == 0) plain_header (cond (nat_le 3 index && nat_lt index (3 + refs)) (renew word) word) (ne_eqb index 0 positive)
     ∙ cond-false (nat_le 3 index && nat_lt index (3 + refs)) (renew word) word (and_left (nat_le 3 index) (nat_lt index (3 + refs)) (lt-leb 3 index low))
 
 pub reference_placed : (renew : ℕ → ℕ) (refs i word : ℕ) → i < refs → placed_word renew refs (3 + i) word ≡ renew word
-reference_placed renew refs i word few =
+reference_placed renew refs i word below =
     cond-false (3 + i == 0) plain_header (cond (nat_le 3 (3 + i) && nat_lt (3 + i) (3 + refs)) (renew word) word) (ne_eqb (3 + i) 0 (λ e. omega (arith, e)))
     ∙ cond-true (nat_le 3 (3 + i) && nat_lt (3 + i) (3 + refs)) (renew word) word
-    (and_from (nat_le 3 (3 + i)) (nat_lt (3 + i) (3 + refs)) (le-leb 3 (3 + i) (omega arith)) (lt-ltb (3 + i) (3 + refs) (omega (arith, few))))
+    (and_from (nat_le 3 (3 + i)) (nat_lt (3 + i) (3 + refs)) (le-leb 3 (3 + i) (omega arith)) (lt-ltb (3 + i) (3 + refs) (omega (arith, below))))
 
 pub number_placed : (renew : ℕ → ℕ) (refs i word : ℕ) → placed_word renew refs (3 + refs + i) word ≡ word
 number_placed renew refs i word =
@@ -68,12 +68,12 @@ module _ (config : Config) (top heap : ℕ → ℕ) (block : Plot) (object : Nam
   module _ (after : ℕ → ℕ) (word_at : (a i : ℕ) → i < kept a → after (place a + i) ≡ slid_word renew heap a i) where
     object_slid : (address refs nums : ℕ) (name : Name) (object : Object) → 0 < kept address → kept address ≡ 3 + refs + nums → IsThing heap block address refs nums name object
         → IsThing after new_block (place address) refs nums name object
-    object_slid address refs nums name object some size is =
+    object_slid address refs nums name object positive size is =
         let p = place address in
         let shape : refs_in (heap (address + 1)) ≡ refs = ap refs_in is.shape ∙ refs_read refs nums is.few_refs is.few_nums in
         let plain : p + 0 ≡ p = omega arith in
         record {
-          header = ap after (sym plain) ∙ word_at address 0 some ∙ cond-true (0 == 0) plain_header (cond (nat_le 3 0 && nat_lt 0 (3 + refs_in (heap (address + 1)))) (renew (heap (address + 0))) (heap (address + 0))) refl;
+          header = ap after (sym plain) ∙ word_at address 0 positive ∙ cond-true (0 == 0) plain_header (cond (nat_le 3 0 && nat_lt 0 (3 + refs_in (heap (address + 1)))) (renew (heap (address + 0))) (heap (address + 0))) refl;
           shape = word_at address 1 (omega (arith, size)) ∙ word_stays renew (refs_in (heap (address + 1))) 1 (heap (address + 1)) (λ e. omega (arith, e)) (omega arith) ∙ is.shape;
           name_word = word_at address 2 (omega (arith, size)) ∙ word_stays renew (refs_in (heap (address + 1))) 2 (heap (address + 2)) (λ e. omega (arith, e)) (omega arith) ∙ is.name_word;
           few_refs = is.few_refs;
@@ -86,8 +86,8 @@ module _ (config : Config) (top heap : ℕ → ℕ) (block : Plot) (object : Nam
               let index : p + 3 + i ≡ p + (3 + i) = omega arith in
               let old : address + (3 + i) ≡ address + 3 + i = omega arith in
               let word : after (p + 3 + i) ≡ renew (heap (address + 3 + i)) =
-              ap after index ∙ word_at address (3 + i) (omega (arith, size, below)) ∙ reference_placed renew (refs_in (heap (address + 1))) i (heap (address + (3 + i))) few ∙ ap (λ k. renew (heap k)) old in
-              subst (λ x. Points new_block x r) (sym word) (renewed_points (heap (address + 3 + i)) r (is.references i r there) (λ other. can.closed address i some few other));
+              ap after index ∙ word_at address (3 + i) (omega (arith, size, below)) ∙ reference_placed renew (refs_in (heap (address + 1))) i (heap (address + (3 + i))) few ∙ ap (λ address. renew (heap address)) old in
+              subst (λ x. Points new_block x r) (sym word) (renewed_points (heap (address + 3 + i)) r (is.references i r there) (λ other. can.closed address i positive few other));
           numbers = λ i n there.
               let below : i < nums = (let within = slice_get_within object.nums i n there in omega (arith, within, is.nums_are)) in
               let index : p + 3 + refs + i ≡ p + (3 + refs_in (heap (address + 1)) + i) = omega (arith, shape) in

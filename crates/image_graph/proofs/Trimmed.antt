@@ -7,7 +7,7 @@ use Rattle.heap_words.specs.declared.config.Config.{Config}
 use Rattle.heap_words.specs.Encoding.{next_in, end_in}
 use Rattle.heap_words.specs.Words.{Word, Top, Current, Heap, write}
 use Rattle.regions.specs.Place.{base_of}
-use Rattle.heap_world.proofs.Updates.{updated, updated_same, updated_else}
+use Rattle.heap_world.proofs.FunctionUpdates.{updated, updated_same, updated_else}
 use Rattle.image_graph.specs.SeatBuffers.{buffer_region}
 use Rattle.image_graph.specs.LetGo.{given_back}
 use Rattle.image_graph.proofs.Refitted.{refitted, tops_of, heap_of, currents_of, refit_same, refit_twice, refit_heap, refit_top, refit_current}
@@ -22,7 +22,7 @@ trim memory = refitted memory (tops_of memory) (heap_of memory) (trimmed (curren
 
 -- with free words it is there
 pub trimmed_full : (current : ℕ → ℕ) (seat : ℕ) → next_in (current seat) < end_in (current seat) → trimmed current seat ≡ current seat
-trimmed_full current seat more = cond-true (nat_lt (next_in (current seat)) (end_in (current seat))) (current seat) 0 (lt-ltb (next_in (current seat)) (end_in (current seat)) more)
+trimmed_full current seat below = cond-true (nat_lt (next_in (current seat)) (end_in (current seat))) (current seat) 0 (lt-ltb (next_in (current seat)) (end_in (current seat)) below)
 
 -- without, it is not
 pub trimmed_empty : (current : ℕ → ℕ) (seat : ℕ) → end_in (current seat) ≤ next_in (current seat) → trimmed current seat ≡ 0
@@ -34,17 +34,17 @@ trimmed_none current seat none = ⊎_elim (λ more. trimmed_full current seat mo
 
 -- one that is there has free words
 pub all_full : (current : ℕ → ℕ) (seat : ℕ) → trimmed current seat ≢ 0 → next_in (trimmed current seat) < end_in (trimmed current seat)
-all_full current seat some = ⊎_elim
+all_full current seat positive = ⊎_elim
     (λ (more : next_in (current seat) < end_in (current seat)). subst (λ word. next_in word < end_in word) (sym (trimmed_full current seat more)) more)
-    (λ (empty : end_in (current seat) ≤ next_in (current seat)). absurd (some (trimmed_empty current seat empty)))
+    (λ (empty : end_in (current seat) ≤ next_in (current seat)). absurd (positive (trimmed_empty current seat empty)))
     (cases_lt (next_in (current seat)) (end_in (current seat)))
 
 -- trimmed without a seat's is without it trimmed
 trimmed_without : (current : ℕ → ℕ) (seat : ℕ) → trimmed (updated current seat 0) ≡ updated (trimmed current) seat 0
-trimmed_without current seat = fun_ext (λ s. ⊎_elim
-    (λ (same : seat ≡ s). trimmed_none (updated current seat 0) s (updated_same current seat 0 s same) ∙ sym (updated_same (trimmed current) seat 0 s same))
-    (λ (other : seat ≢ s). ap (λ word. if nat_lt (next_in word) (end_in word) then word else 0) (updated_else current seat 0 s other) ∙ sym (updated_else (trimmed current) seat 0 s other))
-    (cases_eq seat s))
+trimmed_without current seat = fun_ext (λ other_seat. ⊎_elim
+    (λ (same : seat ≡ other_seat). trimmed_none (updated current seat 0) other_seat (updated_same current seat 0 other_seat same) ∙ sym (updated_same (trimmed current) seat 0 other_seat same))
+    (λ (other : seat ≢ other_seat). ap (λ word. if nat_lt (next_in word) (end_in word) then word else 0) (updated_else current seat 0 other_seat other) ∙ sym (updated_else (trimmed current) seat 0 other_seat other))
+    (cases_eq seat other_seat))
 
 -- after a seat's buffer went
 pub trim_without : (memory : Word → ℕ) (top heap : ℕ → ℕ) (seat : ℕ) → trim (refitted memory top heap (updated (currents_of memory) seat 0)) ≡ refitted (trim memory) top heap (updated (trimmed (currents_of memory)) seat 0)
@@ -57,18 +57,18 @@ trim_without memory top heap seat =
 pub trim_empty : (memory : Word → ℕ) (top : ℕ → ℕ) (seat : ℕ) → end_in (memory (Current seat)) ≤ next_in (memory (Current seat)) → top ≡ tops_of memory → trim (refitted memory top (heap_of memory) (updated (currents_of memory) seat 0)) ≡ trim memory
 trim_empty memory top seat empty same =
     refit_twice memory top (heap_of memory) (updated (currents_of memory) seat 0) top (heap_of memory) (trimmed (updated (currents_of memory) seat 0))
-    ∙ ap (λ t. refitted memory t (heap_of memory) (trimmed (updated (currents_of memory) seat 0))) same
-    ∙ ap (refitted memory (tops_of memory) (heap_of memory)) (fun_ext (λ s. ⊎_elim
-    (λ (at : seat ≡ s). trimmed_none (updated (currents_of memory) seat 0) s (updated_same (currents_of memory) seat 0 s at) ∙ sym (trimmed_empty (currents_of memory) seat empty) ∙ ap (trimmed (currents_of memory)) at)
-    (λ (other : seat ≢ s). ap (λ word. if nat_lt (next_in word) (end_in word) then word else 0) (updated_else (currents_of memory) seat 0 s other))
-    (cases_eq seat s)))
+    ∙ ap (λ top. refitted memory top (heap_of memory) (trimmed (updated (currents_of memory) seat 0))) same
+    ∙ ap (refitted memory (tops_of memory) (heap_of memory)) (fun_ext (λ other_seat. ⊎_elim
+    (λ (at : seat ≡ other_seat). trimmed_none (updated (currents_of memory) seat 0) other_seat (updated_same (currents_of memory) seat 0 other_seat at) ∙ sym (trimmed_empty (currents_of memory) seat empty) ∙ ap (trimmed (currents_of memory)) at)
+    (λ (other : seat ≢ other_seat). ap (λ word. if nat_lt (next_in word) (end_in word) then word else 0) (updated_else (currents_of memory) seat 0 other_seat other))
+    (cases_eq seat other_seat)))
 
 -- a filler is stored, and the buffer goes
-pub fill_is : (memory : Word → ℕ) (seat at value : ℕ) → write (write memory (Heap at) value) (Current seat) 0 ≡ refitted memory (tops_of memory) (updated (heap_of memory) at value) (updated (currents_of memory) seat 0)
-fill_is memory seat at value =
-    ap (λ k. write (write k (Heap at) value) (Current seat) 0) (refit_same memory)
-    ∙ ap (λ k. write k (Current seat) 0) (refit_heap memory (tops_of memory) (heap_of memory) (currents_of memory) at value)
-    ∙ refit_current memory (tops_of memory) (updated (heap_of memory) at value) (currents_of memory) seat 0
+pub fill_is : (memory : Word → ℕ) (seat address value : ℕ) → write (write memory (Heap address) value) (Current seat) 0 ≡ refitted memory (tops_of memory) (updated (heap_of memory) address value) (updated (currents_of memory) seat 0)
+fill_is memory seat address value =
+    ap (λ k. write (write k (Heap address) value) (Current seat) 0) (refit_same memory)
+    ∙ ap (λ k. write k (Current seat) 0) (refit_heap memory (tops_of memory) (heap_of memory) (currents_of memory) address value)
+    ∙ refit_current memory (tops_of memory) (updated (heap_of memory) address value) (currents_of memory) seat 0
 
 -- the buffer goes alone
 pub clear_is : (memory : Word → ℕ) (seat : ℕ) → write memory (Current seat) 0 ≡ refitted memory (tops_of memory) (heap_of memory) (updated (currents_of memory) seat 0)

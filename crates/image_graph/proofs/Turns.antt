@@ -9,7 +9,7 @@ use Rattle.heap_words.specs.Words.{Word, Top, Wait}
 use Rattle.heap_words.specs.Encoding.{object_words, request_shape_in}
 use Rattle.regions.specs.ServedRooms.{NoneHasRoom}
 use Rattle.image_graph.specs.Full.{asked_in, served, served_in, room_for}
-use Rattle.image_graph.proofs.Served.{before_turn}
+use Rattle.image_graph.proofs.TurnWords.{before_turn}
 use Rattle.image_graph.specs.Holds.{HoldsSome}
 use Rattle.image_graph.specs.Left.{IsLeft}
 use Rattle.image_graph.specs.Make.{AreWithin}
@@ -49,43 +49,43 @@ wait_is : (config : Config) (memory : Word → ℕ) (mutator : ℕ) → served c
 wait_is config memory mutator = (before_turn config memory mutator mutator (omega arith)).0
 
 asks : (config : Config) (memory : Word → ℕ) (mutator : ℕ) → memory (Wait mutator) ≢ 0 → object_words (request_shape_in (served config memory mutator (Wait mutator))) ≡ asked_in memory mutator
-asks config memory mutator some =
+asks config memory mutator positive =
     ap (λ w. object_words (request_shape_in w)) (wait_is config memory mutator)
-    ∙ sym (cond-false (memory (Wait mutator) == 0) 0 (object_words (request_shape_in (memory (Wait mutator)))) (ne_eqb (memory (Wait mutator)) 0 some))
+    ∙ sym (cond-false (memory (Wait mutator) == 0) 0 (object_words (request_shape_in (memory (Wait mutator)))) (ne_eqb (memory (Wait mutator)) 0 positive))
 
 -- what it means for a request to be left at its turn
 pub left_at : (config : Config) (memory : Word → ℕ) (mutator : ℕ) → mutator < config.mutators → served config memory mutator (Wait mutator) ≢ 0
-    → NoneHasRoom config.region_words (λ r. served config memory mutator (Top r)) (object_words (request_shape_in (served config memory mutator (Wait mutator)))) config.regions → IsLeft config memory mutator
-left_at config memory mutator below some none =
-    let waits : memory (Wait mutator) ≢ 0 = λ e. some (wait_is config memory mutator ∙ e) in
+    → NoneHasRoom config.region_words (λ region. served config memory mutator (Top region)) (object_words (request_shape_in (served config memory mutator (Wait mutator)))) config.regions → IsLeft config memory mutator
+left_at config memory mutator below positive none =
+    let waits : memory (Wait mutator) ≢ 0 = λ e. positive (wait_is config memory mutator ∙ e) in
     record {
       below = below;
       waits = waits;
-      no_room = subst (λ n. NoneHasRoom config.region_words (λ r. served config memory mutator (Top r)) n config.regions) (asks config memory mutator waits) none;
+      no_room = subst (λ words. NoneHasRoom config.region_words (λ region. served config memory mutator (Top region)) words config.regions) (asks config memory mutator waits) none;
     }
 
 pub left_from : (config : Config) (memory : Word → ℕ) (mutator : ℕ) → IsLeft config memory mutator → (served config memory mutator (Wait mutator) ≢ 0)
-    × NoneHasRoom config.region_words (λ r. served config memory mutator (Top r)) (object_words (request_shape_in (served config memory mutator (Wait mutator)))) config.regions
+    × NoneHasRoom config.region_words (λ region. served config memory mutator (Top region)) (object_words (request_shape_in (served config memory mutator (Wait mutator)))) config.regions
 left_from config memory mutator left = (
   λ e. left.waits (sym (wait_is config memory mutator) ∙ e),
-  subst (λ n. NoneHasRoom config.region_words (λ r. served config memory mutator (Top r)) n config.regions) (sym (asks config memory mutator left.waits)) left.no_room,
+  subst (λ words. NoneHasRoom config.region_words (λ region. served config memory mutator (Top region)) words config.regions) (sym (asks config memory mutator left.waits)) left.no_room,
 )
 
 -- whether a request is left of the threads that had their turn
 pub record IsTold (config : Config) (memory : Word → ℕ) (t : ℕ) (all : Bool) : Type 0 where
-  pub left : all ≡ false → (u : ℕ) × IsLeft config memory u
-  pub served : all ≡ true → (u : ℕ) → u < t → IsLeft config memory u → ⊥
+  pub left : all ≡ false → (mutator : ℕ) × IsLeft config memory mutator
+  pub served : all ≡ true → (mutator : ℕ) → mutator < t → IsLeft config memory mutator → ⊥
 
 -- after a turn that found no room, ..
-pub told_left : (config : Config) (memory : Word → ℕ) (t : ℕ) → IsLeft config memory t → IsTold config memory (t + 1) false
-told_left config memory t left = record { left = λ _. (t, left); served = λ never. absurd (false≢true never) }
+pub told_left : (config : Config) (memory : Word → ℕ) (mutator : ℕ) → IsLeft config memory mutator → IsTold config memory (mutator + 1) false
+told_left config memory mutator left = record { left = λ _. (mutator, left); served = λ never. absurd (false≢true never) }
 
 -- .. and after another
-pub told_served : (config : Config) (memory : Word → ℕ) (t : ℕ) (all : Bool) → (IsLeft config memory t → ⊥) → IsTold config memory t all → IsTold config memory (t + 1) all
-told_served config memory t all here before = record {
+pub told_served : (config : Config) (memory : Word → ℕ) (mutator : ℕ) (all : Bool) → (IsLeft config memory mutator → ⊥) → IsTold config memory mutator all → IsTold config memory (mutator + 1) all
+told_served config memory mutator all here before = record {
   left = before.left;
   served = λ yes u below left. ⊎_elim
-      (λ (now : u ≡ t). here (subst (IsLeft config memory) now left))
-      (λ (other : u ≢ t). before.served yes u (omega (arith, below, other)) left)
-      (cases_eq u t);
+      (λ (now : u ≡ mutator). here (subst (IsLeft config memory) now left))
+      (λ (other : u ≢ mutator). before.served yes u (omega (arith, below, other)) left)
+      (cases_eq u mutator);
 }

@@ -6,7 +6,7 @@ use Rattle.heap_words.specs.declared.config.Config.{Config}
 use Rattle.heap_words.specs.Words.{Word, Top, Heap}
 use Rattle.heap_words.specs.Encoding.{refs_in, object_words}
 use Rattle.heap_world.specs.Walk.{has}
-use Rattle.heap_world.proofs.Marks.{has-range}
+use Rattle.heap_world.proofs.TakenDown.{has-range}
 use Rattle.shen_graph.specs.Graph.{Graph}
 use Rattle.heap_world.specs.World.{Plot, thing}
 use Rattle.heap_world.proofs.Pointing.{piece_inside}
@@ -38,8 +38,8 @@ module _ (config : Config) (memory : Word → ℕ) (block : Plot) (graph : Graph
   -- what is held lies in the heap
   held_inside : (a : ℕ) → Held a → (config.region_words ≤ a) × (a < config.region_words + config.regions * config.region_words)
   held_inside a held =
-      let at = held_is_reached config (λ r. memory (Top r)) heap block now (IsAmong (held_words config memory)) graph holds a held in
-      let inside = piece_inside config (λ r. memory (Top r)) block holds.plotted a (thing at.0 at.1 at.2) at.3 in
+      let at = held_is_reached config (λ region. memory (Top region)) heap block now (IsAmong (held_words config memory)) graph holds a held in
+      let inside = piece_inside config (λ region. memory (Top region)) block holds.plotted a (thing at.0 at.1 at.2) at.3 in
       (inside.0, omega (arith, inside.1))
 
   -- a copy that is an address is that of a word that is not null
@@ -50,7 +50,7 @@ module _ (config : Config) (memory : Word → ℕ) (block : Plot) (graph : Graph
       (cases_eq word 0)
 
   copied : (word : ℕ) → word ≢ 0 → copy word ≡ now word
-  copied word some = cond-false (word == 0) 0 (now word) (ne_eqb word 0 some)
+  copied word positive = cond-false (word == 0) 0 (now word) (ne_eqb word 0 positive)
 
   -- the reference words of an object by their index
   abbrev field : ℕ → ℕ → ℕ
@@ -90,7 +90,7 @@ module _ (config : Config) (memory : Word → ℕ) (block : Plot) (graph : Graph
   -- exactly the held objects are kept, by their words
   pub walk_keeps : AreHeldKept heap Held (kept_in config memory)
   walk_keeps = record {
-    words = λ a held. cond-true (has (held_in config memory) a) (object_words (heap (a + 1))) 0 (held_is_found a held);
+    words = λ address held. cond-true (has (held_in config memory) address) (object_words (heap (address + 1))) 0 (held_is_found address held);
     only = λ a some. ⊎_elim
         (λ (is : has (held_in config memory) a ≡ true). found_is_held a is)
         (λ (none : has (held_in config memory) a ≡ false).

@@ -29,22 +29,22 @@ module _ (config : Config) (shut : ℕ → Bool) (memory : Word → ℕ) (block 
 
   -- the walk comes to the piece that has a word
   piece_of : (region k : ℕ) → region < config.regions → shut (region + 1) ≡ true → k < top region → HasWord region k
-  piece_of region zero inside closed some =
-      let b = parsed.filled.first region inside some in
+  piece_of region zero inside closed below =
+      let b = parsed.filled.first region inside below in
       let first = start_first heap (base_of config region) in
       let there : base_of config region ≡ base_of config region + start region 0 = omega (arith, first) in
       let is : block (base_of config region + start region 0) ≡ Some b.0 = ap block (sym there) ∙ b.1 in
       (b.0, is, omega (arith, first), omega (arith, first, parsed.some (base_of config region + start region 0) b.0 is))
-  piece_of region (suc k) inside closed some =
-      let before = piece_of region k inside closed (omega (arith, some)) in
+  piece_of region (suc k) inside closed below =
+      let before = piece_of region k inside closed (omega (arith, below)) in
       let most = plotted.tops region inside in
       let here = base_of config region + start region k in
-      let row = row_is config.region_words region here (omega arith) (omega (arith, before.2, some, most)) in
+      let row = row_is config.region_words region here (omega arith) (omega (arith, before.2, below, most)) in
       let words : stride_at heap here ≡ words_of before.0 = parsed.sized here before.0 before.1 (ap shut row ∙ closed) in
       ⊎_elim
       (λ (ends : start region k + stride_at heap here ≡ suc k).
       let next = start_ends heap (base_of config region) k ends in
-      let b = parsed.filled.next region here before.0 inside (omega arith) before.1 (omega (arith, ends, words, some)) in
+      let b = parsed.filled.next region here before.0 inside (omega arith) before.1 (omega (arith, ends, words, below)) in
       let there : here + words_of before.0 ≡ base_of config region + start region (suc k) = omega (arith, ends, words, next) in
       let is : block (base_of config region + start region (suc k)) ≡ Some b.0 = ap block (sym there) ∙ b.1 in
       (b.0, is, omega (arith, next), omega (arith, next, parsed.some (base_of config region + start region (suc k)) b.0 is)))
@@ -90,5 +90,5 @@ module _ (config : Config) (shut : ℕ → Bool) (memory : Word → ℕ) (block 
       (le-leb config.region_words address (piece_inside config top block plotted address piece is).0)
       (and_from (nat_lt region config.regions) (nat_lt (address - base_of config region) (memory (Top region)))
       (lt-ltb region config.regions (omega (arith, of, used.within)))
-      (lt-ltb (address - base_of config region) (memory (Top region)) (subst (λ j. address - base_of config j < memory (Top j)) (sym of) below))))
+      (lt-ltb (address - base_of config region) (memory (Top region)) (subst (λ region. address - base_of config region < memory (Top region)) (sym of) below))))
       (eq-eqb (object_of config memory address) address object)

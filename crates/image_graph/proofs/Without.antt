@@ -6,7 +6,7 @@ use Rattle.heap_words.specs.declared.config.Config.{Config}
 use Rattle.heap_words.specs.Encoding.{next_in, end_in}
 use Rattle.regions.specs.Place.{base_of}
 use Rattle.heap_world.specs.World.{spare, carved, Plot, IsBuffer, AreBuffers}
-use Rattle.heap_world.proofs.Updates.{updated, updated_same, updated_else}
+use Rattle.heap_world.proofs.FunctionUpdates.{updated, updated_same, updated_else}
 use Rattle.image_graph.proofs.CutOff.{CanCutOff, lower_top, block_without, top_else, ends, before_it, stays, came}
 
 module _ (config : Config) (top new_top current : ℕ → ℕ) (block plot : Plot) (seat : ℕ) (buffers : AreBuffers config top current block) (uncarved : (a s words : ℕ) → block a ≡ Some (carved s words) → ⊥) where
@@ -16,12 +16,12 @@ module _ (config : Config) (top new_top current : ℕ → ℕ) (block plot : Plo
       → ((s : ℕ) → s ≢ seat → (some : current s ≢ 0) → end_in (current s) ≤ base_of config (buffers.each s some).region + new_top (buffers.each s some).region)
       → AreBuffers config new_top (updated current seat 0) plot
   buffers_without stay came below = record {
-    each = λ s is_some. ⊎_elim
-        (λ (at : seat ≡ s). absurd (is_some (updated_same current seat 0 s at)))
-        (λ (other : seat ≢ s).
-        let is : updated current seat 0 s ≡ current s = updated_else current seat 0 s other in
-        subst (IsBuffer config new_top plot s) (sym is) (still s (λ at. other (sym at)) (λ none. is_some (is ∙ none))))
-        (cases_eq seat s);
+    each = λ other_seat is_some. ⊎_elim
+        (λ (at : seat ≡ other_seat). absurd (is_some (updated_same current seat 0 other_seat at)))
+        (λ (other : seat ≢ other_seat).
+        let is : updated current seat 0 other_seat ≡ current other_seat = updated_else current seat 0 other_seat other in
+        subst (IsBuffer config new_top plot other_seat) (sym is) (still other_seat (λ at. other (sym at)) (λ none. is_some (is ∙ none))))
+        (cases_eq seat other_seat);
     spares = λ address s more is.
         let was = came address s more is in
         subst (λ word. (next_in word ≡ address) × (end_in word ≡ address + more)) (sym (updated_else current seat 0 s (λ at. was.0 (sym at)))) (buffers.spares address s more was.1);
@@ -72,7 +72,7 @@ module _ (config : Config) (top current : ℕ → ℕ) (block : Plot) (seat a wo
 
   pub buffers_cut : AreBuffers config tops_then (updated current seat 0) after
   buffers_cut = buffers_without config top tops_then current block after seat buffers uncarved
-      (λ x s more differs is. stays config top block region a (spare seat words) can x (elsewhere x s more differs is) ∙ is)
+      (λ address s more differs is. stays config top block region a (spare seat words) can address (elsewhere address s more differs is) ∙ is)
       (λ x s more is.
       let was = came config top block region a (spare seat words) can x (spare s more) is in
       let there = buffers.spares x s more was.1 in

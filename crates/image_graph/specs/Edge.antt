@@ -9,7 +9,7 @@ use Rattle.image_graph.specs.SeatBuffers.{buffer_region, is_last}
 
 -- a seat has a buffer in a region that ends at its top
 abbrev pub is_last_in : Config → (Word → ℕ) → (region seat : ℕ) → Bool
-is_last_in config memory r seat = not (memory (Current seat) == 0) && (buffer_region config (memory (Current seat)) == r) && is_last config memory (memory (Current seat))
+is_last_in config memory region seat = not (memory (Current seat) == 0) && (buffer_region config (memory (Current seat)) == region) && is_last config memory (memory (Current seat))
 
 -- the lesser of a number, and of where the free words of so many seats begin that end at the top
 unfoldable pub edge_below : Config → (Word → ℕ) → (region : ℕ) → ℕ → ℕ
@@ -21,4 +21,4 @@ edge_below config memory region (suc seat) =
 
 -- The words of a region from its base that are in use, but for the free words of a buffer that ends at its top: the least, where several do.
 abbrev pub edge : Config → (Word → ℕ) → ℕ → ℕ
-edge config memory r = edge_below config memory r (seat_count config.mutators config.helpers)
+edge config memory region = edge_below config memory region (seat_count config.mutators config.helpers)

@@ -28,12 +28,12 @@ now_in memory address = if is_forwarded (memory (Heap address)) then forwardee_i
 -- the 16 roots of each of so many mutators, counted from 0
 abbrev pub roots_below : (Word → ℕ) → ℕ → List ℕ
 roots_below memory zero = []
-roots_below memory (suc t) = roots_below memory t ++ map (λ i. memory (Root t i)) (range_with_len 0 16)
+roots_below memory (suc mutator) = roots_below memory mutator ++ map (λ index. memory (Root mutator index)) (range_with_len 0 16)
 
 -- the answers of so many mutators that are addresses: 0 is no answer yet, and 1 says that the heap is full
 abbrev pub answers_below : (Word → ℕ) → ℕ → List ℕ
 answers_below memory zero = []
-answers_below memory (suc t) = answers_below memory t ++ (if nat_le (memory (Answer t)) 1 then [] else memory (Answer t) ∷ [])
+answers_below memory (suc mutator) = answers_below memory mutator ++ (if nat_le (memory (Answer mutator)) 1 then [] else memory (Answer mutator) ∷ [])
 
 -- the words that name objects, and are renewed when these move: roots, and answers that nobody has taken yet
 abbrev pub root_words : Config → (Word → ℕ) → List ℕ
@@ -83,33 +83,33 @@ top_then config shut kept memory region = if shut (region + 1) then memory (Top 
 
 -- the heap after the kept objects were moved
 unfoldable pub moved_heap : Config → (shut : ℕ → Bool) (now kept : ℕ → ℕ) → (Word → ℕ) → ℕ → ℕ
-moved_heap config shut now kept memory a = slid (place_in config shut kept) kept (renewed (place_in config shut kept) now) (λ x. memory (Heap x)) (heap_end config) a
+moved_heap config shut now kept memory a = slid (place_in config shut kept) kept (renewed (place_in config shut kept) now) (λ address. memory (Heap address)) (heap_end config) a
 
 -- The words after the kept objects were packed: objects at their new places, references renewed, what is left over in pinned regions
 -- only fills, tops and the free word by what was placed. Nothing of a collection in progress is left. Words that no object covers stay,
 -- and so do requests, pin slots, what SATB buffers had in them, and the words of the machines themselves.
 unfoldable pub packed : Config → (shut : ℕ → Bool) (now kept : ℕ → ℕ) → (Word → ℕ) → Word → ℕ
-packed config shut now kept memory (Heap a) =
-    if shut (region_with config a + 1) && (begins config memory a && is_unkept kept memory a) then filler_header (object_words (memory (Heap (a + 1)))) else moved_heap config shut now kept memory a
-packed config shut now kept memory (Root t i) = renewed (place_in config shut kept) now (memory (Root t i))
-packed config shut now kept memory (Answer t) = renewed_answer (place_in config shut kept) now (memory (Answer t))
-packed config shut now kept memory (Pin t i) = memory (Pin t i)
-packed config shut now kept memory (Top r) = top_then config shut kept memory r
+packed config shut now kept memory (Heap address) =
+    if shut (region_with config address + 1) && (begins config memory address && is_unkept kept memory address) then filler_header (object_words (memory (Heap (address + 1)))) else moved_heap config shut now kept memory address
+packed config shut now kept memory (Root mutator index) = renewed (place_in config shut kept) now (memory (Root mutator index))
+packed config shut now kept memory (Answer mutator) = renewed_answer (place_in config shut kept) now (memory (Answer mutator))
+packed config shut now kept memory (Pin mutator slot) = memory (Pin mutator slot)
+packed config shut now kept memory (Top region) = top_then config shut kept memory region
 packed config shut now kept memory Free = empty_regions (top_then config shut kept memory) config.regions
 packed config shut now kept memory Phase = idle_phase
 packed config shut now kept memory Cset = 0
 packed config shut now kept memory Evac = 0
 packed config shut now kept memory Claim = 0
 packed config shut now kept memory Ask = 0
-packed config shut now kept memory (Tams r) = 0
-packed config shut now kept memory (Limit r) = 0
+packed config shut now kept memory (Tams region) = 0
+packed config shut now kept memory (Limit region) = 0
 packed config shut now kept memory (Current seat) = 0
 packed config shut now kept memory Share = 0
-packed config shut now kept memory (Count t) = 0
-packed config shut now kept memory (Grey n) = 0
-packed config shut now kept memory (Black n) = 0
-packed config shut now kept memory (Wait t) = memory (Wait t)
-packed config shut now kept memory (Buffer t i) = memory (Buffer t i)
+packed config shut now kept memory (Count mutator) = 0
+packed config shut now kept memory (Grey number) = 0
+packed config shut now kept memory (Black number) = 0
+packed config shut now kept memory (Wait mutator) = memory (Wait mutator)
+packed config shut now kept memory (Buffer mutator entry) = memory (Buffer mutator entry)
 packed config shut now kept memory (State seat) = memory (State seat)
 packed config shut now kept memory Pause = memory Pause
 packed config shut now kept memory Left = memory Left
@@ -133,34 +133,34 @@ made_word address shape name before x =
     else before
 
 -- the words after the object that a thread asks for was made at the top of a region
-unfoldable pub made_in : Config → (Word → ℕ) → (thread region : ℕ) → Word → ℕ
-made_in config memory mutator region (Heap x) =
-    made_word (base_of config region + memory (Top region)) (request_shape_in (memory (Wait mutator))) (name_code (mutator + 1) (request_count_in (memory (Wait mutator)))) (memory (Heap x)) x
-made_in config memory mutator region (Top q) = if region == q then memory (Top region) + object_words (request_shape_in (memory (Wait mutator))) else memory (Top q)
+unfoldable pub made_in : Config → (Word → ℕ) → (mutator region : ℕ) → Word → ℕ
+made_in config memory mutator region (Heap address) =
+    made_word (base_of config region + memory (Top region)) (request_shape_in (memory (Wait mutator))) (name_code (mutator + 1) (request_count_in (memory (Wait mutator)))) (memory (Heap address)) address
+made_in config memory mutator region (Top other_region) = if region == other_region then memory (Top region) + object_words (request_shape_in (memory (Wait mutator))) else memory (Top other_region)
 made_in config memory mutator region Free = bit_and (memory Free) (all_but region)
-made_in config memory mutator region (Answer u) = if mutator == u then base_of config region + memory (Top region) else memory (Answer u)
-made_in config memory mutator region (Wait u) = if mutator == u then 0 else memory (Wait u)
+made_in config memory mutator region (Answer other_mutator) = if mutator == other_mutator then base_of config region + memory (Top region) else memory (Answer other_mutator)
+made_in config memory mutator region (Wait other_mutator) = if mutator == other_mutator then 0 else memory (Wait other_mutator)
 made_in config memory mutator region word = memory word
 
 -- and where no region was found, as they were
-abbrev pub served_in : Config → (Word → ℕ) → (thread : ℕ) → Option ℕ → Word → ℕ
-served_in config memory t None word = memory word
-served_in config memory t (Some r) word = made_in config memory t r word
+abbrev pub served_in : Config → (Word → ℕ) → (mutator : ℕ) → Option ℕ → Word → ℕ
+served_in config memory mutator None word = memory word
+served_in config memory mutator (Some region) word = made_in config memory mutator region word
 
 -- the region that the request of a thread finds: the lowest one that has room for it
 abbrev pub room_for : Config → (Word → ℕ) → ℕ → Option ℕ
-room_for config memory mutator = lowest_room config.region_words (λ r. memory (Top r)) (object_words (request_shape_in (memory (Wait mutator)))) config.regions
+room_for config memory mutator = lowest_room config.region_words (λ region. memory (Top region)) (object_words (request_shape_in (memory (Wait mutator)))) config.regions
 
 -- the words after each of so many threads had its turn, in their order; who does not wait has none
 unfoldable pub served : Config → (Word → ℕ) → ℕ → Word → ℕ
 served config memory zero word = memory word
-served config memory (suc t) word =
-    if served config memory t (Wait t) == 0 then served config memory t word else served_in config (served config memory t) t (room_for config (served config memory t) t) word
+served config memory (suc mutator) word =
+    if served config memory mutator (Wait mutator) == 0 then served config memory mutator word else served_in config (served config memory mutator) mutator (room_for config (served config memory mutator) mutator) word
 
 -- the words after each request that is left was answered: the heap is full
 unfoldable pub refused : (Word → ℕ) → Word → ℕ
-refused memory (Answer t) = if memory (Wait t) == 0 then memory (Answer t) else 1
-refused memory (Wait t) = 0
+refused memory (Answer mutator) = if memory (Wait mutator) == 0 then memory (Answer mutator) else 1
+refused memory (Wait mutator) = 0
 refused memory word = memory word
 
 -- the words after a full collection, from words in which no seat has a buffer

@@ -30,7 +30,7 @@ with_fields fields order (Some a) = with_addresses order (fields a)
 -- the addresses that are found in so many turns, each of which takes the next address of the list and adds its fields
 unfoldable pub found_in : (fields : ℕ → List ℕ) (roots : List ℕ) → ℕ → List ℕ
 found_in fields roots zero = with_addresses [] roots
-found_in fields roots (suc n) = with_fields fields (found_in fields roots n) (slice_get (found_in fields roots n) n)
+found_in fields roots (suc index) = with_fields fields (found_in fields roots index) (slice_get (found_in fields roots index) index)
 
 -- an object of a name is at an address, and is its current copy
 abbrev pub IsCopy : Plot → ℕ → Name → Type 0
@@ -46,6 +46,6 @@ pub record HoldsGraph (config : Config) (top heap : ℕ → ℕ) (block : Plot) 
       → (object : Object) × (graph.object name ≡ Some object) × IsThing heap block address refs nums name object
   pub once : (address other_address refs nums more_refs more_nums : ℕ) (name : Name) → IsLedTo now heap IsRoot address → IsLedTo now heap IsRoot other_address
       → block address ≡ Some (thing name refs nums) → block other_address ≡ Some (thing name more_refs more_nums) → address ≡ other_address
-  pub root_named : (word : ℕ) → IsRoot word → word ≢ 0 → (thread : ℕ) × (i : ℕ) × (name : Name) × (graph.root thread i ≡ Some name) × (name_at (block word) ≡ Some name)
-  pub root_held : (thread i : ℕ) (name : Name) → graph.root thread i ≡ Some name → (word : ℕ) × IsRoot word × (name_at (block word) ≡ Some name)
+  pub root_named : (word : ℕ) → IsRoot word → word ≢ 0 → (thread : ℕ) × (index : ℕ) × (name : Name) × (graph.root thread index ≡ Some name) × (name_at (block word) ≡ Some name)
+  pub root_held : (thread index : ℕ) (name : Name) → graph.root thread index ≡ Some name → (word : ℕ) × IsRoot word × (name_at (block word) ≡ Some name)
   pub pinless : (thread slot : ℕ) (held : Pinned) → graph.pin thread slot ≡ Some held → ⊥

@@ -35,14 +35,14 @@ pub record AreNext (config : Config) (memory : Word → ℕ) (graph : Graph) (pr
 -- What roots, answers and pin slots lead to is the graph with the promised objects, by current copies. Nothing is asked of objects
 -- that nothing leads to.
 pub record HoldsBy (config : Config) (memory : Word → ℕ) (block : Plot) (owner : ℕ → Option ℕ) (promises : Promises) (graph : Graph) : Type 0 where
-  pub objects : HoldsGraph config (λ r. memory (Top r)) (λ address. memory (Heap address)) block (now_in memory) (IsAmong (held_words config memory)) (with_promised graph promises)
+  pub objects : HoldsGraph config (λ region. memory (Top region)) (λ address. memory (Heap address)) block (now_in memory) (IsAmong (held_words config memory)) (with_promised graph promises)
   pub rooted : RootsStand config memory block graph promises
   pub moved : (address refs nums : ℕ) (name : Name) → block address ≡ Some (thing name refs nums) → is_forwarded (memory (Heap address)) ≡ true → HasMoved config memory block address refs nums name
-  pub filled : IsFilled config (λ r. memory (Top r)) block
+  pub filled : IsFilled config (λ region. memory (Top region)) block
   pub pieces : NamedAreThings block
-  pub free_word : IsFreeWord config (memory Free) (λ r. memory (Top r)) owner
+  pub free_word : IsFreeWord config (memory Free) (λ region. memory (Top region)) owner
   pub shared_one : ShareIsOpen config (memory Share) (memory Free) (memory Cset) owner
-  pub buffers : AreBuffers config (λ r. memory (Top r)) (λ s. memory (Current s)) block
+  pub buffers : AreBuffers config (λ region. memory (Top region)) (λ seat. memory (Current seat)) block
   pub asking : AreAsking config memory graph promises 0
   pub next : AreNext config memory graph promises
   pub unreached : AreFresh config.mutators graph promises

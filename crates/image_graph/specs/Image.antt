@@ -20,7 +20,7 @@ AnswerStands block word reference = ((word ≤ 1) × (reference ≡ None)) ⊎ (
 -- A pin word stands for what its slot holds: 0 for nothing, and else it is the object's place, where its current copy is.
 abbrev pub PinWordStands : (Word → ℕ) → Plot → ℕ → Option Pinned → Type 0
 PinWordStands memory block word None = word ≡ 0
-PinWordStands memory block word (Some p) = (word ≡ p.place) × IsCopy block word p.name × (is_forwarded (memory (Heap word)) ≡ false)
+PinWordStands memory block word (Some pinned) = (word ≡ pinned.place) × IsCopy block word pinned.name × (is_forwarded (memory (Heap word)) ≡ false)
 
 -- The root words stand for the roots, the pin words for what pin slots hold, and the answers for what is promised; there are no other
 -- roots, pins and promises.
@@ -35,22 +35,22 @@ pub record RootsStand (config : Config) (memory : Word → ℕ) (block : Plot) (
 -- The words stand for a graph with promised objects: pieces fill the regions and each is one of its objects, or words that only fill;
 -- roots, pins and answers stand for its roots, and the free word is right.
 pub record ImageStands (config : Config) (memory : Word → ℕ) (block : Plot) (graph : Graph) (promises : Promises) : Type 0 where
-  pub plotted : IsPlotted config (λ r. memory (Top r)) block
-  pub filled : IsFilled config (λ r. memory (Top r)) block
-  pub objects : AreObjects (λ a. memory (Heap a)) block (with_promised graph promises).object
+  pub plotted : IsPlotted config (λ region. memory (Top region)) block
+  pub filled : IsFilled config (λ region. memory (Top region)) block
+  pub objects : AreObjects (λ address. memory (Heap address)) block (with_promised graph promises).object
   pub things : AreThings block
-  pub fillers : FillersSay (λ a. memory (Heap a)) block
-  pub free_word : IsFreeWord config (memory Free) (λ r. memory (Top r)) (λ r. None)
+  pub fillers : FillersSay (λ address. memory (Heap address)) block
+  pub free_word : IsFreeWord config (memory Free) (λ region. memory (Top region)) (λ r. None)
   pub rooted : RootsStand config memory block graph promises
 
 -- An image whose words stand for a graph holds it, by current copies; ..
 abbrev pub StandingHolds : Type 0
 StandingHolds = (config : Config) (memory : Word → ℕ) (block : Plot) (graph : Graph) (promises : Promises) → ImageStands config memory block graph promises
-    → HoldsGraph config (λ r. memory (Top r)) (λ a. memory (Heap a)) block (now_in memory) (IsAmong (held_words config memory)) (with_promised graph promises)
+    → HoldsGraph config (λ region. memory (Top region)) (λ address. memory (Heap address)) block (now_in memory) (IsAmong (held_words config memory)) (with_promised graph promises)
 
 -- .. and where the words hold a graph, and pinned regions can be walked, they stand for it once what is held was packed.
 abbrev pub PackedStands : Type 0
 PackedStands = (config : Config) (memory : Word → ℕ) (block : Plot) (graph : Graph) (promises : Promises)
-    → HoldsGraph config (λ r. memory (Top r)) (λ a. memory (Heap a)) block (now_in memory) (IsAmong (held_words config memory)) (with_promised graph promises)
-    → RootsStand config memory block graph promises → AreParsed config (is_row_pinned config memory) (λ r. memory (Top r)) (λ a. memory (Heap a)) block
+    → HoldsGraph config (λ region. memory (Top region)) (λ address. memory (Heap address)) block (now_in memory) (IsAmong (held_words config memory)) (with_promised graph promises)
+    → RootsStand config memory block graph promises → AreParsed config (is_row_pinned config memory) (λ region. memory (Top region)) (λ address. memory (Heap address)) block
     → ImageStands config (packed config (is_row_pinned config memory) (now_in memory) (kept_in config memory) memory) (packed_block config (is_row_pinned config memory) (kept_in config memory) block) graph promises

@@ -27,21 +27,21 @@ ReachableAreHeld = (config : Config) (top heap : ℕ → ℕ) (block : Plot) (no
 
 -- The words before packing stand for a graph, and exactly what the root words lead to is kept. Regions can be walked, where they are shut.
 pub record IsBeforePacking (config : Config) (memory : Word → ℕ) (block : Plot) (graph : Graph) (shut : ℕ → Bool) (now kept : ℕ → ℕ) (roots : List ℕ) : Type 0 where
-  pub holds : HoldsGraph config (λ r. memory (Top r)) (λ a. memory (Heap a)) block now (IsAmong roots) graph
-  pub kept_are : AreHeldKept (λ a. memory (Heap a)) (IsLedTo now (λ a. memory (Heap a)) (IsAmong roots)) kept
-  pub parsed : AreParsed config shut (λ r. memory (Top r)) (λ a. memory (Heap a)) block
+  pub holds : HoldsGraph config (λ region. memory (Top region)) (λ address. memory (Heap address)) block now (IsAmong roots) graph
+  pub kept_are : AreHeldKept (λ address. memory (Heap address)) (IsLedTo now (λ address. memory (Heap address)) (IsAmong roots)) kept
+  pub parsed : AreParsed config shut (λ region. memory (Top region)) (λ address. memory (Heap address)) block
 
 -- After packing the words stand for the same graph: pieces fill the regions, and are the graph's objects or only fill; what a root word
 -- stood for it stands for once renewed, what lies in a shut region is where it was, and nobody has a region.
 pub record KeepsGraph (config : Config) (memory : Word → ℕ) (block : Plot) (graph : Graph) (shut : ℕ → Bool) (now kept : ℕ → ℕ) (roots : List ℕ) : Type 0 where
   pub plotted : IsPlotted config (λ region. packed config shut now kept memory (Top region)) (packed_block config shut kept block)
   pub filled : IsFilled config (λ region. packed config shut now kept memory (Top region)) (packed_block config shut kept block)
-  pub objects : AreObjects (λ a. packed config shut now kept memory (Heap a)) (packed_block config shut kept block) graph.object
+  pub objects : AreObjects (λ address. packed config shut now kept memory (Heap address)) (packed_block config shut kept block) graph.object
   pub root_words : (word : ℕ) (reference : Reference) → IsAmong roots word → Points block word reference → Points (packed_block config shut kept block) (renewed (place_in config shut kept) now word) reference
   pub stays : (word : ℕ) (name : Name) → IsAmong roots word → now word ≡ word → shut (word / config.region_words) ≡ true → IsCopy block word name → IsCopy (packed_block config shut kept block) word name
   pub free_word : IsFreeWord config (packed config shut now kept memory Free) (λ region. packed config shut now kept memory (Top region)) (λ region. None)
   pub things : AreThings (packed_block config shut kept block)
-  pub fillers : FillersSay (λ a. packed config shut now kept memory (Heap a)) (packed_block config shut kept block)
+  pub fillers : FillersSay (λ address. packed config shut now kept memory (Heap address)) (packed_block config shut kept block)
   pub tops_sum : tops_where (λ region. not (shut (region + 1))) (λ region. packed config shut now kept memory (Top region)) config.regions ≡ sum_below (open_kept config.region_words shut kept) (heap_end config)
 
 abbrev pub PackingKeepsGraph : Type 0
@@ -51,5 +51,5 @@ PackingKeepsGraph = (config : Config) (memory : Word → ℕ) (block : Plot) (gr
 -- the objects that one computes as kept are exactly those that the root words lead to, wherever words stand for a graph
 abbrev pub KeptAreHeld : Type 0
 KeptAreHeld = (config : Config) (memory : Word → ℕ) (block : Plot) (graph : Graph)
-    → HoldsGraph config (λ r. memory (Top r)) (λ a. memory (Heap a)) block (now_in memory) (IsAmong (held_words config memory)) graph
-    → AreHeldKept (λ a. memory (Heap a)) (IsLedTo (now_in memory) (λ a. memory (Heap a)) (IsAmong (held_words config memory))) (kept_in config memory)
+    → HoldsGraph config (λ region. memory (Top region)) (λ address. memory (Heap address)) block (now_in memory) (IsAmong (held_words config memory)) graph
+    → AreHeldKept (λ address. memory (Heap address)) (IsLedTo (now_in memory) (λ address. memory (Heap address)) (IsAmong (held_words config memory))) (kept_in config memory)

@@ -5,7 +5,7 @@ use Rattle.heap_words.specs.Words.{Word, Wait, view, table_words, heap_in, roots
 use Rattle.shen_graph.specs.declared.name.Name.{Name}
 use Rattle.regions.specs.ServedRooms.{NoneHasRoom}
 use Rattle.image_graph.specs.Full.{asked_in}
-use Rattle.image_graph.specs.Served.{tops_at_turn}
+use Rattle.image_graph.specs.RequestsServed.{tops_at_turn}
 use Rattle.shen_graph.specs.Graph.{Graph}
 use Rattle.shen_graph.specs.GraphText.{Text}
 use Rattle.heap_world.specs.Shows.{WordsStand, StandForSome, ShowsGraph}

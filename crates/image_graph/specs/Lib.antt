@@ -11,7 +11,7 @@ pub mod Plot
 pub mod Packing
 pub mod Full
 pub mod Laws
-pub mod Served
+pub mod RequestsServed
 pub mod Promised
 pub mod Image
 pub mod Serving
@@ -20,6 +20,6 @@ pub mod Holds
 pub mod Buffers
 pub mod Left
 pub mod Make
-pub mod Pack
+pub mod PackedTable
 pub mod Leftovers
 pub mod Laid

@@ -11,7 +11,7 @@ use Rattle.regions.specs.Places.{is_shut}
 -- the 4 pin slots of each of so many mutators, counted from 0
 abbrev pub pins_below : (Word → ℕ) → ℕ → List ℕ
 pins_below memory zero = []
-pins_below memory (suc t) = pins_below memory t ++ map (λ i. memory (Pin t i)) (range_with_len 0 4)
+pins_below memory (suc mutator) = pins_below memory mutator ++ map (λ slot. memory (Pin mutator slot)) (range_with_len 0 4)
 
 -- an address lies in a region
 abbrev pub lies_in : Config → (region : ℕ) → ℕ → Bool
@@ -19,11 +19,11 @@ lies_in config region a = nat_le (base_of config region) a && nat_lt a (base_of 
 
 -- a pin slot of a mutator holds an address of a region
 abbrev pub has_pin : Config → (Word → ℕ) → (region mutator : ℕ) → Bool
-has_pin config memory r mutator = list_any (λ i. lies_in config r (memory (Pin mutator i))) (range_with_len 0 4)
+has_pin config memory region mutator = list_any (λ slot. lies_in config region (memory (Pin mutator slot))) (range_with_len 0 4)
 
 -- A region is pinned: some pin slot holds an address there. Its objects stay where they are.
 abbrev pub is_pinned : Config → (Word → ℕ) → ℕ → Bool
-is_pinned config memory r = list_any (has_pin config memory r) (range_with_len 0 config.mutators)
+is_pinned config memory region = list_any (has_pin config memory region) (range_with_len 0 config.mutators)
 
 abbrev pub is_pinned_below : Config → (Word → ℕ) → (regions : ℕ) → ℕ → Bool
 is_pinned_below config memory regions r = nat_lt r regions && is_pinned config memory r
@@ -54,8 +54,8 @@ begins config memory x = is_in_use config memory x && (object_of config memory x
 
 -- The words after the objects that pass a test, in the regions that pass another, became words that only fill. All other words stay.
 abbrev pub filled_in : Config → (in_region : ℕ → Bool) (left : ℕ → Bool) → (Word → ℕ) → Word → ℕ
-filled_in config in_region left memory (Heap a) =
-    if in_region (region_with config a) && begins config memory a && left a then filler_header (object_words (memory (Heap (a + 1)))) else memory (Heap a)
+filled_in config in_region left memory (Heap address) =
+    if in_region (region_with config address) && begins config memory address && left address then filler_header (object_words (memory (Heap (address + 1)))) else memory (Heap address)
 filled_in config in_region left memory word = memory word
 
 -- the words after one of them did, if it passes the test
@@ -64,11 +64,11 @@ is_filled_from config left start memory word = if left start then write memory (
 
 -- An object begins at a distance behind the base of a region, or words that only fill: what is before it ends there.
 abbrev pub BeginsAt : Config → (Word → ℕ) → (region : ℕ) → ℕ → Type 0
-BeginsAt config memory region k = start_of (λ a. memory (Heap a)) (base_of config region) k ≡ k
+BeginsAt config memory region k = start_of (λ address. memory (Heap address)) (base_of config region) k ≡ k
 
 -- each object of a region ends at its top, or before, and so do words that only fill
 abbrev pub EndInRegion : Config → (Word → ℕ) → (region : ℕ) → Type 0
-EndInRegion config memory region = (k : ℕ) → k < memory (Top region) → BeginsAt config memory region k → k + stride_at (λ a. memory (Heap a)) (base_of config region + k) ≤ memory (Top region)
+EndInRegion config memory region = (k : ℕ) → k < memory (Top region) → BeginsAt config memory region k → k + stride_at (λ address. memory (Heap address)) (base_of config region + k) ≤ memory (Top region)
 
 -- what is left over of a region can be filled
 pub record CanFill (config : Config) (memory : Word → ℕ) (region : ℕ) : Type 0 where

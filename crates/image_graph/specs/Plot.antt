@@ -57,4 +57,4 @@ packed_block config shut kept block at =
 
 -- the top of each open region then
 abbrev pub packed_top : Config → (shut : ℕ → Bool) (kept : ℕ → ℕ) → ℕ → ℕ
-packed_top config shut kept r = top_before config.region_words shut kept r (heap_end config)
+packed_top config shut kept region = top_before config.region_words shut kept region (heap_end config)

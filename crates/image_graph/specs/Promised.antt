@@ -22,8 +22,8 @@ pub record Promises : Type 0 where
 -- pin slots hold as the four behind. The name of a promised object says which thread it is of.
 abbrev pub with_promised : Graph → Promises → Graph
 with_promised graph promises = record graph {
-  object = λ n. if same_reference (promises.ref n.thread) (Some n) then Some (blank (promises.refs n.thread) (promises.nums n.thread)) else graph.object n;
-  root = λ t i. if i == 16 then promises.ref t else (if nat_le 17 i && nat_lt i 21 then name_in (graph.pin t (i - 17)) else graph.root t i);
+  object = λ name. if same_reference (promises.ref name.thread) (Some name) then Some (blank (promises.refs name.thread) (promises.nums name.thread)) else graph.object name;
+  root = λ thread index. if index == 16 then promises.ref thread else (if nat_le 17 index && nat_lt index 21 then name_in (graph.pin thread (index - 17)) else graph.root thread index);
   pin = λ t slot. None;
 }
 

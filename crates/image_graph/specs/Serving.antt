@@ -14,7 +14,7 @@ use Rattle.image_graph.specs.Pinned.{is_row_pinned}
 use Rattle.image_graph.specs.Plot.{AreParsed, packed_block}
 use Rattle.image_graph.specs.Full.{asked_in, room_for, served, packed, full_from, now_in, held_words, kept_in}
 use Rattle.image_graph.specs.Promised.{Promises, with_promised, AreFresh, promised_words}
-use Rattle.image_graph.specs.Served.{given_in}
+use Rattle.image_graph.specs.RequestsServed.{given_in}
 use Rattle.image_graph.specs.Held.{IsAmong, HoldsGraph}
 use Rattle.image_graph.specs.Image.{RootsStand, ImageStands}
 
@@ -30,17 +30,17 @@ abbrev pub asked_piece : (Word → ℕ) → ℕ → Block
 asked_piece memory t = thing (asked_name memory t) (refs_in (asked_shape memory t)) (nums_in (asked_shape memory t))
 
 -- the regions with it at the top of a region, if one was found
-abbrev pub made_block : Config → (Word → ℕ) → Plot → (thread : ℕ) → Option ℕ → Plot
+abbrev pub made_block : Config → (Word → ℕ) → Plot → (mutator : ℕ) → Option ℕ → Plot
 made_block config memory block mutator None = block
-made_block config memory block mutator (Some r) = λ a. if base_of config r + memory (Top r) == a then Some (asked_piece memory mutator) else block a
+made_block config memory block mutator (Some region) = λ address. if base_of config region + memory (Top region) == address then Some (asked_piece memory mutator) else block address
 
 -- what threads are promised with it
-abbrev pub made_promise : (Word → ℕ) → Promises → (thread : ℕ) → Option ℕ → Promises
-made_promise memory promises t None = promises
-made_promise memory promises t (Some r) = record {
-  ref = λ u. if t + 1 == u then Some (asked_name memory t) else promises.ref u;
-  refs = λ u. if t + 1 == u then refs_in (asked_shape memory t) else promises.refs u;
-  nums = λ u. if t + 1 == u then nums_in (asked_shape memory t) else promises.nums u;
+abbrev pub made_promise : (Word → ℕ) → Promises → (mutator : ℕ) → Option ℕ → Promises
+made_promise memory promises mutator None = promises
+made_promise memory promises mutator (Some r) = record {
+  ref = λ u. if mutator + 1 == u then Some (asked_name memory mutator) else promises.ref u;
+  refs = λ u. if mutator + 1 == u then refs_in (asked_shape memory mutator) else promises.refs u;
+  nums = λ u. if mutator + 1 == u then nums_in (asked_shape memory mutator) else promises.nums u;
 }
 
 -- the region that a thread's object is made in at its turn; none where the thread does not wait, or finds no room
@@ -50,11 +50,11 @@ turn_room config memory mutator = if memory (Wait mutator) == 0 then None else r
 -- the regions, and what threads are promised, after each of so many threads had its turn
 unfoldable pub served_block : Config → (Word → ℕ) → Plot → ℕ → Plot
 served_block config memory block zero = block
-served_block config memory block (suc t) = made_block config (served config memory t) (served_block config memory block t) t (turn_room config (served config memory t) t)
+served_block config memory block (suc mutator) = made_block config (served config memory mutator) (served_block config memory block mutator) mutator (turn_room config (served config memory mutator) mutator)
 
 unfoldable pub served_promises : Config → (Word → ℕ) → Promises → ℕ → Promises
 served_promises config memory promises zero = promises
-served_promises config memory promises (suc t) = made_promise (served config memory t) (served_promises config memory promises t) t (turn_room config (served config memory t) t)
+served_promises config memory promises (suc mutator) = made_promise (served config memory mutator) (served_promises config memory promises mutator) mutator (turn_room config (served config memory mutator) mutator)
 
 -- A thread that waits asks for an object that can be: few fields, a count that a name can have, and a name that no object
 -- has. It has no answer yet.
@@ -78,8 +78,8 @@ ServingStands = (config : Config) (memory : Word → ℕ) (block : Plot) (graph 
 -- made for waiting threads as further promises.
 abbrev pub FullStands : Type 0
 FullStands = (config : Config) (memory : Word → ℕ) (block : Plot) (graph : Graph) (promises : Promises)
-    → HoldsGraph config (λ r. memory (Top r)) (λ a. memory (Heap a)) block (now_in memory) (IsAmong (held_words config memory)) (with_promised graph promises)
-    → RootsStand config memory block graph promises → AreParsed config (is_row_pinned config memory) (λ r. memory (Top r)) (λ a. memory (Heap a)) block → AreAsking config memory graph promises 0
+    → HoldsGraph config (λ region. memory (Top region)) (λ address. memory (Heap address)) block (now_in memory) (IsAmong (held_words config memory)) (with_promised graph promises)
+    → RootsStand config memory block graph promises → AreParsed config (is_row_pinned config memory) (λ region. memory (Top region)) (λ address. memory (Heap address)) block → AreAsking config memory graph promises 0
     → ImageStands config (full_from config memory) (served_block config (packed config (is_row_pinned config memory) (now_in memory) (kept_in config memory) memory) (packed_block config (is_row_pinned config memory) (kept_in config memory) block) config.mutators) graph
     (served_promises config (packed config (is_row_pinned config memory) (now_in memory) (kept_in config memory) memory) promises config.mutators)
 
@@ -87,7 +87,7 @@ FullStands = (config : Config) (memory : Word → ℕ) (block : Plot) (graph : G
 -- before it in this pause crowd the regions without a pinned object: with n words less in each they could not be full.
 abbrev pub FullIsCrowded : Type 0
 FullIsCrowded = (config : Config) (memory : Word → ℕ) (block : Plot) (graph : Graph) (promises : Promises) (names : List Name) (held pinned : ℕ)
-    → HoldsGraph config (λ r. memory (Top r)) (λ a. memory (Heap a)) block (now_in memory) (IsAmong (held_words config memory)) (with_promised graph promises)
+    → HoldsGraph config (λ region. memory (Top region)) (λ address. memory (Heap address)) block (now_in memory) (IsAmong (held_words config memory)) (with_promised graph promises)
     → RootsStand config memory block graph promises → AreFresh config.mutators graph promises → IsReach graph names → Held graph held → PinnedRegions config.region_words graph pinned
     → (mutator : ℕ) → mutator < config.mutators → memory (Wait mutator) ≢ 0 → asked_in memory mutator ≤ config.region_words → full_from config memory (Answer mutator) ≡ 1
     → (config.regions - pinned) * (config.region_words - asked_in memory mutator + 1)

@@ -3,7 +3,7 @@
 ghost use Rattle.image_graph.specs.Image.{StandingHolds, PackedStands};
 ghost use Rattle.image_graph.specs.Laws.{ReachableAreHeld, PackingKeepsGraph, KeptAreHeld};
 ghost use Rattle.image_graph.specs.Promised.{KeptAreLive, KeptAreLiveOrPromised, OpenKeptAreFewer};
-ghost use Rattle.image_graph.specs.Served.{ServingAnswers};
+ghost use Rattle.image_graph.specs.RequestsServed.{ServingAnswers};
 ghost use Rattle.image_graph.specs.Serving.{ServingStands, FullStands, FullIsCrowded};
 
 /// A law: what root words lead to, by current copies, are exactly the current copies of the objects that the graph

@@ -8,7 +8,7 @@ ghost use Rattle.regions.specs.Table.{word_of, kept_of, now_of, LeadsToKept, Can
 ghost use Rattle.image_graph.specs.Pinned.{pinned_set, is_row_pinned};
 ghost use Rattle.regions.specs.Places.{is_shut};
 ghost use Rattle.image_graph.specs.State.{config_of, words_of, memory_of, marks_of, found_of, places_of};
-ghost use Rattle.image_graph.specs.Pack.{IsPacked};
+ghost use Rattle.image_graph.specs.PackedTable.{IsPacked};
 
 use crate::image::Image;
 use crate::sets::with_if;

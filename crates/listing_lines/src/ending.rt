@@ -4,7 +4,7 @@ ghost use Rattle.shen_core.specs.Progress.{CanRun};
 
 use crate::columns::{NARROW_WRAP, WRAP};
 use crate::course::Listing;
-use crate::ends::{json_end, json_stuck, machine_of, put_end, put_stuck};
+use crate::standing::{json_end, json_stuck, machine_of, put_end, put_stuck};
 use heap_words::Item;
 use listing::{Row, json_number, json_text};
 use listing_heap::{json_graph, put_graph};

@@ -1,7 +1,7 @@
 //! The line of an event as an object of JSON.
 
 use crate::course::Listing;
-use crate::ends::{json_command, json_reply, json_seat};
+use crate::standing::{json_command, json_reply, json_seat};
 use crate::tally::Tally;
 use heap_words::{Access, Config, Took};
 use listing::{Event, Row, json_access, json_flag, json_number, json_text, json_value};

@@ -6,7 +6,6 @@
 mod columns;
 mod course;
 mod ending;
-mod ends;
 mod event_lines;
 mod filter;
 mod hands;
@@ -17,16 +16,17 @@ mod pause_lines;
 mod pen;
 mod said;
 mod scout;
+mod standing;
 mod tally;
 mod text_lines;
 mod words;
 mod words_now;
 
 pub use course::Listing;
-pub use ends::{
+pub use filter::{Filter, Needle, Stranger};
+pub use scout::{event_of, is_stalled, item_at_work, limit_of};
+pub use standing::{
     json_command, json_end, json_reply, json_seat, json_stuck, machine_of, put_end, put_stuck,
     write_head,
 };
-pub use filter::{Filter, Needle, Stranger};
-pub use scout::{event_of, is_stalled, item_at_work, limit_of};
 pub use words::{Asked, FORM, PauseForm, Refusal, Wanted, asked_by};

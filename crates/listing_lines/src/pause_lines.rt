@@ -38,10 +38,7 @@ fn json_entries(row: &mut Row, entries: Range<u64>) {
 
 // The store of a word that a pause has changed.
 fn store_of(table: &Table, at: usize) -> Access {
-    Access::Store {
-        at,
-        value: table.word(at),
-    }
+    Access::store(at, table.word(at))
 }
 
 // Sets the line of a word that a pause has changed.

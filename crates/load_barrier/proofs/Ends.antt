@@ -30,23 +30,23 @@ says_by_is : (said : Took) (next : ResolveSpot) → is_ended next ≡ false → 
 says_by_is Again next going = ((λ done. absurd (cc (done))), (λ resolved. absurd (cc (going, resolved))))
 says_by_is said next going = says_is next
 
-enter_goes : (at : RoomSpot) → is_ended (after_enter at) ≡ false
+enter_goes : (spot : RoomSpot) → is_ended (after_enter spot) ≡ false
 enter_goes room.Inside = refl
 enter_goes room.Stopped = refl
-enter_goes at = refl
+enter_goes spot = refl
 
-take_goes : (words : ℕ) (at : TakeSpot) → is_ended (after_take words at) ≡ false
+take_goes : (words : ℕ) (spot : TakeSpot) → is_ended (after_take words spot) ≡ false
 take_goes words (take.Ended (At copy) end) = refl
 take_goes words (take.Ended NoRoom end) = refl
-take_goes words at = refl
+take_goes words spot = refl
 
-stop_goes : (at : RoomSpot) → is_ended (after_stop at) ≡ false
+stop_goes : (spot : RoomSpot) → is_ended (after_stop spot) ≡ false
 stop_goes room.Stopped = refl
-stop_goes at = refl
+stop_goes spot = refl
 
-pub done_is : (config : Config) (address phase : ℕ) (at : ResolveSpot) (got : ℕ) → (says_at config address phase at got ≡ Done) ↔ (is_ended (next_at config address phase at got) ≡ true)
-done_is config address phase (Entering at) got = says_by_is (rooms.says_at at got) (after_enter (rooms.next_at at got)) (enter_goes (rooms.next_at at got))
-done_is config address phase (Taking words at) got =
-    says_by_is (takes.says_at at (take_next config words at got)) (after_take words (take_next config words at got)) (take_goes words (take_next config words at got))
-done_is config address phase (Stopping at) got = says_by_is (rooms.says_at at got) (after_stop (rooms.next_at at got)) (stop_goes (rooms.next_at at got))
-done_is config address phase at got = says_is (next_at config address phase at got)
+pub done_is : (config : Config) (address phase : ℕ) (spot : ResolveSpot) (got : ℕ) → (says_at config address phase spot got ≡ Done) ↔ (is_ended (next_at config address phase spot got) ≡ true)
+done_is config address phase (Entering spot) got = says_by_is (rooms.says_at spot got) (after_enter (rooms.next_at spot got)) (enter_goes (rooms.next_at spot got))
+done_is config address phase (Taking words spot) got =
+    says_by_is (takes.says_at spot (take_next config words spot got)) (after_take words (take_next config words spot got)) (take_goes words (take_next config words spot got))
+done_is config address phase (Stopping spot) got = says_by_is (rooms.says_at spot got) (after_stop (rooms.next_at spot got)) (stop_goes (rooms.next_at spot got))
+done_is config address phase spot got = says_is (next_at config address phase spot got)

@@ -28,8 +28,8 @@ module _ (config : Config) (seat address phase : ℕ) where
     whole = λ copy end is. known is;
   }
     where
-      known : {spot : ResolveSpot} → resolving.spot ≡ spot → Knows phase address (λ a. resolving.memory (Heap a)) (resolving.memory Evac) spot
-      known is = subst (λ spot. Knows phase address (λ a. resolving.memory (Heap a)) (resolving.memory Evac) spot) is can.knows
+      known : {spot : ResolveSpot} → resolving.spot ≡ spot → Knows phase address (λ address. resolving.memory (Heap address)) (resolving.memory Evac) spot
+      known is = subst (λ spot. Knows phase address (λ address. resolving.memory (Heap address)) (resolving.memory Evac) spot) is can.knows
 
 pub answers_current : AnswersAreCurrent
 answers_current c seat address phase memory moves header are =

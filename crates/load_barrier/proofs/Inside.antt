@@ -34,7 +34,7 @@ words_inside config address words index has below =
 heap_there : (config : Config) (address : ℕ) → is_word config (Heap address) ≡ true → IsWord config (Heap address)
 heap_there config address is = is_word_true config (Heap address) is
 
-copy_inside : (config : Config) (seat address copy end : ℕ) (at : CopySpot) → seat < seat_count config.mutators config.helpers → is_word config (Heap address) ≡ true → copy_ready config address copy at ≡ true → IsWord config (resolves.copy_touch seat address copy end at).word
+copy_inside : (config : Config) (seat address copy end : ℕ) (spot : CopySpot) → seat < seat_count config.mutators config.helpers → is_word config (Heap address) ≡ true → copy_ready config address copy spot ≡ true → IsWord config (resolves.copy_touch seat address copy end spot).word
 copy_inside config seat address copy end (LoadWord words index) seated there ready =
     let object = and_parts _ _ ready in
     words_inside config address words index (and_parts _ _ object.0).1 (ltb-true _ _ (and_parts _ _ object.1).1)
@@ -46,32 +46,32 @@ copy_inside config seat address copy end Publish seated there ready = heap_there
 copy_inside config seat address copy end (GiveBack answer) seated there ready = seated
 
 -- where the address is one of the heap, each access of its resolving is of a word of the table
-pub resolve_inside : (config : Config) (seat address : ℕ) (at : ResolveSpot) → seat < seat_count config.mutators config.helpers → is_word config (Heap address) ≡ true → resolve.is_ready config seat address at ≡ true → IsWord config (resolves.touch_at config seat address at).word
+pub resolve_inside : (config : Config) (seat address : ℕ) (spot : ResolveSpot) → seat < seat_count config.mutators config.helpers → is_word config (Heap address) ≡ true → resolve.is_ready config seat address spot ≡ true → IsWord config (resolves.touch_at config seat address spot).word
 resolve_inside config seat address LoadHeader seated there ready = heap_there config address there
-resolve_inside config seat address (Entering at) seated there ready = tt
+resolve_inside config seat address (Entering spot) seated there ready = tt
 resolve_inside config seat address LoadShape seated there ready = heap_there config (address + 1) ready
-resolve_inside config seat address (Taking words at) seated there ready =
-    is_word_true config (takes.touch_at seat words at).word (and_parts _ _ (and_parts _ _ (and_parts _ _ (and_parts _ _ ready).1).1).0).0
-resolve_inside config seat address (Copying copy end at) seated there ready = copy_inside config seat address copy end at seated there (and_parts _ _ ready).0
+resolve_inside config seat address (Taking words spot) seated there ready =
+    is_word_true config (takes.touch_at seat words spot).word (and_parts _ _ (and_parts _ _ (and_parts _ _ (and_parts _ _ ready).1).1).0).0
+resolve_inside config seat address (Copying copy end spot) seated there ready = copy_inside config seat address copy end spot seated there (and_parts _ _ ready).0
 resolve_inside config seat address (Leaving answer) seated there ready = tt
-resolve_inside config seat address (Stopping at) seated there ready = tt
+resolve_inside config seat address (Stopping spot) seated there ready = tt
 resolve_inside config seat address LoadAgain seated there ready = heap_there config address there
 resolve_inside config seat address (Resolved answer) seated there ready = heap_there config address there
 
 -- and so is each access of an evacuation
-pub evacuation_inside : (config : Config) (seat : ℕ) (at : EvacSpot) → seat < seat_count config.mutators config.helpers → is_ready config seat at ≡ true → IsWord config (evacs.touch_at config seat at).word
+pub evacuation_inside : (config : Config) (seat : ℕ) (spot : EvacSpot) → seat < seat_count config.mutators config.helpers → is_ready config seat spot ≡ true → IsWord config (evacs.touch_at config seat spot).word
 evacuation_inside config seat evac.LoadClaim seated ready = tt
 evacuation_inside config seat (evac.ClaimUnit unit) seated ready = tt
 evacuation_inside config seat (evac.LoadTop region) seated ready = ltb-true _ _ ready
 evacuation_inside config seat (evac.LoadFirst address end) seated ready = heap_there config address ready
 evacuation_inside config seat (evac.LoadShape address end) seated ready = heap_there config (address + 1) (and_parts _ _ ready).1
 evacuation_inside config seat (evac.LoadMark address end next) seated ready = word_inside config address (heap_there config address (and_parts _ _ (and_parts _ _ ready).0).0)
-evacuation_inside config seat (evac.Resolving address end next at) seated ready =
+evacuation_inside config seat (evac.Resolving address end next spot) seated ready =
     let parts = and_parts _ _ ready in
-    resolve_inside config seat address at seated (and_parts _ _ parts.0).0 (and_parts _ _ (and_parts _ _ parts.1).1).0
+    resolve_inside config seat address spot seated (and_parts _ _ parts.0).0 (and_parts _ _ (and_parts _ _ parts.1).1).0
 evacuation_inside config seat (evac.Ended unit) seated ready = tt
 
-copy_image : (seat address copy end : ℕ) (at : CopySpot) → is_image (resolves.copy_touch seat address copy end at).word ≡ true
+copy_image : (seat address copy end : ℕ) (spot : CopySpot) → is_image (resolves.copy_touch seat address copy end spot).word ≡ true
 copy_image seat address copy end (LoadWord words index) = refl
 copy_image seat address copy end (StoreWord words index found) = refl
 copy_image seat address copy end StoreHeader = refl
@@ -79,24 +79,24 @@ copy_image seat address copy end Publish = refl
 copy_image seat address copy end (GiveBack answer) = refl
 
 -- a resolving accesses words of the image alone
-pub resolve_image : (config : Config) (seat address : ℕ) (at : ResolveSpot) → is_image (resolves.touch_at config seat address at).word ≡ true
+pub resolve_image : (config : Config) (seat address : ℕ) (spot : ResolveSpot) → is_image (resolves.touch_at config seat address spot).word ≡ true
 resolve_image config seat address LoadHeader = refl
-resolve_image config seat address (Entering at) = refl
+resolve_image config seat address (Entering spot) = refl
 resolve_image config seat address LoadShape = refl
-resolve_image config seat address (Taking words at) = in_image seat words at
-resolve_image config seat address (Copying copy end at) = copy_image seat address copy end at
+resolve_image config seat address (Taking words spot) = in_image seat words spot
+resolve_image config seat address (Copying copy end spot) = copy_image seat address copy end spot
 resolve_image config seat address (Leaving answer) = refl
-resolve_image config seat address (Stopping at) = refl
+resolve_image config seat address (Stopping spot) = refl
 resolve_image config seat address LoadAgain = refl
 resolve_image config seat address (Resolved answer) = refl
 
 -- and so does an evacuation
-pub evacuation_image : (config : Config) (seat : ℕ) (at : EvacSpot) → is_image (evacs.touch_at config seat at).word ≡ true
+pub evacuation_image : (config : Config) (seat : ℕ) (spot : EvacSpot) → is_image (evacs.touch_at config seat spot).word ≡ true
 evacuation_image config seat evac.LoadClaim = refl
 evacuation_image config seat (evac.ClaimUnit unit) = refl
 evacuation_image config seat (evac.LoadTop region) = refl
 evacuation_image config seat (evac.LoadFirst address end) = refl
 evacuation_image config seat (evac.LoadShape address end) = refl
 evacuation_image config seat (evac.LoadMark address end next) = refl
-evacuation_image config seat (evac.Resolving address end next at) = resolve_image config seat address at
+evacuation_image config seat (evac.Resolving address end next spot) = resolve_image config seat address spot
 evacuation_image config seat (evac.Ended unit) = refl

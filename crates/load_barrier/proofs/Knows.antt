@@ -47,12 +47,12 @@ module _ (phase address : ℕ) where
   -- what holds at each spot
   abbrev pub Knows : (ℕ → ℕ) → ℕ → ResolveSpot → Type 0
   Knows heap evac LoadHeader = ⊤
-  Knows heap evac (Entering at) = IsAsking at × Mine evac at
+  Knows heap evac (Entering spot) = IsAsking spot × Mine evac spot
   Knows heap evac LoadShape = ⊤
-  Knows heap evac (Taking words at) = (words ≡ words_by_shape heap address) × (takes.is_ended at ≡ false)
-  Knows heap evac (Copying copy end at) = CopyKnows heap copy at
+  Knows heap evac (Taking words spot) = (words ≡ words_by_shape heap address) × (takes.is_ended spot ≡ false)
+  Knows heap evac (Copying copy end spot) = CopyKnows heap copy spot
   Knows heap evac (Leaving answer) = heap address ≡ header_word answer
-  Knows heap evac (Stopping at) = IsGoing at × Mine evac at
+  Knows heap evac (Stopping spot) = IsGoing spot × Mine evac spot
   Knows heap evac LoadAgain = IsQuiet evac
   Knows heap evac (Resolved answer) = (answer ≡ current_copy address (heap address)) × IsSettled heap evac
 
@@ -62,7 +62,7 @@ module _ (phase address : ℕ) where
     pub knows : Knows heap evac spot
 
   abbrev pub Can : (Word → ℕ) → ResolveSpot → Type 0
-  Can memory spot = CanResolve (λ a. memory (Heap a)) (memory Evac) spot
+  Can memory spot = CanResolve (λ address. memory (Heap address)) (memory Evac) spot
 
 -- a header that names a copy reads so
 pub header_forwarded : (to : ℕ) → is_forwarded (header_word to) ≡ true
@@ -112,8 +112,8 @@ module _ (phase address : ℕ) (spot : ResolveSpot) (before after : Word → ℕ
   settled_stays (inr (inr updating)) = inr (inr updating)
 
 -- what holds of a copying stays
-copy_stays : (phase address copy end : ℕ) (at : CopySpot) (before after : Word → ℕ) → LeaveObject phase address (Copying copy end at) before after
-    → CopyKnows phase address (λ a. before (Heap a)) copy at → CopyKnows phase address (λ a. after (Heap a)) copy at
+copy_stays : (phase address copy end : ℕ) (spot : CopySpot) (before after : Word → ℕ) → LeaveObject phase address (Copying copy end spot) before after
+    → CopyKnows phase address (λ address. before (Heap address)) copy spot → CopyKnows phase address (λ address. after (Heap address)) copy spot
 copy_stays phase address copy end (LoadWord words index) before after left knows =
     let same = words_stay phase address (Copying copy end (LoadWord words index)) before after left refl in (
       knows.0 ∙ sym same,
@@ -131,29 +131,29 @@ copy_stays phase address copy end (StoreWord words index found) before after lef
     )
 copy_stays phase address copy end StoreHeader before after left knows =
     let same = words_stay phase address (Copying copy end StoreHeader) before after left refl in
-    subst (λ n. AreCopied (λ a. after (Heap a)) address copy n) (sym same)
-    (copied_stay phase address (Copying copy end StoreHeader) before after left copy (words_by_shape (λ a. before (Heap a)) address) refl (omega arith) left.room knows)
+    subst (λ n. AreCopied (λ address. after (Heap address)) address copy n) (sym same)
+    (copied_stay phase address (Copying copy end StoreHeader) before after left copy (words_by_shape (λ address. before (Heap address)) address) refl (omega arith) left.room knows)
 copy_stays phase address copy end Publish before after left knows =
     let same = words_stay phase address (Copying copy end Publish) before after left refl in
     record {
       header = first (left.room 0 (omega arith)) ∙ knows.header;
-      words = subst (λ n. AreCopied (λ a. after (Heap a)) address copy n) (sym same)
-          (copied_stay phase address (Copying copy end Publish) before after left copy (words_by_shape (λ a. before (Heap a)) address) refl (omega arith) left.room knows.words);
+      words = subst (λ n. AreCopied (λ address. after (Heap address)) address copy n) (sym same)
+          (copied_stay phase address (Copying copy end Publish) before after left copy (words_by_shape (λ address. before (Heap address)) address) refl (omega arith) left.room knows.words);
     }
   where
     first : after (Heap (copy + 0)) ≡ before (Heap (copy + 0)) → after (Heap copy) ≡ before (Heap copy)
-    first is = subst (λ a. after (Heap a) ≡ before (Heap a)) (omega arith) is
+    first is = subst (λ address. after (Heap address) ≡ before (Heap address)) (omega arith) is
 copy_stays phase address copy end (GiveBack answer) before after left knows = header_stays phase address (Copying copy end (GiveBack answer)) before after left answer knows
 
 knows_stay : (phase address : ℕ) (spot : ResolveSpot) (before after : Word → ℕ) → LeaveObject phase address spot before after
-    → Knows phase address (λ a. before (Heap a)) (before Evac) spot → Knows phase address (λ a. after (Heap a)) (after Evac) spot
+    → Knows phase address (λ address. before (Heap address)) (before Evac) spot → Knows phase address (λ address. after (Heap address)) (after Evac) spot
 knows_stay phase address LoadHeader before after left knows = tt
-knows_stay phase address (Entering at) before after left knows = (knows.0, mine_stays (before Evac) (after Evac) at left.out knows.1)
+knows_stay phase address (Entering spot) before after left knows = (knows.0, mine_stays (before Evac) (after Evac) spot left.out knows.1)
 knows_stay phase address LoadShape before after left knows = tt
-knows_stay phase address (Taking words at) before after left knows = (knows.0 ∙ sym (words_stay phase address (Taking words at) before after left refl), knows.1)
-knows_stay phase address (Copying copy end at) before after left knows = copy_stays phase address copy end at before after left knows
+knows_stay phase address (Taking words spot) before after left knows = (knows.0 ∙ sym (words_stay phase address (Taking words spot) before after left refl), knows.1)
+knows_stay phase address (Copying copy end spot) before after left knows = copy_stays phase address copy end spot before after left knows
 knows_stay phase address (Leaving answer) before after left knows = header_stays phase address (Leaving answer) before after left answer knows
-knows_stay phase address (Stopping at) before after left knows = (knows.0, mine_stays (before Evac) (after Evac) at left.out knows.1)
+knows_stay phase address (Stopping spot) before after left knows = (knows.0, mine_stays (before Evac) (after Evac) spot left.out knows.1)
 knows_stay phase address LoadAgain before after left knows = left.stopped knows
 knows_stay phase address (Resolved answer) before after left knows = (
   knows.0 ∙ sym (ap (current_copy address) (settled_header phase address (Resolved answer) before after left knows.1)),

@@ -70,12 +70,12 @@ module _ (phase address : ℕ) where
       by_found false is = record { header = can.header; counted = λ copies. absurd (cc (copies)); knows = (tt, tt) }
 
   -- a step of the taking of room
-  take_leads : (heap : ℕ → ℕ) (evac words : ℕ) (at : TakeSpot) → IsHeader (heap address) → 1 ≤ count_of evac → words ≡ words_by_shape heap address
-      → CanResolve phase address heap evac (after_take words at)
-  take_leads heap evac words (take.Ended (At copy) end) header some are =
-      record { header = header; counted = λ copies. some; knows = (are, omega arith, omega (arith, are), λ k least below. absurd (omega (arith, least, below))) }
-  take_leads heap evac words (take.Ended NoRoom end) header some are = record { header = header; counted = λ copies. some; knows = (tt, tt) }
-  take_leads heap evac words at header some are = record { header = header; counted = λ copies. some; knows = (are, refl) }
+  take_leads : (heap : ℕ → ℕ) (evac words : ℕ) (spot : TakeSpot) → IsHeader (heap address) → 1 ≤ count_of evac → words ≡ words_by_shape heap address
+      → CanResolve phase address heap evac (after_take words spot)
+  take_leads heap evac words (take.Ended (At copy) end) header positive are =
+      record { header = header; counted = λ copies. positive; knows = (are, omega arith, omega (arith, are), λ k least below. absurd (omega (arith, least, below))) }
+  take_leads heap evac words (take.Ended NoRoom end) header positive are = record { header = header; counted = λ copies. positive; knows = (tt, tt) }
+  take_leads heap evac words spot header positive are = record { header = header; counted = λ copies. positive; knows = (are, refl) }
 
   -- the exchange of the counter of one that has found no room
   mark_next : (heap : ℕ → ℕ) (evac found : ℕ) → IsCounter evac → CanResolve phase address heap evac (Stopping (Mark found))
@@ -110,10 +110,10 @@ abbrev wrote : (ℕ → ℕ) → ℕ → ℕ → ℕ → ℕ
 wrote heap at value address = if at == address then value else heap address
 
 wrote_here : (heap : ℕ → ℕ) (at value a : ℕ) → at ≡ a → wrote heap at value a ≡ value
-wrote_here heap at value a is = cond-true (at == a) _ _ (grind (arith, nat_tests))
+wrote_here heap address value a is = cond-true (address == a) _ _ (grind (arith, nat_tests))
 
 wrote_else : (heap : ℕ → ℕ) (at value address : ℕ) → at ≢ address → wrote heap at value address ≡ heap address
-wrote_else heap at value address other = cond-false (at == address) _ _ (grind (arith, nat_tests))
+wrote_else heap other_address value address other = cond-false (other_address == address) _ _ (grind (arith, nat_tests))
 
 -- A word of the copy is written: the object stays, since its room lies apart from it.
 module _ (address copy end : ℕ) (heap : ℕ → ℕ) (index value : ℕ) (inside : index < words_by_shape heap address) (apart : IsApart heap address (Copying copy end Publish)) where
@@ -131,7 +131,7 @@ module _ (address copy end : ℕ) (heap : ℕ → ℕ) (index value : ℕ) (insi
   words_stay = ap object_words (object_stays 1 (omega arith))
 
   head_stays : filled address ≡ heap address
-  head_stays = subst (λ a. filled a ≡ heap a) (omega arith) (object_stays 0 (omega arith))
+  head_stays = subst (λ address. filled address ≡ heap address) (omega arith) (object_stays 0 (omega arith))
 
   copy_else : (k : ℕ) → k ≢ index → filled (copy + k) ≡ heap (copy + k)
   copy_else k other = wrote_else heap (copy + index) value (copy + k) (λ same. other (omega (arith, same)))
@@ -243,8 +243,8 @@ module _ (config : Config) (seat address phase : ℕ) (memory : Word → ℕ) wh
   loaded word next can = subst (λ m. Can phase address m next) (load_keeps memory word) can
 
   -- A step of a taking of room leaves the object: it writes no word of the heap but the header of a filler, which is none of the object's.
-  object_left : (words : ℕ) (at : TakeSpot) → IsApart (λ a. memory (Heap a)) address (Taking words at) → (k : ℕ) → k < words_by_shape (λ a. memory (Heap a)) address
-      → after (Taking words at) (Heap (address + k)) ≡ memory (Heap (address + k))
+  object_left : (words : ℕ) (spot : TakeSpot) → IsApart (λ address. memory (Heap address)) address (Taking words spot) → (k : ℕ) → k < words_by_shape (λ address. memory (Heap address)) address
+      → after (Taking words spot) (Heap (address + k)) ≡ memory (Heap (address + k))
   object_left words (take.Fill buffer place room) apart k below = cond-false (next_in buffer == (address + k)) _ _ (ne_eqb (next_in buffer) (address + k) (λ same. (omega (arith, same, apart, below))))
   object_left words take.LoadBuffer apart k below = refl
   object_left words (take.LoadShared buffer) apart k below = refl
@@ -257,32 +257,32 @@ module _ (config : Config) (seat address phase : ℕ) (memory : Word → ℕ) wh
   object_left words (take.StoreBuffer place room) apart k below = refl
   object_left words (take.Ended taken end) apart k below = refl
 
-  step_take : (words : ℕ) (at : TakeSpot) → IsApart (λ a. memory (Heap a)) address (Taking words at) → Can phase address memory (Taking words at) → Next (Taking words at)
-  step_take words at apart can =
-      let head : after (Taking words at) (Heap address) ≡ memory (Heap address) = subst (λ a. after (Taking words at) (Heap a) ≡ memory (Heap a)) (omega arith) (object_left words at apart 0 (omega arith)) in
-      let shape : after (Taking words at) (Heap (address + 1)) ≡ memory (Heap (address + 1)) = object_left words at apart 1 (omega arith) in
-      let evac_stays : after (Taking words at) Evac ≡ memory Evac = others_stay seat words memory at Evac refl in
-      take_leads phase address (λ a. after (Taking words at) (Heap a)) (after (Taking words at) Evac) words (take_next config words at (found_at (Taking words at)))
+  step_take : (words : ℕ) (spot : TakeSpot) → IsApart (λ address. memory (Heap address)) address (Taking words spot) → Can phase address memory (Taking words spot) → Next (Taking words spot)
+  step_take words spot apart can =
+      let head : after (Taking words spot) (Heap address) ≡ memory (Heap address) = subst (λ address. after (Taking words spot) (Heap address) ≡ memory (Heap address)) (omega arith) (object_left words spot apart 0 (omega arith)) in
+      let shape : after (Taking words spot) (Heap (address + 1)) ≡ memory (Heap (address + 1)) = object_left words spot apart 1 (omega arith) in
+      let evac_stays : after (Taking words spot) Evac ≡ memory Evac = others_stay seat words memory spot Evac refl in
+      take_leads phase address (λ address. after (Taking words spot) (Heap address)) (after (Taking words spot) Evac) words (take_next config words spot (found_at (Taking words spot)))
       (subst IsHeader (sym head) can.header)
       (subst (λ n. 1 ≤ count_of n) (sym evac_stays) (can.counted refl))
       (can.knows.0 ∙ ap object_words (sym shape))
 
-  step_copy : (copy end : ℕ) (at : CopySpot) → IsApart (λ a. memory (Heap a)) address (Copying copy end Publish) → Can phase address memory (Copying copy end at) → Next (Copying copy end at)
+  step_copy : (copy end : ℕ) (spot : CopySpot) → IsApart (λ address. memory (Heap address)) address (Copying copy end Publish) → Can phase address memory (Copying copy end spot) → Next (Copying copy end spot)
   step_copy copy end (LoadWord words index) apart can = loaded (Heap (address + index)) (Copying copy end (StoreWord words index (memory (Heap (address + index))))) (record {
     header = can.header;
     counted = λ copies. can.counted refl;
     knows = (can.knows.0, can.knows.1, can.knows.2, can.knows.3, refl);
   })
-  step_copy copy end (StoreWord words index found) apart can = word_next phase address copy end (λ a. memory (Heap a)) (memory Evac) words index found apart can
-  step_copy copy end StoreHeader apart can = header_stored phase address copy end (λ a. memory (Heap a)) (memory Evac) apart can
-  step_copy copy end Publish apart can = publish_next phase address copy end (λ a. memory (Heap a)) (memory Evac) can
+  step_copy copy end (StoreWord words index found) apart can = word_next phase address copy end (λ address. memory (Heap address)) (memory Evac) words index found apart can
+  step_copy copy end StoreHeader apart can = header_stored phase address copy end (λ address. memory (Heap address)) (memory Evac) apart can
+  step_copy copy end Publish apart can = publish_next phase address copy end (λ address. memory (Heap address)) (memory Evac) can
   step_copy copy end (GiveBack answer) apart can = record { header = can.header; counted = λ copies. can.counted refl; knows = can.knows }
 
-  pub each_step : (spot : ResolveSpot) → is_ended spot ≡ false → IsCounter (memory Evac) → IsApart (λ a. memory (Heap a)) address spot
+  pub each_step : (spot : ResolveSpot) → is_ended spot ≡ false → IsCounter (memory Evac) → IsApart (λ address. memory (Heap address)) address spot
       → Can phase address memory spot → Next spot
-  each_step LoadHeader going counter apart can = loaded (Heap address) (after_header address phase (memory (Heap address))) (header_next phase address (λ a. memory (Heap a)) (memory Evac) can)
-  each_step (Entering Look) going counter apart can = loaded Evac (after_enter (rooms.next_at Look (memory Evac))) (look_next phase address (λ a. memory (Heap a)) (memory Evac) can)
-  each_step (Entering (Raise found)) going counter apart can = raise_next phase address (λ a. memory (Heap a)) (memory Evac) found counter can
+  each_step LoadHeader going counter apart can = loaded (Heap address) (after_header address phase (memory (Heap address))) (header_next phase address (λ address. memory (Heap address)) (memory Evac) can)
+  each_step (Entering Look) going counter apart can = loaded Evac (after_enter (rooms.next_at Look (memory Evac))) (look_next phase address (λ address. memory (Heap address)) (memory Evac) can)
+  each_step (Entering (Raise found)) going counter apart can = raise_next phase address (λ address. memory (Heap address)) (memory Evac) found counter can
   each_step (Entering Outside) going counter apart can = absurd can.knows.0
   each_step (Entering Inside) going counter apart can = absurd can.knows.0
   each_step (Entering Lower) going counter apart can = absurd can.knows.0
@@ -291,16 +291,16 @@ module _ (config : Config) (seat address phase : ℕ) (memory : Word → ℕ) wh
   each_step (Entering Wait) going counter apart can = absurd can.knows.0
   each_step (Entering Stopped) going counter apart can = absurd can.knows.0
   each_step LoadShape going counter apart can = loaded (Heap (address + 1)) (Taking (object_words (memory (Heap (address + 1)))) take.LoadBuffer) (record { header = can.header; counted = λ copies. can.counted refl; knows = (refl, refl) })
-  each_step (Taking words at) going counter apart can = step_take words at apart can
-  each_step (Copying copy end at) going counter apart can = step_copy copy end at apart can
+  each_step (Taking words spot) going counter apart can = step_take words spot apart can
+  each_step (Copying copy end spot) going counter apart can = step_copy copy end spot apart can
   each_step (Leaving answer) going counter apart can = record {
     header = can.header;
     counted = λ copies. absurd (cc (copies));
     knows = (current_named address (memory (Heap address)) answer can.knows, inl (ap is_forwarded can.knows ∙ header_forwarded answer));
   }
   each_step (Stopping Ask) going counter apart can = loaded Evac (Stopping (Mark (memory Evac))) (record { header = can.header; counted = λ copies. can.counted refl; knows = (tt, tt) })
-  each_step (Stopping (Mark found)) going counter apart can = mark_next phase address (λ a. memory (Heap a)) (memory Evac) found counter can
-  each_step (Stopping Wait) going counter apart can = loaded Evac (after_stop (rooms.next_at Wait (memory Evac))) (wait_next phase address (λ a. memory (Heap a)) (memory Evac) can)
+  each_step (Stopping (Mark found)) going counter apart can = mark_next phase address (λ address. memory (Heap address)) (memory Evac) found counter can
+  each_step (Stopping Wait) going counter apart can = loaded Evac (after_stop (rooms.next_at Wait (memory Evac))) (wait_next phase address (λ address. memory (Heap address)) (memory Evac) can)
   each_step (Stopping Outside) going counter apart can = absurd can.knows.0
   each_step (Stopping Look) going counter apart can = absurd can.knows.0
   each_step (Stopping (Raise found)) going counter apart can = absurd can.knows.0

@@ -31,7 +31,7 @@ says_again More next = (λ is. absurd (says_never next is), λ is. cc)
 says_again Done next = (λ is. absurd (says_never next is), λ is. cc)
 
 -- a step of the protocol for room waits by the word that it finds
-pub room_waits : (at : RoomSpot) (got : ℕ) → (rooms.says_at at got ≡ Again) ↔ RoomWaits at got
+pub room_waits : (spot : RoomSpot) (got : ℕ) → (rooms.says_at spot got ≡ Again) ↔ RoomWaits spot got
 room_waits Look got = grind (arith, nat_tests)
 room_waits (Raise found) got = grind (arith, nat_tests)
 room_waits (Mark found) got = grind (arith, nat_tests)
@@ -42,15 +42,15 @@ room_waits Inside got = (λ is. cc, λ waits. absurd waits)
 room_waits Lower got = (λ is. cc, λ waits. absurd waits)
 room_waits Stopped got = (λ is. cc, λ waits. absurd waits)
 
-pub room_part : (said : Took) (next : ResolveSpot) (at : RoomSpot) (got : ℕ) → said ≡ rooms.says_at at got → (says_by said next ≡ Again) ↔ RoomWaits at got
-room_part said next at got is = (
-  λ again. (room_waits at got).0 (sym is ∙ (says_again said next).0 again),
-  λ waits. (says_again said next).1 (is ∙ (room_waits at got).1 waits),
+pub room_part : (said : Took) (next : ResolveSpot) (spot : RoomSpot) (got : ℕ) → said ≡ rooms.says_at spot got → (says_by said next ≡ Again) ↔ RoomWaits spot got
+room_part said next spot got is = (
+  λ again. (room_waits spot got).0 (sym is ∙ (says_again said next).0 again),
+  λ waits. (says_again said next).1 (is ∙ (room_waits spot got).1 waits),
 )
 
 -- and a step of a taking of room where another machine has taken the region
-pub take_part : (config : Config) (words : ℕ) (kind : Kind) (said : Took) (next : ResolveSpot) (at there : TakeSpot) (got : ℕ) → said ≡ takes.says_at at there → there ≡ takes.next_at config words kind at got → (says_by said next ≡ Again) ↔ take_waits.WaitsAt at got
-take_part config words kind said next at there got is row =
-    let by = says_where_it_waits config words kind at got in
-    let said_it : said ≡ takes.says_at at (takes.next_at config words kind at got) = is ∙ ap (takes.says_at at) row in
+pub take_part : (config : Config) (words : ℕ) (kind : Kind) (said : Took) (next : ResolveSpot) (spot there : TakeSpot) (got : ℕ) → said ≡ takes.says_at spot there → there ≡ takes.next_at config words kind spot got → (says_by said next ≡ Again) ↔ take_waits.WaitsAt spot got
+take_part config words kind said next spot there got is row =
+    let by = says_where_it_waits config words kind spot got in
+    let said_it : said ≡ takes.says_at spot (takes.next_at config words kind spot got) = is ∙ ap (takes.says_at spot) row in
     (λ again. by.0 (sym said_it ∙ (says_again said next).0 again), λ waits. (says_again said next).1 (said_it ∙ by.1 waits))

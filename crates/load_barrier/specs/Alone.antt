@@ -30,10 +30,10 @@ resolving_from memory = record { memory = memory; spot = LoadHeader }
 -- whether the counter counts the machine
 abbrev pub is_copier : ResolveSpot → Bool
 is_copier LoadShape = true
-is_copier (Taking words at) = true
-is_copier (Copying copy end at) = true
+is_copier (Taking words spot) = true
+is_copier (Copying copy end spot) = true
 is_copier (Leaving answer) = true
-is_copier (Stopping at) = is_counted at
+is_copier (Stopping spot) = is_counted spot
 is_copier _ = false
 
 -- a header is that of an object: it is plain, or names a copy
@@ -55,13 +55,13 @@ pub record IsWholeCopy (heap : ℕ → ℕ) (address copy : ℕ) : Type 0 where
 
 -- room for a copy has no word in common with the object, nor has a filler that is stored while room is taken
 abbrev pub IsApart : (ℕ → ℕ) → ℕ → ResolveSpot → Type 0
-IsApart heap address (Copying copy end at) = (copy + words_by_shape heap address ≤ address) ⊎ (address + words_by_shape heap address ≤ copy)
+IsApart heap address (Copying copy end spot) = (copy + words_by_shape heap address ≤ address) ⊎ (address + words_by_shape heap address ≤ copy)
 IsApart heap address (Taking words (take.Fill buffer place room)) = (next_in buffer < address) ⊎ (address + words_by_shape heap address ≤ next_in buffer)
 IsApart heap address _ = ⊤
 
 -- the words of the machine's room stay as they are
 abbrev pub RoomStays : (ℕ → ℕ) → (ℕ → ℕ) → ℕ → ResolveSpot → Type 0
-RoomStays before after address (Copying copy end at) = (k : ℕ) → k < words_by_shape before address → after (copy + k) ≡ before (copy + k)
+RoomStays before after address (Copying copy end spot) = (k : ℕ) → k < words_by_shape before address → after (copy + k) ≡ before (copy + k)
 RoomStays before after address _ = ⊤
 
 -- What other machines may do while one that resolves an address stands at a spot.

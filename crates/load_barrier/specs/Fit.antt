@@ -41,23 +41,23 @@ copy_ready config address copy (GiveBack answer) = is_word config (Heap copy) &&
 
 -- whether those of a taking of room for a copy are
 abbrev pub take_ready : Config → ℕ → ℕ → ℕ → TakeSpot → Bool
-take_ready config seat address words at = is_object config address words && (is_busy (takes.is_ended at) && takes.is_ready config seat words at)
+take_ready config seat address words spot = is_object config address words && (is_busy (takes.is_ended spot) && takes.is_ready config seat words spot)
 
 -- whether the numbers of a spot are in range, for the machine of a seat that resolves the address: the next access can be made
 abbrev pub is_ready : Config → ℕ → ℕ → ResolveSpot → Bool
 is_ready config seat address LoadHeader = true
-is_ready config seat address (Entering at) = is_entering at && (raises_clear at && is_busy (is_ended at))
+is_ready config seat address (Entering spot) = is_entering spot && (raises_clear spot && is_busy (is_ended spot))
 is_ready config seat address LoadShape = is_word config (Heap (address + 1))
-is_ready config seat address (Taking words at) = take_ready config seat address words at
-is_ready config seat address (Copying copy end at) = copy_ready config address copy at && nat_lt end (2 ^ 32)
+is_ready config seat address (Taking words spot) = take_ready config seat address words spot
+is_ready config seat address (Copying copy end spot) = copy_ready config address copy spot && nat_lt end (2 ^ 32)
 is_ready config seat address (Leaving answer) = is_word config (Heap answer)
-is_ready config seat address (Stopping at) = is_stopping at && is_busy (is_ended at)
+is_ready config seat address (Stopping spot) = is_stopping spot && is_busy (is_ended spot)
 is_ready config seat address LoadAgain = true
 is_ready config seat address (Resolved answer) = is_word config (Heap answer)
 
 -- whether it can go on with the word
 abbrev pub goes_on : Config → ℕ → ℕ → ℕ → ResolveSpot → ℕ → Bool
-goes_on config seat address phase at got = is_ready config seat address (next_at config address phase at got)
+goes_on config seat address phase spot got = is_ready config seat address (next_at config address phase spot got)
 
 -- the counter of copiers is not 0 where one of them leaves
 abbrev pub LeavesFit : ResolveSpot → ℕ → Type 0
@@ -66,4 +66,4 @@ LeavesFit _ got = ⊤
 
 -- the word is fit: the access that follows can be made, and nobody leaves that is not counted
 abbrev pub IsFit : Config → ℕ → ℕ → ℕ → ResolveSpot → ℕ → Type 0
-IsFit config seat address phase at got = (goes_on config seat address phase at got ≡ true) × LeavesFit at got
+IsFit config seat address phase spot got = (goes_on config seat address phase spot got ≡ true) × LeavesFit spot got

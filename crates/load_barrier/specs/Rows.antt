@@ -36,12 +36,12 @@ copy_place (GiveBack answer) = place.GB
 -- the place of the next access. There is none at the end, where it is named as that of the last load of the header
 abbrev pub place_at : ResolveSpot → Place
 place_at LoadHeader = place.HL
-place_at (Entering at) = rooms.place_at at
+place_at (Entering spot) = rooms.place_at spot
 place_at LoadShape = place.SL
-place_at (Taking words at) = takes.place_at at
-place_at (Copying copy end at) = copy_place at
+place_at (Taking words spot) = takes.place_at spot
+place_at (Copying copy end spot) = copy_place spot
 place_at (Leaving answer) = place.XS
-place_at (Stopping at) = rooms.place_at at
+place_at (Stopping spot) = rooms.place_at spot
 place_at LoadAgain = place.HR
 place_at (Resolved answer) = place.HR
 
@@ -56,12 +56,12 @@ copy_touch seat address copy end (GiveBack answer) = touch (Current seat) (store
 -- the next access of the machine of a seat that resolves the address
 abbrev pub touch_at : Config → ℕ → ℕ → ResolveSpot → Touch
 touch_at config seat address LoadHeader = touch (Heap address) loads
-touch_at config seat address (Entering at) = rooms.touch_at at
+touch_at config seat address (Entering spot) = rooms.touch_at spot
 touch_at config seat address LoadShape = touch (Heap (address + 1)) loads
-touch_at config seat address (Taking words at) = takes.touch_at seat words at
-touch_at config seat address (Copying copy end at) = copy_touch seat address copy end at
+touch_at config seat address (Taking words spot) = takes.touch_at seat words spot
+touch_at config seat address (Copying copy end spot) = copy_touch seat address copy end spot
 touch_at config seat address (Leaving answer) = touch Evac (subtracts 1)
-touch_at config seat address (Stopping at) = rooms.touch_at at
+touch_at config seat address (Stopping spot) = rooms.touch_at spot
 touch_at config seat address LoadAgain = touch (Heap address) loads
 touch_at config seat address (Resolved answer) = touch (Heap address) loads
 
@@ -78,17 +78,17 @@ current_copy address header = if is_forwarded header then forwardee_in header el
 abbrev pub after_enter : RoomSpot → ResolveSpot
 after_enter room.Inside = LoadShape
 after_enter room.Stopped = LoadAgain
-after_enter at = Entering at
+after_enter spot = Entering spot
 
 -- where a taking of room for a copy stands next
 abbrev pub take_next : Config → ℕ → TakeSpot → ℕ → TakeSpot
-take_next config words at got = takes.next_at config words Evacuated at got
+take_next config words spot got = takes.next_at config words Evacuated spot got
 
 -- where it stands that takes room: with room it copies the words behind the header, and without it stops all copying
 abbrev pub after_take : ℕ → TakeSpot → ResolveSpot
 after_take words (take.Ended (At copy) end) = Copying copy end (LoadWord words 1)
 after_take words (take.Ended NoRoom end) = Stopping room.Ask
-after_take words at = Taking words at
+after_take words spot = Taking words spot
 
 -- where it stands once it has copied all words below an index: behind the last word comes the header of the copy
 abbrev pub after_word : ℕ → ℕ → CopySpot
@@ -110,17 +110,17 @@ after_copy copy end (GiveBack answer) got = Leaving answer
 -- where it stands that has found no room: once nobody copies it loads the header again
 abbrev pub after_stop : RoomSpot → ResolveSpot
 after_stop room.Stopped = LoadAgain
-after_stop at = Stopping at
+after_stop spot = Stopping spot
 
 -- what follows, by the word that was found, in a phase
 abbrev pub next_at : Config → ℕ → ℕ → ResolveSpot → ℕ → ResolveSpot
 next_at config address phase LoadHeader got = after_header address phase got
-next_at config address phase (Entering at) got = after_enter (rooms.next_at at got)
+next_at config address phase (Entering spot) got = after_enter (rooms.next_at spot got)
 next_at config address phase LoadShape got = Taking (object_words got) take.LoadBuffer
-next_at config address phase (Taking words at) got = after_take words (take_next config words at got)
-next_at config address phase (Copying copy end at) got = after_copy copy end at got
+next_at config address phase (Taking words spot) got = after_take words (take_next config words spot got)
+next_at config address phase (Copying copy end spot) got = after_copy copy end spot got
 next_at config address phase (Leaving answer) got = Resolved answer
-next_at config address phase (Stopping at) got = after_stop (rooms.next_at at got)
+next_at config address phase (Stopping spot) got = after_stop (rooms.next_at spot got)
 next_at config address phase LoadAgain got = Resolved (current_copy address got)
 next_at config address phase (Resolved answer) got = Resolved answer
 
@@ -141,7 +141,7 @@ says_by _ next = says_of next
 
 -- what the step says
 abbrev pub says_at : Config → ℕ → ℕ → ResolveSpot → ℕ → Took
-says_at config address phase (Entering at) got = says_by (rooms.says_at at got) (after_enter (rooms.next_at at got))
-says_at config address phase (Taking words at) got = says_by (takes.says_at at (take_next config words at got)) (after_take words (take_next config words at got))
-says_at config address phase (Stopping at) got = says_by (rooms.says_at at got) (after_stop (rooms.next_at at got))
-says_at config address phase at got = says_of (next_at config address phase at got)
+says_at config address phase (Entering spot) got = says_by (rooms.says_at spot got) (after_enter (rooms.next_at spot got))
+says_at config address phase (Taking words spot) got = says_by (takes.says_at spot (take_next config words spot got)) (after_take words (take_next config words spot got))
+says_at config address phase (Stopping spot) got = says_by (rooms.says_at spot got) (after_stop (rooms.next_at spot got))
+says_at config address phase spot got = says_of (next_at config address phase spot got)

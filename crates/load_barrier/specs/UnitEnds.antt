@@ -9,7 +9,7 @@ use Rattle.load_barrier.specs.declared.evac_spot.EvacSpot.TheVariants.{LoadClaim
 -- At KX another machine was faster: the claim word is not the one that was loaded. Besides it waits where its resolving does.
 abbrev pub WaitsAt : EvacSpot → ℕ → Type 0
 WaitsAt (ClaimUnit unit) got = got ≢ unit
-WaitsAt (Resolving address end next at) got = resolves.WaitsAt at got
+WaitsAt (Resolving address end next spot) got = resolves.WaitsAt spot got
 WaitsAt _ got = ⊥
 
 -- At EC no unit is left: the claim word is at or past the number of regions.

@@ -20,7 +20,7 @@ is_walkable config next end = if nat_lt next end then is_word config (Heap next)
 
 -- whether a resolving of the address can make its next access
 abbrev pub resolve_ready : Config → ℕ → ℕ → ResolveSpot → Bool
-resolve_ready config seat address at = resolve.is_ready config seat address at && resolve.is_busy (is_ended at)
+resolve_ready config seat address spot = resolve.is_ready config seat address spot && resolve.is_busy (is_ended spot)
 
 -- whether the numbers of a spot are in range, for the machine of a seat: the next access can be made
 abbrev pub is_ready : Config → ℕ → EvacSpot → Bool
@@ -30,13 +30,13 @@ is_ready config seat (LoadTop region) = nat_lt region config.regions
 is_ready config seat (LoadFirst address end) = is_word config (Heap address)
 is_ready config seat (LoadShape address end) = has_shape config address
 is_ready config seat (LoadMark address end next) = has_shape config address && is_walkable config next end
-is_ready config seat (Resolving address end next at) = has_shape config address && (is_walkable config next end && resolve_ready config seat address at)
+is_ready config seat (Resolving address end next spot) = has_shape config address && (is_walkable config next end && resolve_ready config seat address spot)
 is_ready config seat (Ended unit) = true
 
 -- the word is fit for the part: a top is at most the words of a region, and a resolving can go on
 abbrev pub PartFit : Config → ℕ → EvacSpot → ℕ → Type 0
 PartFit config seat (LoadTop region) got = nat_le got config.region_words ≡ true
-PartFit config seat (Resolving address end next at) got = resolve.IsFit config seat address evacuation_phase at got
+PartFit config seat (Resolving address end next spot) got = resolve.IsFit config seat address evacuation_phase spot got
 PartFit config seat _ got = ⊤
 
 -- the word is fit: the access that follows can be made

@@ -41,7 +41,7 @@ place_at (LoadTop region) = place.ET
 place_at (LoadFirst address end) = place.EF
 place_at (LoadShape address end) = place.ES
 place_at (LoadMark address end next) = place.EB
-place_at (Resolving address end next at) = resolves.place_at at
+place_at (Resolving address end next spot) = resolves.place_at spot
 place_at (Ended unit) = place.EC
 
 -- the next access, of the machine of a seat
@@ -52,7 +52,7 @@ touch_at config seat (LoadTop region) = touch (Top region) loads
 touch_at config seat (LoadFirst address end) = touch (Heap address) loads
 touch_at config seat (LoadShape address end) = touch (Heap (address + 1)) loads
 touch_at config seat (LoadMark address end next) = touch (Black (mark_word config address)) loads
-touch_at config seat (Resolving address end next at) = resolves.touch_at config seat address at
+touch_at config seat (Resolving address end next spot) = resolves.touch_at config seat address spot
 touch_at config seat (Ended unit) = touch Claim loads
 
 -- what follows once a unit is claimed: a region of the set is walked, and in any other there is nothing to do
@@ -78,7 +78,7 @@ after_mark config address end next got = if bit_at got (mark_bit config address)
 -- where it stands that resolves an object: with the answer outside the set the walk goes on, and with one in the set it ends
 abbrev pub after_resolve : Config → ℕ → ℕ → ℕ → ℕ → ResolveSpot → EvacSpot
 after_resolve config cset address end next (Resolved answer) = if lies_in_set config cset answer then Ended Worked else walk_on next end
-after_resolve config cset address end next at = Resolving address end next at
+after_resolve config cset address end next spot = Resolving address end next spot
 
 -- what follows, by the word that was found
 abbrev pub next_at : Config → ℕ → EvacSpot → ℕ → EvacSpot
@@ -88,7 +88,7 @@ next_at config cset (LoadTop region) got = walk_on (base_of config region) (base
 next_at config cset (LoadFirst address end) got = after_first address end got
 next_at config cset (LoadShape address end) got = LoadMark address end (address + object_words got)
 next_at config cset (LoadMark address end next) got = after_mark config address end next got
-next_at config cset (Resolving address end next at) got = after_resolve config cset address end next (resolves.next_at config address evacuation_phase at got)
+next_at config cset (Resolving address end next spot) got = after_resolve config cset address end next (resolves.next_at config address evacuation_phase spot got)
 next_at config cset (Ended unit) got = Ended unit
 
 -- whether the unit is done, or none was left
@@ -109,6 +109,6 @@ says_by _ next = says_of next
 -- what the step says: again where another machine has claimed the unit, or the resolving waits
 abbrev pub says_at : Config → ℕ → EvacSpot → ℕ → Took
 says_at config cset (ClaimUnit unit) got = if got == unit then says_of (after_claim cset unit) else Again
-says_at config cset (Resolving address end next at) got =
-    says_by (resolves.says_at config address evacuation_phase at got) (after_resolve config cset address end next (resolves.next_at config address evacuation_phase at got))
+says_at config cset (Resolving address end next spot) got =
+    says_by (resolves.says_at config address evacuation_phase spot got) (after_resolve config cset address end next (resolves.next_at config address evacuation_phase spot got))
 says_at config cset spot got = says_of (next_at config cset spot got)

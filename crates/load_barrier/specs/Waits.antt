@@ -17,7 +17,7 @@ RoomWaits _ got = ⊥
 
 -- It waits at those places, and at TG where another machine has taken the region. At each other place it never waits.
 abbrev pub WaitsAt : ResolveSpot → ℕ → Type 0
-WaitsAt (Entering at) got = RoomWaits at got
-WaitsAt (Taking words at) got = takes.WaitsAt at got
-WaitsAt (Stopping at) got = RoomWaits at got
+WaitsAt (Entering spot) got = RoomWaits spot got
+WaitsAt (Taking words spot) got = takes.WaitsAt spot got
+WaitsAt (Stopping spot) got = RoomWaits spot got
 WaitsAt _ got = ⊥

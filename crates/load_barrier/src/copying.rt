@@ -67,31 +67,23 @@ impl CopySpot {
         ensures inside { table_index result < table_words config }
     {
         match self {
-            CopySpot::LoadWord { index, .. } => Access::Load {
-                at: config.heap_at(address + index),
-            },
+            CopySpot::LoadWord { index, .. } => Access::load(config.heap_at(address + index)),
             // keeps AreObjects and RelyCopies: the word is in hand
-            CopySpot::StoreWord { index, found, .. } => Access::Store {
-                at: config.heap_at(copy + index),
-                value: found,
-            },
+            CopySpot::StoreWord { index, found, .. } => Access::store(
+                config.heap_at(copy + index),
+                found,
+            ),
             // keeps AreObjects and HaveMoved: the word is in hand
-            CopySpot::StoreHeader => Access::Store {
-                at: config.heap_at(copy),
-                value: PLAIN_HEADER,
-            },
+            CopySpot::StoreHeader => Access::store(config.heap_at(copy), PLAIN_HEADER),
             // keeps HaveMoved, AreObjects, AreKept of heap_world and Target
             // keeps KeepsSnapshot.kept, IsWalkedTo and NameTheSame
-            CopySpot::Publish => Access::Exchange {
-                at: config.heap_at(address),
-                expect: PLAIN_HEADER,
-                value: header_to(copy),
-            },
+            CopySpot::Publish => Access::exchange(
+                config.heap_at(address),
+                PLAIN_HEADER,
+                header_to(copy),
+            ),
             // keeps AreBuffers, AreRooms and AreKept of heap_world
-            CopySpot::GiveBack { .. } => Access::Store {
-                at: config.cur_at(seat),
-                value: buffer(copy, end),
-            },
+            CopySpot::GiveBack { .. } => Access::store(config.cur_at(seat), buffer(copy, end)),
         }
     }
 

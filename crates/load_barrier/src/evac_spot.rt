@@ -102,27 +102,15 @@ impl EvacSpot {
         ensures inside { table_index result < table_words config }
     {
         match self {
-            EvacSpot::LoadClaim => Access::Load {
-                at: config.claim_at(),
-            },
+            EvacSpot::LoadClaim => Access::load(config.claim_at()),
             // keeps AreCaredFor and KeepsFields
-            EvacSpot::ClaimUnit { unit } => Access::Exchange {
-                at: config.claim_at(),
-                expect: unit,
-                value: unit + 1,
-            },
-            EvacSpot::LoadTop { region } => Access::Load {
-                at: config.top_at(region),
-            },
-            EvacSpot::LoadFirst { address, .. } => Access::Load {
-                at: config.heap_at(address),
-            },
-            EvacSpot::LoadShape { address, .. } => Access::Load {
-                at: config.heap_at(address + 1),
-            },
-            EvacSpot::LoadMark { address, .. } => Access::Load {
-                at: config.black_at(mark_word(config, address)),
-            },
+            EvacSpot::ClaimUnit { unit } => Access::exchange(config.claim_at(), unit, unit + 1),
+            EvacSpot::LoadTop { region } => Access::load(config.top_at(region)),
+            EvacSpot::LoadFirst { address, .. } => Access::load(config.heap_at(address)),
+            EvacSpot::LoadShape { address, .. } => Access::load(config.heap_at(address + 1)),
+            EvacSpot::LoadMark { address, .. } => Access::load(config.black_at(mark_word(
+                config, address,
+            ))),
             EvacSpot::Resolving { address, at, .. } => at.access(config, seat, address),
             EvacSpot::Ended { .. } => unreachable!(),
         }

@@ -172,9 +172,7 @@ fn load_of_object(config: Config, address: u64, index: u64) -> Access
     ensures row { result ≡ Access.Load (word_at config (Heap (address + index))) }
     ensures inside { table_index result < table_words config }
 {
-    Access::Load {
-        at: config.heap_at(address + index),
-    }
+    Access::load(config.heap_at(address + index))
 }
 
 // The current copy of an object by the header of a copy.

@@ -46,10 +46,10 @@ command_valid c (Unlinks value) = (omega arith, omega arith, omega arith, omega 
 
 -- what is ahead after a reply, of the plan that is then left
 abbrev ahead : Plan → Spot → Reply → ℕ
-ahead p spot r = makings_ahead (next_spot spot (command_coming (chosen p) spot) r) (puts_left (plan_after p (answer_told (operation_ended spot r))))
+ahead plan spot answered = makings_ahead (next_spot spot (command_coming (chosen plan) spot) answered) (puts_left (plan_after plan (answer_told (operation_ended spot answered))))
 
 -- a plan after a reply has not more to put
-fewer_puts : (p : Plan) (found : Option QueueReply) → puts_left (plan_after p found) ≤ puts_left p
+fewer_puts : (plan : Plan) (found : Option QueueReply) → puts_left (plan_after plan found) ≤ puts_left plan
 fewer_puts (Puts next left) None = omega arith
 fewer_puts (Puts next left) (Some queue_reply.Put) = at (nat_lt 0 left)
   where
@@ -66,7 +66,7 @@ fewer_puts (Takes left) (Some queue_reply.Empty) = omega arith
 fewer_puts (Takes left) (Some queue_reply.Full) = omega arith
 
 -- after a put one less
-one_less : (p : Plan) → puts_left (plan_after p (Some queue_reply.Put)) ≤ puts_left p - 1
+one_less : (plan : Plan) → puts_left (plan_after plan (Some queue_reply.Put)) ≤ puts_left plan - 1
 one_less (Puts next zero) = omega arith
 one_less (Puts next (suc n)) =
     subst (λ (holds : Bool). puts_left (if holds then Puts (next + 1) (suc n - 1) else Puts next (suc n)) ≤ suc n - 1) (sym (lt-ltb 0 (suc n) (omega arith))) (omega arith)
@@ -74,8 +74,8 @@ one_less (Takes left) = omega arith
 
 -- what is ahead where a reply decides
 
-join_ahead : (r : Reply) (x : ℕ) → makings_ahead (after_join r) x ≡ x
-join_ahead (reply.Ref n) x = refl
+join_ahead : (answered : Reply) (x : ℕ) → makings_ahead (after_join answered) x ≡ x
+join_ahead (reply.Ref name) x = refl
 join_ahead reply.Null x = refl
 join_ahead reply.Ok x = refl
 join_ahead reply.Yes x = refl
@@ -85,8 +85,8 @@ join_ahead reply.Bad x = refl
 join_ahead (reply.At place) x = refl
 join_ahead reply.Full x = refl
 
-behind_ahead : (value : ℕ) (r : Reply) (x : ℕ) → makings_ahead (behind_tail value r) x ≡ x - 1
-behind_ahead value (reply.Ref n) x = refl
+behind_ahead : (value : ℕ) (answered : Reply) (x : ℕ) → makings_ahead (behind_tail value answered) x ≡ x - 1
+behind_ahead value (reply.Ref name) x = refl
 behind_ahead value reply.Null x = refl
 behind_ahead value reply.Ok x = refl
 behind_ahead value reply.Yes x = refl
@@ -96,8 +96,8 @@ behind_ahead value reply.Bad x = refl
 behind_ahead value (reply.At place) x = refl
 behind_ahead value reply.Full x = refl
 
-link_ahead : (value : ℕ) (r : Reply) (x : ℕ) → makings_ahead (after_link value r) x ≡ x - 1
-link_ahead value (reply.Ref n) x = refl
+link_ahead : (value : ℕ) (answered : Reply) (x : ℕ) → makings_ahead (after_link value answered) x ≡ x - 1
+link_ahead value (reply.Ref name) x = refl
 link_ahead value reply.Null x = refl
 link_ahead value reply.Ok x = refl
 link_ahead value reply.Yes x = refl
@@ -107,8 +107,8 @@ link_ahead value reply.Bad x = refl
 link_ahead value (reply.At place) x = refl
 link_ahead value reply.Full x = refl
 
-unlink_ahead : (r : Reply) (x : ℕ) → makings_ahead (after_unlink r) x ≡ x
-unlink_ahead (reply.Ref n) x = refl
+unlink_ahead : (answered : Reply) (x : ℕ) → makings_ahead (after_unlink answered) x ≡ x
+unlink_ahead (reply.Ref name) x = refl
 unlink_ahead reply.Null x = refl
 unlink_ahead reply.Ok x = refl
 unlink_ahead reply.Yes x = refl
@@ -118,8 +118,8 @@ unlink_ahead reply.Bad x = refl
 unlink_ahead (reply.At place) x = refl
 unlink_ahead reply.Full x = refl
 
-same_ahead : (nothing : Bool) (r : Reply) (x : ℕ) → makings_ahead (after_same nothing r) x ≡ x
-same_ahead true (reply.Ref n) x = refl
+same_ahead : (nothing : Bool) (answered : Reply) (x : ℕ) → makings_ahead (after_same nothing answered) x ≡ x
+same_ahead true (reply.Ref name) x = refl
 same_ahead true reply.Null x = refl
 same_ahead true reply.Ok x = refl
 same_ahead true reply.Yes x = refl
@@ -128,7 +128,7 @@ same_ahead true (reply.Number n) x = refl
 same_ahead true reply.Bad x = refl
 same_ahead true (reply.At place) x = refl
 same_ahead true reply.Full x = refl
-same_ahead false (reply.Ref n) x = refl
+same_ahead false (reply.Ref name) x = refl
 same_ahead false reply.Null x = refl
 same_ahead false reply.Ok x = refl
 same_ahead false reply.Yes x = refl
@@ -138,8 +138,8 @@ same_ahead false reply.Bad x = refl
 same_ahead false (reply.At place) x = refl
 same_ahead false reply.Full x = refl
 
-rest_ahead : (c : Choice) (r : Reply) (x : ℕ) → makings_ahead (after_rest (first_command c) r) x ≤ x
-rest_ahead (choice.Put value) (reply.Ref n) x = omega arith
+rest_ahead : (c : Choice) (answered : Reply) (x : ℕ) → makings_ahead (after_rest (first_command c) answered) x ≤ x
+rest_ahead (choice.Put value) (reply.Ref name) x = omega arith
 rest_ahead (choice.Put value) reply.Null x = omega arith
 rest_ahead (choice.Put value) reply.Ok x = omega arith
 rest_ahead (choice.Put value) reply.Yes x = omega arith
@@ -148,116 +148,116 @@ rest_ahead (choice.Put value) (reply.Number n) x = omega arith
 rest_ahead (choice.Put value) reply.Bad x = omega arith
 rest_ahead (choice.Put value) (reply.At place) x = omega arith
 rest_ahead (choice.Put value) reply.Full x = omega arith
-rest_ahead choice.Take r x = omega arith
+rest_ahead choice.Take answered x = omega arith
 
 -- no reply raises it
-ahead_falls : (p : Plan) (spot : Spot) (r : Reply) → ahead p spot r ≤ makings_ahead spot (puts_left p)
-ahead_falls p MakesAnchor r = let low = fewer_puts p None in omega (arith, low)
-ahead_falls p MakesFirst r = let low = fewer_puts p None in omega (arith, low)
-ahead_falls p SetsHead r = fewer_puts p None
-ahead_falls p SetsTail r = fewer_puts p None
-ahead_falls p Shows r = fewer_puts p None
-ahead_falls p Joins r = let low = fewer_puts p None in let is = join_ahead r (puts_left (plan_after p None)) in omega (arith, low, is)
-ahead_falls p Rests r =
-    let low = fewer_puts p (answer_told (on_full r)) in
-    let is = rest_ahead (chosen p) r (puts_left (plan_after p (answer_told (on_full r)))) in
+ahead_falls : (plan : Plan) (spot : Spot) (answered : Reply) → ahead plan spot answered ≤ makings_ahead spot (puts_left plan)
+ahead_falls plan MakesAnchor answered = let low = fewer_puts plan None in omega (arith, low)
+ahead_falls plan MakesFirst answered = let low = fewer_puts plan None in omega (arith, low)
+ahead_falls plan SetsHead answered = fewer_puts plan None
+ahead_falls plan SetsTail answered = fewer_puts plan None
+ahead_falls plan Shows answered = fewer_puts plan None
+ahead_falls plan Joins answered = let low = fewer_puts plan None in let is = join_ahead answered (puts_left (plan_after plan None)) in omega (arith, low, is)
+ahead_falls plan Rests answered =
+    let low = fewer_puts plan (answer_told (on_full answered)) in
+    let is = rest_ahead (chosen plan) answered (puts_left (plan_after plan (answer_told (on_full answered)))) in
     omega (arith, low, is)
-ahead_falls p Fills r = let low = fewer_puts p None in omega (arith, low)
-ahead_falls p (Looks value) r = let low = fewer_puts p None in omega (arith, low)
-ahead_falls p (Follows value) r = let low = fewer_puts p None in let is = behind_ahead value r (puts_left (plan_after p None)) in omega (arith, low, is)
-ahead_falls p (Links value) r = let low = fewer_puts p None in let is = link_ahead value r (puts_left (plan_after p None)) in omega (arith, low, is)
-ahead_falls p (Helps value) r = let low = fewer_puts p None in omega (arith, low)
-ahead_falls p (Swings value) r = one_less p
-ahead_falls p Turns r = fewer_puts p None
-ahead_falls p TookHead r = fewer_puts p None
-ahead_falls p TookTail r = fewer_puts p None
-ahead_falls p (Compares true) r =
-    let low = fewer_puts p (answer_told (on_yes empty r)) in
-    let is = same_ahead true r (puts_left (plan_after p (answer_told (on_yes empty r)))) in
+ahead_falls plan Fills answered = let low = fewer_puts plan None in omega (arith, low)
+ahead_falls plan (Looks value) answered = let low = fewer_puts plan None in omega (arith, low)
+ahead_falls plan (Follows value) answered = let low = fewer_puts plan None in let is = behind_ahead value answered (puts_left (plan_after plan None)) in omega (arith, low, is)
+ahead_falls plan (Links value) answered = let low = fewer_puts plan None in let is = link_ahead value answered (puts_left (plan_after plan None)) in omega (arith, low, is)
+ahead_falls plan (Helps value) answered = let low = fewer_puts plan None in omega (arith, low)
+ahead_falls plan (Swings value) answered = one_less plan
+ahead_falls plan Turns answered = fewer_puts plan None
+ahead_falls plan TookHead answered = fewer_puts plan None
+ahead_falls plan TookTail answered = fewer_puts plan None
+ahead_falls plan (Compares true) answered =
+    let low = fewer_puts plan (answer_told (on_yes empty answered)) in
+    let is = same_ahead true answered (puts_left (plan_after plan (answer_told (on_yes empty answered)))) in
     omega (arith, low, is)
-ahead_falls p (Compares false) r = let low = fewer_puts p None in let is = same_ahead false r (puts_left (plan_after p None)) in omega (arith, low, is)
-ahead_falls p Pushes r = fewer_puts p None
-ahead_falls p Reads r = fewer_puts p None
-ahead_falls p (Unlinks value) r =
-    let low = fewer_puts p (answer_told (on_yes (got value) r)) in
-    let is = unlink_ahead r (puts_left (plan_after p (answer_told (on_yes (got value) r)))) in
+ahead_falls plan (Compares false) answered = let low = fewer_puts plan None in let is = same_ahead false answered (puts_left (plan_after plan None)) in omega (arith, low, is)
+ahead_falls plan Pushes answered = fewer_puts plan None
+ahead_falls plan Reads answered = fewer_puts plan None
+ahead_falls plan (Unlinks value) answered =
+    let low = fewer_puts plan (answer_told (on_yes (got value) answered)) in
+    let is = unlink_ahead answered (puts_left (plan_after plan (answer_told (on_yes (got value) answered)))) in
     omega (arith, low, is)
 
 -- an allocation that is refused ends the user, and another is one less to come
-record Pays (p : Plan) (spot : Spot) (r : Reply) : Type 0 where
-  some : 0 < makings_ahead spot (puts_left p)
-  less : (is_refused (command_coming (chosen p) spot) r ≡ true) ⊎ (ahead p spot r < makings_ahead spot (puts_left p))
+record Pays (plan : Plan) (spot : Spot) (answered : Reply) : Type 0 where
+  some : 0 < makings_ahead spot (puts_left plan)
+  less : (is_refused (command_coming (chosen plan) spot) answered ≡ true) ⊎ (ahead plan spot answered < makings_ahead spot (puts_left plan))
 
-put_pays : (next left : ℕ) (r : Reply) → 1 ≤ left → Pays (Puts next left) Rests r
-put_pays next left (reply.Ref n) some = record { some = some; less = inr (omega (arith, some)) }
-put_pays next left reply.Null some = record { some = some; less = inr (omega (arith, some)) }
-put_pays next left reply.Ok some = record { some = some; less = inr (omega (arith, some)) }
-put_pays next left reply.Yes some = record { some = some; less = inr (omega (arith, some)) }
-put_pays next left reply.No some = record { some = some; less = inr (omega (arith, some)) }
-put_pays next left (reply.Number n) some = record { some = some; less = inr (omega (arith, some)) }
-put_pays next left reply.Bad some = record { some = some; less = inr (omega (arith, some)) }
-put_pays next left (reply.At place) some = record { some = some; less = inr (omega (arith, some)) }
-put_pays next left reply.Full some = record { some = some; less = inl refl }
+put_pays : (next left : ℕ) (answered : Reply) → 1 ≤ left → Pays (Puts next left) Rests answered
+put_pays next left (reply.Ref name) positive = record { some = positive; less = inr (omega (arith, positive)) }
+put_pays next left reply.Null positive = record { some = positive; less = inr (omega (arith, positive)) }
+put_pays next left reply.Ok positive = record { some = positive; less = inr (omega (arith, positive)) }
+put_pays next left reply.Yes positive = record { some = positive; less = inr (omega (arith, positive)) }
+put_pays next left reply.No positive = record { some = positive; less = inr (omega (arith, positive)) }
+put_pays next left (reply.Number n) positive = record { some = positive; less = inr (omega (arith, positive)) }
+put_pays next left reply.Bad positive = record { some = positive; less = inr (omega (arith, positive)) }
+put_pays next left (reply.At place) positive = record { some = positive; less = inr (omega (arith, positive)) }
+put_pays next left reply.Full positive = record { some = positive; less = inl refl }
 
-pays_at : (p : Plan) (spot : Spot) (r : Reply) → IsNew (command_coming (chosen p) spot) → (is_rest spot ≡ true → 1 ≤ left_in_plan p) → Pays p spot r
-pays_at p MakesAnchor r new more = let low = fewer_puts p None in record { some = omega arith; less = inr (omega (arith, low)) }
-pays_at p MakesFirst r new more = let low = fewer_puts p None in record { some = omega arith; less = inr (omega (arith, low)) }
-pays_at (Puts next left) Rests r new more = put_pays next left r (more refl)
-pays_at (Takes left) Rests r new more = absurd new
-pays_at p SetsHead r new more = absurd new
-pays_at p SetsTail r new more = absurd new
-pays_at p Shows r new more = absurd new
-pays_at p Joins r new more = absurd new
-pays_at p Fills r new more = absurd new
-pays_at p (Looks value) r new more = absurd new
-pays_at p (Follows value) r new more = absurd new
-pays_at p (Links value) r new more = absurd new
-pays_at p (Helps value) r new more = absurd new
-pays_at p (Swings value) r new more = absurd new
-pays_at p Turns r new more = absurd new
-pays_at p TookHead r new more = absurd new
-pays_at p TookTail r new more = absurd new
-pays_at p (Compares nothing) r new more = absurd new
-pays_at p Pushes r new more = absurd new
-pays_at p Reads r new more = absurd new
-pays_at p (Unlinks value) r new more = absurd new
+pays_at : (plan : Plan) (spot : Spot) (answered : Reply) → IsNew (command_coming (chosen plan) spot) → (is_rest spot ≡ true → 1 ≤ left_in_plan plan) → Pays plan spot answered
+pays_at plan MakesAnchor answered new more = let low = fewer_puts plan None in record { some = omega arith; less = inr (omega (arith, low)) }
+pays_at plan MakesFirst answered new more = let low = fewer_puts plan None in record { some = omega arith; less = inr (omega (arith, low)) }
+pays_at (Puts next left) Rests answered new more = put_pays next left answered (more refl)
+pays_at (Takes left) Rests answered new more = absurd new
+pays_at plan SetsHead answered new more = absurd new
+pays_at plan SetsTail answered new more = absurd new
+pays_at plan Shows answered new more = absurd new
+pays_at plan Joins answered new more = absurd new
+pays_at plan Fills answered new more = absurd new
+pays_at plan (Looks value) answered new more = absurd new
+pays_at plan (Follows value) answered new more = absurd new
+pays_at plan (Links value) answered new more = absurd new
+pays_at plan (Helps value) answered new more = absurd new
+pays_at plan (Swings value) answered new more = absurd new
+pays_at plan Turns answered new more = absurd new
+pays_at plan TookHead answered new more = absurd new
+pays_at plan TookTail answered new more = absurd new
+pays_at plan (Compares nothing) answered new more = absurd new
+pays_at plan Pushes answered new more = absurd new
+pays_at plan Reads answered new more = absurd new
+pays_at plan (Unlinks value) answered new more = absurd new
 
 -- a user that has ended makes nothing
 
-come_low : (u : Use) → to_come u ≤ makings_ahead u.spot (puts_left u.plan)
-come_low u = at (has_ended u)
+come_low : (user : Use) → to_come user ≤ makings_ahead user.spot (puts_left user.plan)
+come_low user = at (has_ended user)
   where
-    at : (holds : Bool) → (if holds then 0 else makings_ahead u.spot (puts_left u.plan)) ≤ makings_ahead u.spot (puts_left u.plan)
+    at : (holds : Bool) → (if holds then 0 else makings_ahead user.spot (puts_left user.plan)) ≤ makings_ahead user.spot (puts_left user.plan)
     at true = omega arith
     at false = omega arith
 
-come_is : (u : Use) → has_ended u ≡ false → to_come u ≡ makings_ahead u.spot (puts_left u.plan)
-come_is u on = ap (λ b. if b then 0 else makings_ahead u.spot (puts_left u.plan)) on
+come_is : (user : Use) → has_ended user ≡ false → to_come user ≡ makings_ahead user.spot (puts_left user.plan)
+come_is user on = ap (λ b. if b then 0 else makings_ahead user.spot (puts_left user.plan)) on
 
-refused_none : (u : Use) → u.refused ≡ true → to_come u ≡ 0
-refused_none u is = ap (λ b. if b || (is_rest u.spot && (left_in_plan u.plan == 0)) then 0 else makings_ahead u.spot (puts_left u.plan)) is
+refused_none : (user : Use) → user.refused ≡ true → to_come user ≡ 0
+refused_none user is = ap (λ b. if b || (is_rest user.spot && (left_in_plan user.plan == 0)) then 0 else makings_ahead user.spot (puts_left user.plan)) is
 
-pub user_falls : (u : Use) (r : Reply) → to_come (used u r) ≤ to_come u
-user_falls u r = at (has_ended u) refl
+pub user_falls : (user : Use) (answered : Reply) → to_come (used user answered) ≤ to_come user
+user_falls user answered = at (has_ended user) refl
   where
-    at : (holds : Bool) → has_ended u ≡ holds → to_come (used u r) ≤ to_come u
-    at true ended = let same : to_come (used u r) ≡ to_come u = ap (λ holds. to_come (if holds then u else onward u r)) ended in omega (arith, same)
+    at : (holds : Bool) → has_ended user ≡ holds → to_come (used user answered) ≤ to_come user
+    at true ended = let same : to_come (used user answered) ≡ to_come user = ap (λ holds. to_come (if holds then user else onward user answered)) ended in omega (arith, same)
     at false on =
-        let goes = ap to_come (used_is u r on) in
-        let low = come_low (onward u r) in
-        let falls = ahead_falls u.plan u.spot r in
-        let is = come_is u on in
+        let goes = ap to_come (used_is user answered on) in
+        let low = come_low (onward user answered) in
+        let falls = ahead_falls user.plan user.spot answered in
+        let is = come_is user on in
         omega (arith, goes, low, falls, is)
 
-pub user_pays : (u : Use) (command : Command) (r : Reply) → next_of u ≡ Some command → IsNew command → to_come (used u r) < to_come u
-user_pays u command r is new =
+pub user_pays : (user : Use) (command : Command) (answered : Reply) → next_of user ≡ Some command → IsNew command → to_come (used user answered) < to_come user
+user_pays u command answered is new =
     let goes = going u command is in
-    let pays = pays_at u.plan u.spot r (subst IsNew (sym goes.command) new) (unfinished u goes.on) in
-    let at_once = ap to_come (used_is u r goes.on) in
+    let pays = pays_at u.plan u.spot answered (subst IsNew (sym goes.command) new) (unfinished u goes.on) in
+    let at_once = ap to_come (used_is u answered goes.on) in
     let before = come_is u goes.on in
     elim (pays.less) [
-      | inl refused ↦ let none = refused_none (onward u r) refused in let some = pays.some in omega (arith, at_once, before, none, some)
-      | inr less ↦ let low = come_low (onward u r) in omega (arith, at_once, before, less, low)
+      | inl refused ↦ let none = refused_none (onward u answered) refused in let some = pays.some in omega (arith, at_once, before, none, some)
+      | inr less ↦ let low = come_low (onward u answered) in omega (arith, at_once, before, less, low)
     ]
   where
     unfinished : (u : Use) → has_ended u ≡ false → is_rest u.spot ≡ true → 1 ≤ left_in_plan u.plan

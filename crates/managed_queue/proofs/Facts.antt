@@ -57,7 +57,7 @@ pub record IsChain (object : Objects) (count : ℕ → ℕ) (chain : Chain) : Ty
   pub size : length chain.numbers ≡ suc chain.last
   pub within : (name : Name) (i : ℕ) → chain.place name ≡ Some i → i ≤ chain.last
   pub once : (other_name name : Name) (i : ℕ) → chain.place other_name ≡ Some i → chain.place name ≡ Some i → other_name ≡ name
-  pub linked : (name : Name) (i : ℕ) → chain.place name ≡ Some i → IsLinked object chain.place chain.numbers chain.last name i
+  pub linked : (name : Name) (index : ℕ) → chain.place name ≡ Some index → IsLinked object chain.place chain.numbers chain.last name index
   pub made : AreMade object count
 
 -- What a user knows. Its roots are a function.

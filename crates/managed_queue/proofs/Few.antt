@@ -26,7 +26,7 @@ use Rattle.managed_queue.proofs.Small.{most, AreSmall, Stays, next_small, entry_
 -- what can be reached was given
 reached : (graph : Graph) (names : List Name) → AreSmall graph names → (name : Name) → IsReachable graph name → Contains names name
 reached graph names small _ (from_root t r name is) = small.roots t r name is
-reached graph names small _ (from_pin t s held is) = absurd (none-some held (sym (small.no_pin t s) ∙ is))
+reached graph names small _ (from_pin thread slot held is) = absurd (none-some held (sym (small.no_pin thread slot) ∙ is))
 reached graph names small _ (from_field m name f from is) = small.fields m f name is
 
 -- the hub counts once
@@ -34,27 +34,27 @@ reached graph names small _ (from_field m name f from is) = small.fields m f nam
 abbrev extra : Name → ℕ
 extra name = if same_name hub name then 14 else 0
 
-no_hub : (name : Name) (ns : List Name) → name ≡ hub → AllByRecursion (λ y. same_name name y ≡ false) ns → sum_by extra ns ≡ 0
+no_hub : (name : Name) (names : List Name) → name ≡ hub → AllByRecursion (λ y. same_name name y ≡ false) names → sum_by extra names ≡ 0
 no_hub name [] is apart = refl
-no_hub name (m ∷ ns) is apart =
-    let rest = no_hub name ns is apart.1 in
-    let here : extra m ≡ 0 = ap (λ b. if b then 14 else 0) (ap (λ x. same_name x m) (sym is) ∙ apart.0) in
-    omega (arith, sum_by-cons extra m ns, rest, here)
+no_hub name (other_name ∷ names) is apart =
+    let rest = no_hub name names is apart.1 in
+    let here : extra other_name ≡ 0 = ap (λ b. if b then 14 else 0) (ap (λ x. same_name x other_name) (sym is) ∙ apart.0) in
+    omega (arith, sum_by-cons extra other_name names, rest, here)
 
-once : (ns : List Name) → InOrder ns → sum_by extra ns ≤ 14
+once : (names : List Name) → InOrder names → sum_by extra names ≤ 14
 once [] order = omega arith
-once (n ∷ ns) order =
-    let later = once ns (order_rest n ns order) in
-    by_first (same_name hub n) refl later
+once (name ∷ names) order =
+    let later = once names (order_rest name names order) in
+    by_first (same_name hub name) refl later
   where
-    by_first : (holds : Bool) → same_name hub n ≡ holds → sum_by extra ns ≤ 14 → sum_by extra (n ∷ ns) ≤ 14
+    by_first : (holds : Bool) → same_name hub name ≡ holds → sum_by extra names ≤ 14 → sum_by extra (name ∷ names) ≤ 14
     by_first true is later =
-        let none = no_hub n ns (sym (same_name-true hub n is)) (order_first n ns order) in
-        let here : extra n ≡ 14 = ap (λ holds. if holds then 14 else 0) is in
-        omega (arith, sum_by-cons extra n ns, none, here)
+        let none = no_hub name names (sym (same_name-true hub name is)) (order_first name names order) in
+        let here : extra name ≡ 14 = ap (λ holds. if holds then 14 else 0) is in
+        omega (arith, sum_by-cons extra name names, none, here)
     by_first false is later =
-        let here : extra n ≡ 0 = ap (λ holds. if holds then 14 else 0) is in
-        omega (arith, sum_by-cons extra n ns, later, here)
+        let here : extra name ≡ 0 = ap (λ holds. if holds then 14 else 0) is in
+        omega (arith, sum_by-cons extra name names, later, here)
 
 most_is : (name : Name) → most name ≡ 5 + extra name
 most_is name = at (same_name hub name)
@@ -63,23 +63,23 @@ most_is name = at (same_name hub name)
     at true = refl
     at false = refl
 
-weigh : (graph : Graph) (names : List Name) → AreSmall graph names → (ns : List Name) → sum_by (λ n. size (named graph (Some n))) ns ≤ 5 * length ns + sum_by extra ns
+weigh : (graph : Graph) (names : List Name) → AreSmall graph names → (other_names : List Name) → sum_by (λ n. size (named graph (Some n))) other_names ≤ 5 * length other_names + sum_by extra other_names
 weigh graph names small [] = omega arith
-weigh graph names small (n ∷ ns) =
-    let rest = weigh graph names small ns in
-    let low = small.sizes n in
-    let is = most_is n in
-    omega (arith, sum_by-cons (λ (name : Name). size (named graph (Some name))) n ns, sum_by-cons extra n ns, rest, low, is)
+weigh graph names small (other_name ∷ other_names) =
+    let rest = weigh graph names small other_names in
+    let low = small.sizes other_name in
+    let is = most_is other_name in
+    omega (arith, sum_by-cons (λ (name : Name). size (named graph (Some name))) other_name other_names, sum_by-cons extra other_name other_names, rest, low, is)
 
 -- all entries
-all_stay : (es : List Entry) (graph : Graph) (names : List Name) (spots : ℕ → Spot) → AreSmall graph names → ((thread : ℕ) → IsPlayed (spots thread) (of_thread es thread)) → Stays (after graph es) names (makings es)
+all_stay : (entries : List Entry) (graph : Graph) (names : List Name) (spots : ℕ → Spot) → AreSmall graph names → ((thread : ℕ) → IsPlayed (spots thread) (of_thread entries thread)) → Stays (after graph entries) names (makings entries)
 all_stay [] graph names spots small played = record { new_names = names; small = small; count = omega arith }
-all_stay (e ∷ es) graph names spots small played =
-    let mine : IsPlayed (spots e.thread) (e ∷ of_thread es e.thread) = subst (IsPlayed (spots e.thread)) (of_here e es) (played e.thread) in
-    let step = entry_stays graph names e (next_small (spots e.thread) e.command mine.0) small in
-    let later = all_stay es (after_entry graph e) step.new_names (spot_moved spots e) step.small (λ thread. elim (cases_eq thread e.thread) [
-      | inl same ↦ subst (λ (k : ℕ). IsPlayed (spot_moved spots e k) (of_thread es k)) (sym same) (subst (λ (spot : Spot). IsPlayed spot (of_thread es e.thread)) (sym (on_here spots e.thread e.command e.reply)) mine.2)
-      | inr other ↦ subst (λ (spot : Spot). IsPlayed spot (of_thread es thread)) (sym (on_there spots e.thread e.command e.reply thread other)) (subst (IsPlayed (spots thread)) (of_there e es thread other) (played thread))
+all_stay (entry ∷ entries) graph names spots small played =
+    let mine : IsPlayed (spots entry.thread) (entry ∷ of_thread entries entry.thread) = subst (IsPlayed (spots entry.thread)) (of_here entry entries) (played entry.thread) in
+    let step = entry_stays graph names entry (next_small (spots entry.thread) entry.command mine.0) small in
+    let later = all_stay entries (after_entry graph entry) step.new_names (spot_moved spots entry) step.small (λ thread. elim (cases_eq thread entry.thread) [
+      | inl same ↦ subst (λ (k : ℕ). IsPlayed (spot_moved spots entry k) (of_thread entries k)) (sym same) (subst (λ (spot : Spot). IsPlayed spot (of_thread entries entry.thread)) (sym (on_here spots entry.thread entry.command entry.reply)) mine.2)
+      | inr other ↦ subst (λ (spot : Spot). IsPlayed spot (of_thread entries thread)) (sym (on_there spots entry.thread entry.command entry.reply thread other)) (subst (IsPlayed (spots thread)) (of_there entry entries thread other) (played thread))
     ]) in
     record { new_names = later.new_names; small = later.small; count = later.count ∙ omega (arith, step.count) }
 
@@ -97,7 +97,7 @@ few_are_live threads words history played live =
     let all = all_stay history (opening threads) (hub ∷ []) entry_spot (small_opening threads) played in
     let ns = live.0 in
     let fewer = length-le_from_is_member same_name-laws ns all.new_names (distinct ns live.1.in_order)
-    (λ q there. list_any-from_Contains same_name-laws q all.new_names (reached g all.new_names all.small q (live.1.only q (Contains-from_any same_name-true q ns there)))) in
+    (λ name there. list_any-from_Contains same_name-laws name all.new_names (reached g all.new_names all.small name (live.1.only name (Contains-from_any same_name-true name ns there)))) in
     let weight = weigh g all.new_names all.small ns in
     let hubs = once ns live.1.in_order in
     omega (arith, fewer, weight, hubs, all.count, live.2)

@@ -35,7 +35,7 @@ was_placed chain name value other_name i =
     by_name (λ p. p ≡ Some i → ((other_name ≡ name) × (i ≡ suc chain.last)) ⊎ (chain.place other_name ≡ Some i)) other_name name (Some (suc chain.last)) (chain.place other_name) (λ same is. inl (same, cc)) (λ other is. inr is)
 
 still_placed : (chain : Chain) (name : Name) (value : ℕ) (other_name : Name) (i : ℕ) → chain.place name ≡ None → chain.place other_name ≡ Some i → (with_last chain name value).place other_name ≡ Some i
-still_placed chain name value other_name i none at = by_name (λ p. p ≡ Some i) other_name name (Some (suc chain.last)) (chain.place other_name) (λ e. absurd (places_apart chain other_name name i at none e)) (λ _. at)
+still_placed chain name value other_name i none found = by_name (λ p. p ≡ Some i) other_name name (Some (suc chain.last)) (chain.place other_name) (λ e. absurd (places_apart chain other_name name i found none e)) (λ _. found)
 
 now_placed : (chain : Chain) (name : Name) (value : ℕ) → (with_last chain name value).place name ≡ Some (suc chain.last)
 now_placed chain name value = ap (λ b. if b then Some (suc chain.last) else chain.place name) (same_name-itself name)
@@ -51,51 +51,51 @@ pub record CanLink (object : Objects) (chain : Chain) (name other_name : Name) (
   pub none : chain.place other_name ≡ None
   pub fresh : object other_name ≡ Some (cell None value)
 
-links_on : (object : Objects) (count : ℕ → ℕ) (w : Chain) (n m : Name) (old value : ℕ) → IsChain object count w → CanLink object w n m old value → (k : Name) (i : ℕ) → w.place k ≡ Some i
-    → IsLinked object w.place w.numbers w.last k i
-    → IsLinked (linking object n m old) (with_last w m value).place (with_last w m value).numbers (suc w.last) k i
-links_on object count w n m old value chain can k i at (inner next v is next_at number) =
-    inner next v (but_there object n _ k _ (next_apart object k n next v old is can.whole) is) (still_placed w m value next (suc i) can.none next_at) (kept_number w.numbers _ i v number)
-links_on object count w n m old value chain can k i at (end v is last number) =
-    let here : w.place k ≡ Some w.last = at ∙ ap Some last in
-    let same : k ≡ n = chain.once k n w.last here can.at in
-    let kept : slice_get w.numbers i ≡ Some old = ap (slice_get w.numbers) last ∙ can.number in
-    inner m old (ap (linking object n m old) same ∙ but_here object n _) (now_placed w m value ∙ ap (λ j. Some (suc j)) (sym last)) (kept_number w.numbers _ i old kept)
+links_on : (object : Objects) (count : ℕ → ℕ) (chain : Chain) (n m : Name) (old value : ℕ) → IsChain object count chain → CanLink object chain n m old value → (k : Name) (index : ℕ) → chain.place k ≡ Some index
+    → IsLinked object chain.place chain.numbers chain.last k index
+    → IsLinked (linking object n m old) (with_last chain m value).place (with_last chain m value).numbers (suc chain.last) k index
+links_on object count w name other_name old value chain can k index found (inner next other_value is next_at number) =
+    inner next other_value (but_there object name _ k _ (next_apart object k name next other_value old is can.whole) is) (still_placed w other_name value next (suc index) can.none next_at) (kept_number w.numbers _ index other_value number)
+links_on object count w name other_name old value chain can k index found (end v is last number) =
+    let here : w.place k ≡ Some w.last = found ∙ ap Some last in
+    let same : k ≡ name = chain.once k name w.last here can.at in
+    let kept : slice_get w.numbers index ≡ Some old = ap (slice_get w.numbers) last ∙ can.number in
+    inner other_name old (ap (linking object name other_name old) same ∙ but_here object name _) (now_placed w other_name value ∙ ap (λ j. Some (suc j)) (sym last)) (kept_number w.numbers _ index old kept)
 
-linked_new : (object : Objects) (count : ℕ → ℕ) (w : Chain) (n m : Name) (old value : ℕ) → IsChain object count w → CanLink object w n m old value → (k : Name) (i : ℕ) → k ≡ m → i ≡ suc w.last
-    → IsLinked (linking object n m old) (with_last w m value).place (with_last w m value).numbers (suc w.last) k i
-linked_new object count w n m old value chain can k i same last =
-    let apart : m ≢ n = λ e. places_apart w n m w.last can.at can.none (sym e) in
-    end value (ap (linking object n m old) same ∙ but_there object n _ m _ apart can.fresh) last (last_number w.numbers i value (chain.size ∙ sym last))
+linked_new : (object : Objects) (count : ℕ → ℕ) (chain : Chain) (n m : Name) (old value : ℕ) → IsChain object count chain → CanLink object chain n m old value → (k : Name) (index : ℕ) → k ≡ m → index ≡ suc chain.last
+    → IsLinked (linking object n m old) (with_last chain m value).place (with_last chain m value).numbers (suc chain.last) k index
+linked_new object count w name other_name old value chain can k index same last =
+    let apart : other_name ≢ name = λ e. places_apart w name other_name w.last can.at can.none (sym e) in
+    end value (ap (linking object name other_name old) same ∙ but_there object name _ other_name _ apart can.fresh) last (last_number w.numbers index value (chain.size ∙ sym last))
 
-pub link_chain : (object : Objects) (count : ℕ → ℕ) (w : Chain) (n m : Name) (old value : ℕ) → IsChain object count w → CanLink object w n m old value → IsChain (linking object n m old) count (with_last w m value)
-link_chain object count w n m old value chain can = record {
-  hub_is = but_there object n _ hub _ (apart_by_tag object hub n _ _ chain.hub_is can.whole (λ (e : 16 ≡ 1). omega (arith, e))) chain.hub_is;
-  anchor_is = but_there object n _ anchor _ (apart_by_tag object anchor n _ _ chain.anchor_is can.whole (λ (e : 2 ≡ 1). omega (arith, e))) chain.anchor_is;
-  front_at = still_placed w m value w.front w.head can.none chain.front_at;
-  back_at = still_placed w m value w.back w.tail can.none chain.back_at;
+pub link_chain : (object : Objects) (count : ℕ → ℕ) (chain : Chain) (name other_name : Name) (old value : ℕ) → IsChain object count chain → CanLink object chain name other_name old value → IsChain (linking object name other_name old) count (with_last chain other_name value)
+link_chain object count w name other_name old value chain can = record {
+  hub_is = but_there object name _ hub _ (apart_by_tag object hub name _ _ chain.hub_is can.whole (λ (e : 16 ≡ 1). omega (arith, e))) chain.hub_is;
+  anchor_is = but_there object name _ anchor _ (apart_by_tag object anchor name _ _ chain.anchor_is can.whole (λ (e : 2 ≡ 1). omega (arith, e))) chain.anchor_is;
+  front_at = still_placed w other_name value w.front w.head can.none chain.front_at;
+  back_at = still_placed w other_name value w.back w.tail can.none chain.back_at;
   order = chain.order;
   size = length-append w.numbers (value ∷ []) ∙ omega (arith, chain.size);
-  within = λ k i at. elim (was_placed w m value k i at) [ inl new ↦ omega (arith, new.1) | inr old ↦ let low = chain.within k i old in omega (arith, low) ];
-  once = λ k j i k_at j_at. one_name k j i (was_placed w m value k i k_at) (was_placed w m value j i j_at);
-  linked = λ k i at. elim (was_placed w m value k i at) [
-    | inl new ↦ linked_new object count w n m old value chain can k i new.0 new.1
-    | inr there ↦ links_on object count w n m old value chain can k i there (chain.linked k i there)
+  within = λ k i at. elim (was_placed w other_name value k i at) [ inl new ↦ omega (arith, new.1) | inr old ↦ let low = chain.within k i old in omega (arith, low) ];
+  once = λ k j i k_at j_at. one_name k j i (was_placed w other_name value k i k_at) (was_placed w other_name value j i j_at);
+  linked = λ k index at. elim (was_placed w other_name value k index at) [
+    | inl new ↦ linked_new object count w name other_name old value chain can k index new.0 new.1
+    | inr there ↦ links_on object count w name other_name old value chain can k index there (chain.linked k index there)
   ];
-  made = made_but object count n _ _ chain.made can.whole;
+  made = made_but object count name _ _ chain.made can.whole;
 }
   where
-    one_name : (k j : Name) (i : ℕ) → ((k ≡ m) × (i ≡ suc w.last)) ⊎ (w.place k ≡ Some i) → ((j ≡ m) × (i ≡ suc w.last)) ⊎ (w.place j ≡ Some i) → k ≡ j
+    one_name : (k j : Name) (i : ℕ) → ((k ≡ other_name) × (i ≡ suc w.last)) ⊎ (w.place k ≡ Some i) → ((j ≡ other_name) × (i ≡ suc w.last)) ⊎ (w.place j ≡ Some i) → k ≡ j
     one_name k j i (inl a) (inl b) = a.0 ∙ sym b.0
     one_name k j i (inl a) (inr b) = let low = chain.within j i b in absurd (omega (arith, low, a.1))
     one_name k j i (inr a) (inl b) = let low = chain.within k i a in absurd (omega (arith, low, b.1))
     one_name k j i (inr a) (inr b) = chain.once k j i a b
 
-pub link_rely : (u : ℕ) (object : Objects) (count : ℕ → ℕ) (w : Chain) (name other_name : Name) (old value : ℕ) → IsChain object count w → CanLink object w name other_name old value → other_name.thread ≢ u → Rely u object w (linking object name other_name old) (with_last w other_name value)
+pub link_rely : (u : ℕ) (object : Objects) (count : ℕ → ℕ) (chain : Chain) (name other_name : Name) (old value : ℕ) → IsChain object count chain → CanLink object chain name other_name old value → other_name.thread ≢ u → Rely u object chain (linking object name other_name old) (with_last chain other_name value)
 link_rely u object count w name other_name old value chain can other = record {
   places = λ k i at. still_placed w other_name value k i can.none at;
-  numbers = λ i v is. kept_number w.numbers _ i v is;
-  inner = λ k next i v at is. but_there object name _ k _ (next_apart object k name next v old is can.whole) is;
+  numbers = λ index value is. kept_number w.numbers _ index value is;
+  inner = λ other_name next i v at is. but_there object name _ other_name _ (next_apart object other_name name next v old is can.whole) is;
   own = λ k v mine apart is. but_there object name _ k _ (λ same. places_apart w name k w.last can.at apart (sym same)) is;
   apart = λ k v mine apart is. by_name (λ p. p ≡ None) k other_name (Some (suc w.last)) (w.place k) (λ same. absurd (other (ap (λ (name : Name). name.thread) (sym same) ∙ mine))) (λ _. apart);
   heads = omega arith;

@@ -29,23 +29,23 @@ use Rattle.managed_queue.proofs.Playing.{of_here, of_there}
 
 -- ---- lists
 
-front_is : (xs ys : List Entry) → take (length xs) (xs ++ ys) ≡ xs
-front_is [] ys = refl
-front_is (x ∷ xs) ys = ap (λ zs. x ∷ zs) (front_is xs ys)
+front_is : (entries other_entries : List Entry) → take (length entries) (entries ++ other_entries) ≡ entries
+front_is [] entries = refl
+front_is (entry ∷ other_entries) entries = ap (λ zs. entry ∷ zs) (front_is other_entries entries)
 
-behind_is : (xs ys : List Entry) (entry : Entry) → slice_get (xs ++ entry ∷ ys) (length xs) ≡ Some entry
-behind_is [] ys entry = refl
-behind_is (x ∷ xs) ys entry = behind_is xs ys entry
+behind_is : (entries other_entries : List Entry) (entry : Entry) → slice_get (entries ++ entry ∷ other_entries) (length entries) ≡ Some entry
+behind_is [] entries entry = refl
+behind_is (other_entry ∷ other_entries) entries entry = behind_is other_entries entries entry
 
-no_entries : (es : List Entry) → commands_of es ≡ [] → es ≡ []
+no_entries : (entries : List Entry) → commands_of entries ≡ [] → entries ≡ []
 no_entries [] none = refl
-no_entries (e ∷ es) none = absurd cc
+no_entries (entry ∷ entries) none = absurd cc
 
 -- ---- the entries of a user
 
-driven_front : (u : Use) (xs ys : List Entry) → IsDriven u (xs ++ ys) → IsDriven u xs
-driven_front u [] ys driven = tt
-driven_front u (e ∷ xs) ys driven = (driven.0, driven_front (used u e.reply) xs ys driven.1)
+driven_front : (user : Use) (entries other_entries : List Entry) → IsDriven user (entries ++ other_entries) → IsDriven user entries
+driven_front user [] entries driven = tt
+driven_front user (entry ∷ other_entries) entries driven = (driven.0, driven_front (used user entry.reply) other_entries entries driven.1)
 
 -- a command of the table asks for 5 words at most
 few_asked : (c : Choice) (spot : Spot) → words_asked (Some (command_coming c spot)) ≤ 5
@@ -72,16 +72,16 @@ few_asked c Reads = omega arith
 few_asked c (Unlinks value) = omega arith
 
 -- so does each command of a user
-each_asks : (u : Use) (es : List Entry) → IsDriven u es → (index : ℕ) → words_asked (slice_get (commands_of es) index) ≤ 5
-each_asks u [] driven index = omega arith
-each_asks u (e ∷ es) driven zero =
-    let goes = going u e.command driven.0 in
-    subst (λ c. words_asked (Some c) ≤ 5) goes.command (few_asked (chosen u.plan) u.spot)
-each_asks u (e ∷ es) driven (suc index) = each_asks (used u e.reply) es driven.1 index
+each_asks : (user : Use) (entries : List Entry) → IsDriven user entries → (index : ℕ) → words_asked (slice_get (commands_of entries) index) ≤ 5
+each_asks user [] driven index = omega arith
+each_asks user (entry ∷ entries) driven zero =
+    let goes = going user entry.command driven.0 in
+    subst (λ c. words_asked (Some c) ≤ 5) goes.command (few_asked (chosen user.plan) user.spot)
+each_asks user (entry ∷ entries) driven (suc index) = each_asks (used user entry.reply) entries driven.1 index
 
-behind_asks : (u : Use) (xs ys : List Entry) (entry : Entry) → IsDriven u (xs ++ entry ∷ ys) → words_asked (Some entry.command) ≤ 5
-behind_asks u [] ys entry driven = each_asks u (entry ∷ ys) driven 0
-behind_asks u (x ∷ xs) ys entry driven = behind_asks (used u x.reply) xs ys entry driven.1
+behind_asks : (user : Use) (entries other_entries : List Entry) (entry : Entry) → IsDriven user (entries ++ entry ∷ other_entries) → words_asked (Some entry.command) ≤ 5
+behind_asks user [] entries entry driven = each_asks user (entry ∷ entries) driven 0
+behind_asks user (other_entry ∷ other_entries) entries entry driven = behind_asks (used user other_entry.reply) other_entries entries entry driven.1
 
 -- a user makes no more than is to come
 one_made : (command : Command) → (made_by command ≡ 0) ⊎ ((made_by command ≡ 1) × IsNew command)
@@ -106,68 +106,68 @@ made_low entry = by_test (is_full entry.reply)
     by_test true = omega arith
     by_test false = omega arith
 
-makes_few : (u : Use) (es : List Entry) → IsDriven u es → makings es + to_come (use_after u es) ≤ to_come u
-makes_few u [] driven = omega arith
-makes_few u (e ∷ es) driven =
-    let later = makes_few (used u e.reply) es driven.1 in
-    let low = made_low e in
-    let falls = user_falls u e.reply in
-    elim (one_made e.command) [
+makes_few : (user : Use) (entries : List Entry) → IsDriven user entries → makings entries + to_come (use_after user entries) ≤ to_come user
+makes_few user [] driven = omega arith
+makes_few user (entry ∷ entries) driven =
+    let later = makes_few (used user entry.reply) entries driven.1 in
+    let low = made_low entry in
+    let falls = user_falls user entry.reply in
+    elim (one_made entry.command) [
       | inl none ↦ omega (arith, later, low, falls, none)
-      | inr one ↦ let pays = user_pays u e.command e.reply driven.0 one.1 in let is = one.0 in omega (arith, later, low, pays, is)
+      | inr one ↦ let pays = user_pays user entry.command entry.reply driven.0 one.1 in let is = one.0 in omega (arith, later, low, pays, is)
     ]
 
 -- ---- the threads
 
-not_zero : (entry : Entry) (es : List Entry) → of_thread (entry ∷ es) entry.thread ≡ [] → ⊥
-not_zero entry es none = let some : entry ∷ of_thread es entry.thread ≡ [] = sym (of_here entry es) ∙ none in cc
+not_zero : (entry : Entry) (entries : List Entry) → of_thread (entry ∷ entries) entry.thread ≡ [] → ⊥
+not_zero entry entries none = let some : entry ∷ of_thread entries entry.thread ≡ [] = sym (of_here entry entries) ∙ none in cc
 
-none_later : (entry : Entry) (es : List Entry) (thread : ℕ) → of_thread (entry ∷ es) thread ≡ [] → of_thread es thread ≡ []
-none_later entry es thread none = ⊎_elim
-    (λ (same : thread ≡ entry.thread). absurd (not_zero entry es (ap (of_thread (entry ∷ es)) (sym same) ∙ none)))
-    (λ (other : thread ≡ entry.thread → ⊥). sym (of_there entry es thread other) ∙ none)
+none_later : (entry : Entry) (entries : List Entry) (thread : ℕ) → of_thread (entry ∷ entries) thread ≡ [] → of_thread entries thread ≡ []
+none_later entry entries thread none = ⊎_elim
+    (λ (same : thread ≡ entry.thread). absurd (not_zero entry entries (ap (of_thread (entry ∷ entries)) (sym same) ∙ none)))
+    (λ (other : thread ≡ entry.thread → ⊥). sym (of_there entry entries thread other) ∙ none)
     (cases_eq thread entry.thread)
 
-are_four : (es : List Entry) → ((thread : ℕ) → (thread ≡ 0) ⊎ (4 < thread) → of_thread es thread ≡ []) → AreOf 4 es
+are_four : (entries : List Entry) → ((thread : ℕ) → (thread ≡ 0) ⊎ (4 < thread) → of_thread entries thread ≡ []) → AreOf 4 entries
 are_four [] none = tt
-are_four (e ∷ es) none = (
-  ⊎_elim (λ (zeroth : e.thread ≡ 0). absurd (not_zero e es (none e.thread (inl zeroth)))) (λ (other : e.thread ≡ 0 → ⊥). omega (arith, other)) (cases_eq e.thread 0),
-  ⊎_elim (λ (past : 4 < e.thread). absurd (not_zero e es (none e.thread (inr past)))) (λ (within : e.thread ≤ 4). within) (cases_lt 4 e.thread),
-  are_four es (λ thread out. none_later e es thread (none thread out)),
+are_four (entry ∷ entries) none = (
+  ⊎_elim (λ (zeroth : entry.thread ≡ 0). absurd (not_zero entry entries (none entry.thread (inl zeroth)))) (λ (other : entry.thread ≡ 0 → ⊥). omega (arith, other)) (cases_eq entry.thread 0),
+  ⊎_elim (λ (past : 4 < entry.thread). absurd (not_zero entry entries (none entry.thread (inr past)))) (λ (within : entry.thread ≤ 4). within) (cases_lt 4 entry.thread),
+  are_four entries (λ thread out. none_later entry entries thread (none thread out)),
 )
 
 of_member : (before rest : List Entry) (entry : Entry) → AreOf 4 (before ++ entry ∷ rest) → (1 ≤ entry.thread) × (entry.thread ≤ 4)
-of_member [] rest entry of = (of.0, of.1)
-of_member (x ∷ before) rest entry of = of_member before rest entry of.2
+of_member [] rest entry are_of = (are_of.0, are_of.1)
+of_member (other_entry ∷ before) rest entry are_of = of_member before rest entry are_of.2
 
 -- what is made is made by one of the four
-made_here : (entry : Entry) (es : List Entry) (thread : ℕ) → entry.thread ≡ thread → makings (of_thread (entry ∷ es) thread) ≡ (if is_full entry.reply then 0 else made_by entry.command) + makings (of_thread es thread)
-made_here entry es thread same = ap (λ k. makings (of_thread (entry ∷ es) k)) (sym same) ∙ ap makings (of_here entry es) ∙ ap (λ k. (if is_full entry.reply then 0 else made_by entry.command) + makings (of_thread es k)) same
+made_here : (entry : Entry) (entries : List Entry) (thread : ℕ) → entry.thread ≡ thread → makings (of_thread (entry ∷ entries) thread) ≡ (if is_full entry.reply then 0 else made_by entry.command) + makings (of_thread entries thread)
+made_here entry entries thread same = ap (λ k. makings (of_thread (entry ∷ entries) k)) (sym same) ∙ ap makings (of_here entry entries) ∙ ap (λ k. (if is_full entry.reply then 0 else made_by entry.command) + makings (of_thread entries k)) same
 
-made_there : (entry : Entry) (es : List Entry) (thread : ℕ) → (thread ≡ entry.thread → ⊥) → makings (of_thread (entry ∷ es) thread) ≡ makings (of_thread es thread)
-made_there entry es thread other = ap makings (of_there entry es thread other)
+made_there : (entry : Entry) (entries : List Entry) (thread : ℕ) → (thread ≡ entry.thread → ⊥) → makings (of_thread (entry ∷ entries) thread) ≡ makings (of_thread entries thread)
+made_there entry entries thread other = ap makings (of_there entry entries thread other)
 
-made_by_four : (es : List Entry) → AreOf 4 es → makings es ≡ makings (of_thread es 1) + (makings (of_thread es 2) + (makings (of_thread es 3) + makings (of_thread es 4)))
-made_by_four [] of = refl
-made_by_four (e ∷ es) of =
-    let later = made_by_four es of.2 in
-    let least = of.0 in
-    let most = of.1 in
-    elim (cases_eq e.thread 1) [
+made_by_four : (entries : List Entry) → AreOf 4 entries → makings entries ≡ makings (of_thread entries 1) + (makings (of_thread entries 2) + (makings (of_thread entries 3) + makings (of_thread entries 4)))
+made_by_four [] are_of = refl
+made_by_four (entry ∷ entries) are_of =
+    let later = made_by_four entries are_of.2 in
+    let least = are_of.0 in
+    let most = are_of.1 in
+    elim (cases_eq entry.thread 1) [
       | inl is ↦
-          let a = made_here e es 1 is in let b = made_there e es 2 (λ x. omega (arith, x, is)) in let c = made_there e es 3 (λ x. omega (arith, x, is)) in let d = made_there e es 4 (λ x. omega (arith, x, is)) in
+          let a = made_here entry entries 1 is in let b = made_there entry entries 2 (λ x. omega (arith, x, is)) in let c = made_there entry entries 3 (λ x. omega (arith, x, is)) in let d = made_there entry entries 4 (λ x. omega (arith, x, is)) in
           omega (arith, later, a, b, c, d)
-      | inr not_first ↦ elim (cases_eq e.thread 2) [
+      | inr not_first ↦ elim (cases_eq entry.thread 2) [
         | inl is ↦
-            let a = made_there e es 1 (λ x. omega (arith, x, is)) in let b = made_here e es 2 is in let c = made_there e es 3 (λ x. omega (arith, x, is)) in let d = made_there e es 4 (λ x. omega (arith, x, is)) in
+            let a = made_there entry entries 1 (λ x. omega (arith, x, is)) in let b = made_here entry entries 2 is in let c = made_there entry entries 3 (λ x. omega (arith, x, is)) in let d = made_there entry entries 4 (λ x. omega (arith, x, is)) in
             omega (arith, later, a, b, c, d)
-        | inr not_second ↦ elim (cases_eq e.thread 3) [
+        | inr not_second ↦ elim (cases_eq entry.thread 3) [
           | inl is ↦
-              let a = made_there e es 1 (λ x. omega (arith, x, is)) in let b = made_there e es 2 (λ x. omega (arith, x, is)) in let c = made_here e es 3 is in let d = made_there e es 4 (λ x. omega (arith, x, is)) in
+              let a = made_there entry entries 1 (λ x. omega (arith, x, is)) in let b = made_there entry entries 2 (λ x. omega (arith, x, is)) in let c = made_here entry entries 3 is in let d = made_there entry entries 4 (λ x. omega (arith, x, is)) in
               omega (arith, later, a, b, c, d)
           | inr not_third ↦
-              let is : e.thread ≡ 4 = omega (arith, least, most, not_first, not_second, not_third) in
-              let a = made_there e es 1 (λ x. omega (arith, x, is)) in let b = made_there e es 2 (λ x. omega (arith, x, is)) in let c = made_there e es 3 (λ x. omega (arith, x, is)) in let d = made_here e es 4 is in
+              let is : entry.thread ≡ 4 = omega (arith, least, most, not_first, not_second, not_third) in
+              let a = made_there entry entries 1 (λ x. omega (arith, x, is)) in let b = made_there entry entries 2 (λ x. omega (arith, x, is)) in let c = made_there entry entries 3 (λ x. omega (arith, x, is)) in let d = made_here entry entries 4 is in
               omega (arith, later, a, b, c, d)
         ]
       ]
@@ -233,9 +233,9 @@ module _ (count : ℕ) (history : List Entry) (small : count ≤ 390) (run : IsQ
       where
         script_is : (m : ℕ) → commands_of (of_thread history (m + 1)) ≡ slice_index_or run.scripts (m + 1 - 1) []
         script_is m =
-            let e : m + 1 ≡ suc m = omega arith in
+            let same : m + 1 ≡ suc m = omega arith in
             let back : m ≡ m + 1 - 1 = omega arith in
-            ap (λ k. commands_of (of_thread history k)) e ∙ run.follows (suc m) ∙ ap (λ k. slice_index_or run.scripts k []) back
+            ap (λ k. commands_of (of_thread history k)) same ∙ run.follows (suc m) ∙ ap (λ k. slice_index_or run.scripts k []) back
 
     open_low : (thread : ℕ) → words_open run.scripts before thread ≤ 20
     open_low thread =
@@ -290,8 +290,8 @@ module _ (count : ℕ) (history : List Entry) (small : count ≤ 390) (run : IsQ
 
   given_on : (before rest : List Entry) → before ++ rest ≡ history → IsWithoutFull before → IsWithoutFull history
   given_on before [] split given = subst IsWithoutFull (sym (append-nil before) ∙ split) given
-  given_on before (e ∷ rest) split given =
-      given_on (before ++ e ∷ []) rest (append_assoc before (e ∷ []) rest ∙ split) (All-push (λ (entry : Entry). entry.reply ≢ reply.Full) before e given (not_refused before rest e split given))
+  given_on before (other_entry ∷ rest) split given =
+      given_on (before ++ other_entry ∷ []) rest (append_assoc before (other_entry ∷ []) rest ∙ split) (All-push (λ (entry : Entry). entry.reply ≢ reply.Full) before other_entry given (not_refused before rest other_entry split given))
 
   pub none_is_refused : IsWithoutFull history
   none_is_refused = given_on [] history refl (All-nil (λ (entry : Entry). entry.reply ≢ reply.Full))

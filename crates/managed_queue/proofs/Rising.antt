@@ -2,6 +2,7 @@
 use Rattle.std.proofs.Common.{ℕ, zero, suc, ◌≡◌, ◌+◌, ◌<◌, ◌≤◌, ◌⊎◌, Bool, true, false, Some, None, List, [], ◌∷◌, ◌++◌, slice_get, slice_set, refl, sym, ap, ◌∙◌, subst, inl, inr, arith, le-leb}
 use Rattle.std.specs.Prelude.{◌≢◌, ◌==◌, ◌&&◌, nat_le, if◌then◌else◌}
 use Rattle.std.proofs.lemmas.Bool.{cases_eq, ne_eqb}
+use Rattle.shen_graph.proofs.Numbers.{eqb_itself}
 use Rattle.shen_graph.specs.declared.name.Name.{Name}
 use Rattle.shen_graph.specs.declared.command.Command.{Command}
 use Rattle.shen_graph.specs.declared.command.Command.TheVariants.{New, Get, Set}
@@ -17,18 +18,18 @@ use Rattle.managed_queue.specs.Queue.{entry_spot}
 use Rattle.managed_queue.proofs.Facts.{Objects, anchor, first, cell, ends, shown_hub, Chain, IsChain, AreMade, IsJoining, Facts}
 use Rattle.managed_queue.proofs.Facts.IsLinked.{end}
 use Rattle.managed_queue.proofs.Moves.{but, but_there, by_name, made_but}
-use Rattle.managed_queue.proofs.Lookups.{IsPlain, own_root, other_root, by_outcome, gets, gets_bad, sets, eqb_itself}
+use Rattle.managed_queue.proofs.Lookups.{IsPlain, own_root, other_root, by_outcome, gets, gets_bad, sets}
 use Rattle.managed_queue.proofs.Steps.{waiting, made_fresh, fresh_none, nothing_there}
 
 -- one thread's spot goes on by a command and its reply
 abbrev pub goes_on : (ℕ → Spot) → ℕ → Command → Reply → ℕ → Spot
-goes_on spots t command r u = if t == u then next_spot (spots u) command r else spots u
+goes_on spots t command answered u = if t == u then next_spot (spots u) command answered else spots u
 
-pub on_here : (spots : ℕ → Spot) (t : ℕ) (command : Command) (r : Reply) → goes_on spots t command r t ≡ next_spot (spots t) command r
-on_here spots t command r = ap (λ b. if b then next_spot (spots t) command r else spots t) (eqb_itself t)
+pub on_here : (spots : ℕ → Spot) (t : ℕ) (command : Command) (answered : Reply) → goes_on spots t command answered t ≡ next_spot (spots t) command answered
+on_here spots t command answered = ap (λ b. if b then next_spot (spots t) command answered else spots t) (eqb_itself t)
 
-pub on_there : (spots : ℕ → Spot) (t : ℕ) (command : Command) (r : Reply) (u : ℕ) → u ≢ t → goes_on spots t command r u ≡ spots u
-on_there spots t command r u other = ap (λ b. if b then next_spot (spots u) command r else spots u) (ne_eqb t u (λ e. other (sym e)))
+pub on_there : (spots : ℕ → Spot) (t : ℕ) (command : Command) (answered : Reply) (u : ℕ) → u ≢ t → goes_on spots t command answered u ≡ spots u
+on_there spots t command answered u other = ap (λ b. if b then next_spot (spots u) command answered else spots u) (ne_eqb t u (λ e. other (sym e)))
 
 -- both nodes' references of the anchor, once the first node is made
 pub record Raised (object : Objects) (root : ℕ → Reference) (front back : Reference) : Type 0 where
@@ -53,12 +54,12 @@ pub record IsRising (graph : Graph) (spots : ℕ → Spot) : Type 0 where
   pub hub_root : graph.root 1 0 ≡ Some hub
   pub null_root : graph.root 1 7 ≡ None
   pub raised : IsRaised graph.object (graph.root 1) (graph.count 1) (spots 1)
-  pub others : (u : ℕ) → u ≢ 1 → (spots u ≡ Joins) × IsJoining u (graph.root u)
+  pub others : (thread : ℕ) → thread ≢ 1 → (spots thread ≡ Joins) × IsJoining thread (graph.root thread)
 
 -- Whatever is shown or not: these numbers are in the queue.
 pub data State (graph : Graph) (spots : ℕ → Spot) (queue : List ℕ) : Type 0 where
   rising : IsRising graph spots → queue ≡ [] → State graph spots queue
-  shown : (chain : Chain) → IsChain graph.object graph.count chain → ((u : ℕ) → Facts u graph.object chain (graph.root u) (spots u)) → queue ≡ waiting chain → State graph spots queue
+  shown : (chain : Chain) → IsChain graph.object graph.count chain → ((thread : ℕ) → Facts thread graph.object chain (graph.root thread) (spots thread)) → queue ≡ waiting chain → State graph spots queue
 
 -- A step of thread 1 or another while the anchor is not shown.
 abbrev pub Rises : (graph : Graph) (spots : ℕ → Spot) (t : ℕ) (command : Command) → Outcome → Type 0
@@ -66,50 +67,50 @@ Rises graph spots t command o = State o.graph (goes_on spots t command o.reply) 
 
 -- Another looks for the anchor: nothing is there.
 
-others_after : (graph other_graph : Graph) (spots : ℕ → Spot) (t : ℕ) (command : Command) (r : Reply) → IsRising graph spots → t ≢ 1 → spots t ≡ Joins → next_spot Joins command r ≡ Joins → IsJoining t (other_graph.root t)
-    → ((thread : ℕ) → thread ≢ t → other_graph.root thread ≡ graph.root thread) → (thread : ℕ) → thread ≢ 1 → (goes_on spots t command r thread ≡ Joins) × IsJoining thread (other_graph.root thread)
-others_after graph other_graph spots t command r is apart joins stays joining others thread other =
+others_after : (graph other_graph : Graph) (spots : ℕ → Spot) (other_thread : ℕ) (command : Command) (answered : Reply) → IsRising graph spots → other_thread ≢ 1 → spots other_thread ≡ Joins → next_spot Joins command answered ≡ Joins → IsJoining other_thread (other_graph.root other_thread)
+    → ((thread : ℕ) → thread ≢ other_thread → other_graph.root thread ≡ graph.root thread) → (thread : ℕ) → thread ≢ 1 → (goes_on spots other_thread command answered thread ≡ Joins) × IsJoining thread (other_graph.root thread)
+others_after graph other_graph spots t command answered is apart joins stays joining others thread other =
     elim (cases_eq thread t) [
-      | inl same ↦ subst (λ (k : ℕ). (goes_on spots t command r k ≡ Joins) × IsJoining k (other_graph.root k)) (sym same) (on_here spots t command r ∙ ap (λ s. next_spot s command r) joins ∙ stays, joining)
+      | inl same ↦ subst (λ (thread : ℕ). (goes_on spots t command answered thread ≡ Joins) × IsJoining thread (other_graph.root thread)) (sym same) (on_here spots t command answered ∙ ap (λ s. next_spot s command answered) joins ∙ stays, joining)
       | inr differ ↦ (
-        on_there spots t command r thread differ ∙ (is.others thread other).0,
+        on_there spots t command answered thread differ ∙ (is.others thread other).0,
         subst (λ (root : ℕ → Reference). IsJoining thread root) (sym (others thread differ)) (is.others thread other).1,
       )
     ]
 
 -- only the roots of another thread change
-looks_in_vain : (graph : Graph) (spots : ℕ → Spot) (t : ℕ) (r : Reply) (other_graph : Graph) → IsRising graph spots → t ≢ 1 → other_graph.object ≡ graph.object → other_graph.count ≡ graph.count → spots t ≡ Joins → next_spot Joins (Get 1 0 0) r ≡ Joins → IsJoining t (other_graph.root t)
-    → ((thread : ℕ) → thread ≢ t → other_graph.root thread ≡ graph.root thread) → Rises graph spots t (Get 1 0 0) (answers r other_graph)
-looks_in_vain graph spots t r other_graph is apart object count joins stays joining others =
+looks_in_vain : (graph : Graph) (spots : ℕ → Spot) (other_thread : ℕ) (answered : Reply) (other_graph : Graph) → IsRising graph spots → other_thread ≢ 1 → other_graph.object ≡ graph.object → other_graph.count ≡ graph.count → spots other_thread ≡ Joins → next_spot Joins (Get 1 0 0) answered ≡ Joins → IsJoining other_thread (other_graph.root other_thread)
+    → ((thread : ℕ) → thread ≢ other_thread → other_graph.root thread ≡ graph.root thread) → Rises graph spots other_thread (Get 1 0 0) (answers answered other_graph)
+looks_in_vain graph spots t answered other_graph is apart object count joins stays joining others =
     let one : other_graph.root 1 ≡ graph.root 1 = others 1 (λ e. apart (sym e)) in
     rising (record {
       hub_is = ap (λ (o : Objects). o hub) object ∙ is.hub_is;
       made = subst (λ (o : Objects). AreMade o other_graph.count) (sym object) (subst (λ (k : ℕ → ℕ). AreMade graph.object k) (sym count) is.made);
       hub_root = ap (λ (root : ℕ → Reference). root 0) one ∙ is.hub_root;
       null_root = ap (λ (root : ℕ → Reference). root 7) one ∙ is.null_root;
-      raised = subst (IsRaised other_graph.object (other_graph.root 1) (other_graph.count 1)) (sym (on_there spots t (Get 1 0 0) r 1 (λ e. apart (sym e))))
+      raised = subst (IsRaised other_graph.object (other_graph.root 1) (other_graph.count 1)) (sym (on_there spots t (Get 1 0 0) answered 1 (λ e. apart (sym e))))
           (subst (λ (o : Objects). IsRaised o (other_graph.root 1) (other_graph.count 1) (spots 1)) (sym object)
           (subst (λ (root : ℕ → Reference). IsRaised graph.object root (other_graph.count 1) (spots 1)) (sym one)
           (subst (λ (k : ℕ). IsRaised graph.object (graph.root 1) k (spots 1)) (sym (ap (λ (f : ℕ → ℕ). f 1) count)) is.raised)));
-      others = others_after graph other_graph spots t (Get 1 0 0) r is apart joins stays joining others;
+      others = others_after graph other_graph spots t (Get 1 0 0) answered is apart joins stays joining others;
     }) refl
 
-rises_join : (graph : Graph) (spots : ℕ → Spot) (t : ℕ) → IsRising graph spots → t ≢ 1 → Rises graph spots t (Get 1 0 0) (outcome graph t (Get 1 0 0))
-rises_join graph spots t is apart =
-    let mine = is.others t apart in
+rises_join : (graph : Graph) (spots : ℕ → Spot) (thread : ℕ) → IsRising graph spots → thread ≢ 1 → Rises graph spots thread (Get 1 0 0) (outcome graph thread (Get 1 0 0))
+rises_join graph spots thread is apart =
+    let mine = is.others thread apart in
     elim (mine.1.hub_root) [
-      | inl none ↦ gets_bad (Rises graph spots t (Get 1 0 0)) graph t 1 0 0 none (looks_in_vain graph spots t reply.Bad graph is apart refl refl mine.0 refl mine.1 (λ u other. refl))
-      | inr at_hub ↦ gets (Rises graph spots t (Get 1 0 0)) graph t 1 0 0 hub (blank 16 0) None at_hub.0 is.hub_is refl
-          (looks_in_vain graph spots t reply.Null (with_root graph t 1 None) is apart refl refl mine.0 refl
-          (subst (λ (root : ℕ → Reference). IsJoining t root) (sym (own_root graph t 1 None)) (record { hub_root = mine.1.hub_root; null_root = mine.1.null_root }))
-          (λ u other. other_root graph t 1 u None other))
+      | inl none ↦ gets_bad (Rises graph spots thread (Get 1 0 0)) graph thread 1 0 0 none (looks_in_vain graph spots thread reply.Bad graph is apart refl refl mine.0 refl mine.1 (λ u other. refl))
+      | inr at_hub ↦ gets (Rises graph spots thread (Get 1 0 0)) graph thread 1 0 0 hub (blank 16 0) None at_hub.0 is.hub_is refl
+          (looks_in_vain graph spots thread reply.Null (with_root graph thread 1 None) is apart refl refl mine.0 refl
+          (subst (λ (root : ℕ → Reference). IsJoining thread root) (sym (own_root graph thread 1 None)) (record { hub_root = mine.1.hub_root; null_root = mine.1.null_root }))
+          (λ other_thread other. other_root graph thread 1 other_thread None other))
     ]
 
 -- Thread 1 goes on.
 
-others_stay : (graph other_graph : Graph) (spots : ℕ → Spot) (command : Command) (r : Reply) → IsRising graph spots → ((thread : ℕ) → thread ≢ 1 → other_graph.root thread ≡ graph.root thread) → (thread : ℕ) → thread ≢ 1 → (goes_on spots 1 command r thread ≡ Joins) × IsJoining thread (other_graph.root thread)
-others_stay graph other_graph spots command r is others thread other = (
-  on_there spots 1 command r thread other ∙ (is.others thread other).0,
+others_stay : (graph other_graph : Graph) (spots : ℕ → Spot) (command : Command) (answered : Reply) → IsRising graph spots → ((thread : ℕ) → thread ≢ 1 → other_graph.root thread ≡ graph.root thread) → (thread : ℕ) → thread ≢ 1 → (goes_on spots 1 command answered thread ≡ Joins) × IsJoining thread (other_graph.root thread)
+others_stay graph other_graph spots command answered is others thread other = (
+  on_there spots 1 command answered thread other ∙ (is.others thread other).0,
   subst (λ (root : ℕ → Reference). IsJoining thread root) (sym (others thread other)) (is.others thread other).1,
 )
 
@@ -122,15 +123,15 @@ pub record Onward (graph other_graph : Graph) (spot : Spot) : Type 0 where
   pub raised : IsRaised other_graph.object (other_graph.root 1) (other_graph.count 1) spot
   pub others : (thread : ℕ) → thread ≢ 1 → other_graph.root thread ≡ graph.root thread
 
-goes_onward : (graph other_graph : Graph) (spots : ℕ → Spot) (spot : Spot) (command : Command) (r : Reply) → IsRising graph spots → spots 1 ≡ spot → Onward graph other_graph (next_spot spot command r) → Rises graph spots 1 command (answers r other_graph)
-goes_onward graph other_graph spots spot command r is at onward =
+goes_onward : (graph next_graph : Graph) (spots : ℕ → Spot) (spot : Spot) (command : Command) (answered : Reply) → IsRising graph spots → spots 1 ≡ spot → Onward graph next_graph (next_spot spot command answered) → Rises graph spots 1 command (answers answered next_graph)
+goes_onward graph next_graph spots spot command answered is at onward =
     rising (record {
       hub_is = onward.hub_is;
       made = onward.made;
       hub_root = onward.hub_root;
       null_root = onward.null_root;
-      raised = subst (IsRaised other_graph.object (other_graph.root 1) (other_graph.count 1)) (ap (λ s. next_spot s command r) (sym at)) onward.raised;
-      others = others_stay graph other_graph spots command r is onward.others;
+      raised = subst (IsRaised next_graph.object (next_graph.root 1) (next_graph.count 1)) (ap (λ s. next_spot s command answered) (sym at)) onward.raised;
+      others = others_stay graph next_graph spots command answered is onward.others;
     }) refl
 
 -- the name that thread 1 gives next
@@ -150,7 +151,7 @@ makes_anchor graph spots is at count =
       hub_root = is.hub_root;
       null_root = is.null_root;
       raised = (one_more graph 0 (blank 2 0) count, ap Some name, subst (λ (name : Name). but graph.object name (blank 2 0) anchor ≡ Some (ends None None)) (sym name) refl);
-      others = λ u other. other_root (with_fresh graph 1 (blank 2 0)) 1 1 u (Some (fresh graph 1)) other;
+      others = λ thread other. other_root (with_fresh graph 1 (blank 2 0)) 1 1 thread (Some (fresh graph 1)) other;
     })
 
 makes_first : (graph : Graph) (spots : ℕ → Spot) → IsRising graph spots → spots 1 ≡ MakesFirst → IsRaised graph.object (graph.root 1) (graph.count 1) MakesFirst → Rises graph spots 1 (New 2 1 1) (outcome graph 1 (New 2 1 1))
@@ -168,7 +169,7 @@ makes_first graph spots is at raised =
         anchor_is = but_there graph.object (fresh graph 1) (blank 1 1) anchor _ (nothing_there graph.object anchor (fresh graph 1) _ raised.2 none) raised.2;
         first_is = subst (λ (name : Name). but graph.object name (blank 1 1) first ≡ Some (cell None 0)) (sym name) refl;
       };
-      others = λ u other. other_root (with_fresh graph 1 (blank 1 1)) 1 2 u (Some (fresh graph 1)) other;
+      others = λ thread other. other_root (with_fresh graph 1 (blank 1 1)) 1 2 thread (Some (fresh graph 1)) other;
     })
 
 -- the anchor names other nodes
@@ -234,9 +235,9 @@ first_chain graph spots is raised = record {
   back_at = refl;
   order = omega arith;
   size = refl;
-  within = λ n i at. let it = placed_first n i at in omega (arith, it.1);
+  within = λ name i at. let it = placed_first name i at in omega (arith, it.1);
   once = λ m n i m_at n_at. (placed_first m i m_at).0 ∙ sym (placed_first n i n_at).0;
-  linked = λ n i at. let it = placed_first n i at in
+  linked = λ name i at. let it = placed_first name i at in
       end 0 (ap (but graph.object hub shown_hub) it.0 ∙ raised.first_is) it.1 (ap (slice_get (0 ∷ [])) it.1);
   made = made_but graph.object graph.count hub shown_hub _ is.made is.hub_is;
 }
@@ -250,7 +251,7 @@ shows_anchor graph spots is at raised =
     known : (u : ℕ) → Facts u (but graph.object hub shown_hub) one_node (graph.root u) (goes_on spots 1 (Set 0 0 1) reply.Ok u)
     known u =
         elim (cases_eq u 1) [
-          | inl same ↦ subst (λ (k : ℕ). Facts k (but graph.object hub shown_hub) one_node (graph.root k) (goes_on spots 1 (Set 0 0 1) reply.Ok k)) (sym same)
+          | inl same ↦ subst (λ (thread : ℕ). Facts thread (but graph.object hub shown_hub) one_node (graph.root thread) (goes_on spots 1 (Set 0 0 1) reply.Ok thread)) (sym same)
               (subst (Facts 1 (but graph.object hub shown_hub) one_node (graph.root 1)) (ap (λ s. next_spot s (Set 0 0 1) reply.Ok) (sym at))
               (record { some = λ (e : 1 ≡ 0). omega (arith, e); anchor_root = raised.anchor_root; null_root = is.null_root }))
           | inr other ↦ let it = is.others u other in
@@ -260,55 +261,55 @@ shows_anchor graph spots is at raised =
 -- one thread's step
 
 -- a New that was not refused
-by_made : (P : Outcome → Type 0) (graph : Graph) (t : ℕ) (command : Command) (r : Reply) (other_graph : Graph) → r ≢ reply.Full → IsPlain graph t command r other_graph → P (outcome graph t command) → P (answers r other_graph)
-by_made P graph t command r other_graph given legal holds = elim legal [ inl is ↦ subst P (sym is) holds | inr full ↦ absurd (given full.1) ]
+by_made : (P : Outcome → Type 0) (graph : Graph) (t : ℕ) (command : Command) (answered : Reply) (other_graph : Graph) → answered ≢ reply.Full → IsPlain graph t command answered other_graph → P (outcome graph t command) → P (answers answered other_graph)
+by_made P graph t command answered other_graph given legal holds = elim legal [ inl is ↦ subst P (sym is) holds | inr full ↦ absurd (given full.1) ]
 
-rises_one : (graph : Graph) (spots : ℕ → Spot) (spot : Spot) (command : Command) (r : Reply) (other_graph : Graph) → IsRising graph spots → spots 1 ≡ spot → IsRaised graph.object (graph.root 1) (graph.count 1) spot → MayCome spot command → IsGranted spot r → IsPlain graph 1 command r other_graph
-    → Rises graph spots 1 command (answers r other_graph) × (fixed_at spot r ≡ []) × (open_at spot ++ fixed_at spot r ≡ operation_ended spot r ++ open_at (next_spot spot command r))
-rises_one graph spots _ _ r other_graph is at raised anchor_made given legal = (by_made (Rises graph spots 1 (New 1 2 0)) graph 1 (New 1 2 0) r other_graph given legal (makes_anchor graph spots is at raised), refl, refl)
-rises_one graph spots _ _ r other_graph is at raised first_made given legal = (by_made (Rises graph spots 1 (New 2 1 1)) graph 1 (New 2 1 1) r other_graph given legal (makes_first graph spots is at raised), refl, refl)
-rises_one graph spots _ _ r other_graph is at raised head_set given legal = (by_outcome (Rises graph spots 1 (Set 1 0 2)) graph 1 (Set 1 0 2) r other_graph (λ never. never) legal (sets_head graph spots is at raised), refl, refl)
-rises_one graph spots _ _ r other_graph is at raised tail_set given legal = (by_outcome (Rises graph spots 1 (Set 1 1 2)) graph 1 (Set 1 1 2) r other_graph (λ never. never) legal (sets_tail graph spots is at raised), refl, refl)
-rises_one graph spots _ _ r other_graph is at raised anchor_shown given legal = (by_outcome (Rises graph spots 1 (Set 0 0 1)) graph 1 (Set 0 0 1) r other_graph (λ never. never) legal (shows_anchor graph spots is at raised), refl, refl)
-rises_one graph spots _ _ r other_graph is at raised joined given legal = absurd raised
-rises_one graph spots _ _ r other_graph is at raised put_begun given legal = absurd raised
-rises_one graph spots _ _ r other_graph is at raised take_begun given legal = absurd raised
-rises_one graph spots _ _ r other_graph is at raised (filled value) given legal = absurd raised
-rises_one graph spots _ _ r other_graph is at raised (looked value) given legal = absurd raised
-rises_one graph spots _ _ r other_graph is at raised (followed value) given legal = absurd raised
-rises_one graph spots _ _ r other_graph is at raised (linked value) given legal = absurd raised
-rises_one graph spots _ _ r other_graph is at raised (helped value) given legal = absurd raised
-rises_one graph spots _ _ r other_graph is at raised (swung value) given legal = absurd raised
-rises_one graph spots _ _ r other_graph is at raised turned given legal = absurd raised
-rises_one graph spots _ _ r other_graph is at raised tail_taken given legal = absurd raised
-rises_one graph spots _ _ r other_graph is at raised next_taken given legal = absurd raised
-rises_one graph spots _ _ r other_graph is at raised (compared null) given legal = absurd raised
-rises_one graph spots _ _ r other_graph is at raised pushed given legal = absurd raised
-rises_one graph spots _ _ r other_graph is at raised read given legal = absurd raised
-rises_one graph spots _ _ r other_graph is at raised (unlinked value) given legal = absurd raised
+rises_one : (graph : Graph) (spots : ℕ → Spot) (spot : Spot) (command : Command) (answered : Reply) (other_graph : Graph) → IsRising graph spots → spots 1 ≡ spot → IsRaised graph.object (graph.root 1) (graph.count 1) spot → MayCome spot command → IsGranted spot answered → IsPlain graph 1 command answered other_graph
+    → Rises graph spots 1 command (answers answered other_graph) × (fixed_at spot answered ≡ []) × (open_at spot ++ fixed_at spot answered ≡ operation_ended spot answered ++ open_at (next_spot spot command answered))
+rises_one graph spots _ _ answered other_graph is at raised anchor_made given legal = (by_made (Rises graph spots 1 (New 1 2 0)) graph 1 (New 1 2 0) answered other_graph given legal (makes_anchor graph spots is at raised), refl, refl)
+rises_one graph spots _ _ answered other_graph is at raised first_made given legal = (by_made (Rises graph spots 1 (New 2 1 1)) graph 1 (New 2 1 1) answered other_graph given legal (makes_first graph spots is at raised), refl, refl)
+rises_one graph spots _ _ answered other_graph is at raised head_set given legal = (by_outcome (Rises graph spots 1 (Set 1 0 2)) graph 1 (Set 1 0 2) answered other_graph (λ never. never) legal (sets_head graph spots is at raised), refl, refl)
+rises_one graph spots _ _ answered other_graph is at raised tail_set given legal = (by_outcome (Rises graph spots 1 (Set 1 1 2)) graph 1 (Set 1 1 2) answered other_graph (λ never. never) legal (sets_tail graph spots is at raised), refl, refl)
+rises_one graph spots _ _ answered other_graph is at raised anchor_shown given legal = (by_outcome (Rises graph spots 1 (Set 0 0 1)) graph 1 (Set 0 0 1) answered other_graph (λ never. never) legal (shows_anchor graph spots is at raised), refl, refl)
+rises_one graph spots _ _ answered other_graph is at raised joined given legal = absurd raised
+rises_one graph spots _ _ answered other_graph is at raised put_begun given legal = absurd raised
+rises_one graph spots _ _ answered other_graph is at raised take_begun given legal = absurd raised
+rises_one graph spots _ _ answered other_graph is at raised (filled value) given legal = absurd raised
+rises_one graph spots _ _ answered other_graph is at raised (looked value) given legal = absurd raised
+rises_one graph spots _ _ answered other_graph is at raised (followed value) given legal = absurd raised
+rises_one graph spots _ _ answered other_graph is at raised (linked value) given legal = absurd raised
+rises_one graph spots _ _ answered other_graph is at raised (helped value) given legal = absurd raised
+rises_one graph spots _ _ answered other_graph is at raised (swung value) given legal = absurd raised
+rises_one graph spots _ _ answered other_graph is at raised turned given legal = absurd raised
+rises_one graph spots _ _ answered other_graph is at raised tail_taken given legal = absurd raised
+rises_one graph spots _ _ answered other_graph is at raised next_taken given legal = absurd raised
+rises_one graph spots _ _ answered other_graph is at raised (compared null) given legal = absurd raised
+rises_one graph spots _ _ answered other_graph is at raised pushed given legal = absurd raised
+rises_one graph spots _ _ answered other_graph is at raised read given legal = absurd raised
+rises_one graph spots _ _ answered other_graph is at raised (unlinked value) given legal = absurd raised
 
-rises_other : (graph : Graph) (spots : ℕ → Spot) (t : ℕ) (spot : Spot) (command : Command) (r : Reply) (other_graph : Graph) → IsRising graph spots → t ≢ 1 → Joins ≡ spot → MayCome spot command → IsPlain graph t command r other_graph → Rises graph spots t command (answers r other_graph)
-rises_other graph spots t spot command r other_graph is apart at next legal =
+rises_other : (graph : Graph) (spots : ℕ → Spot) (thread : ℕ) (spot : Spot) (command : Command) (answered : Reply) (other_graph : Graph) → IsRising graph spots → thread ≢ 1 → Joins ≡ spot → MayCome spot command → IsPlain graph thread command answered other_graph → Rises graph spots thread command (answers answered other_graph)
+rises_other graph spots thread spot command answered other_graph is apart at next legal =
     let one : command ≡ Get 1 0 0 = only_joins command (subst (λ (spot : Spot). MayCome spot command) (sym at) next) in
-    subst (λ (command : Command). Rises graph spots t command (answers r other_graph)) (sym one)
-    (by_outcome (Rises graph spots t (Get 1 0 0)) graph t (Get 1 0 0) r other_graph (λ never. never) (subst (λ (command : Command). IsPlain graph t command r other_graph) one legal) (rises_join graph spots t is apart))
+    subst (λ (command : Command). Rises graph spots thread command (answers answered other_graph)) (sym one)
+    (by_outcome (Rises graph spots thread (Get 1 0 0)) graph thread (Get 1 0 0) answered other_graph (λ never. never) (subst (λ (command : Command). IsPlain graph thread command answered other_graph) one legal) (rises_join graph spots thread is apart))
   where
     only_joins : (command : Command) → MayCome Joins command → command ≡ Get 1 0 0
     only_joins _ joined = refl
 
 -- the replies stay those of the run
 abbrev Replies : Command → Reply → Spot → Type 0
-Replies command r spot = open_at spot ++ fixed_at spot r ≡ operation_ended spot r ++ open_at (next_spot spot command r)
+Replies command answered spot = open_at spot ++ fixed_at spot answered ≡ operation_ended spot answered ++ open_at (next_spot spot command answered)
 
 -- any thread's
-pub rises : (graph : Graph) (spots : ℕ → Spot) (t : ℕ) (command : Command) (r : Reply) (other_graph : Graph) → IsRising graph spots → MayCome (spots t) command → IsGranted (spots t) r → IsPlain graph t command r other_graph
-    → Rises graph spots t command (answers r other_graph) × (fixed_at (spots t) r ≡ []) × (open_at (spots t) ++ fixed_at (spots t) r ≡ operation_ended (spots t) r ++ open_at (next_spot (spots t) command r))
-rises graph spots t command r other_graph is next given legal =
-    elim (cases_eq t 1) [
-      | inl same ↦ subst (λ (k : ℕ). Rises graph spots k command (answers r other_graph) × (fixed_at (spots k) r ≡ []) × Replies command r (spots k)) (sym same) (rises_one graph spots (spots 1) command r other_graph is refl is.raised
-          (subst (λ (k : ℕ). MayCome (spots k) command) same next) (subst (λ (k : ℕ). IsGranted (spots k) r) same given) (subst (λ (k : ℕ). IsPlain graph k command r other_graph) same legal))
-      | inr apart ↦ let at = (is.others t apart).0 in
-          (rises_other graph spots t (spots t) command r other_graph is apart (sym at) next legal, subst (λ (spot : Spot). fixed_at spot r ≡ []) (sym at) refl, subst (Replies command r) (sym at) quiet)
+pub rises : (graph : Graph) (spots : ℕ → Spot) (thread : ℕ) (command : Command) (answered : Reply) (other_graph : Graph) → IsRising graph spots → MayCome (spots thread) command → IsGranted (spots thread) answered → IsPlain graph thread command answered other_graph
+    → Rises graph spots thread command (answers answered other_graph) × (fixed_at (spots thread) answered ≡ []) × (open_at (spots thread) ++ fixed_at (spots thread) answered ≡ operation_ended (spots thread) answered ++ open_at (next_spot (spots thread) command answered))
+rises graph spots thread command answered other_graph is next given legal =
+    elim (cases_eq thread 1) [
+      | inl same ↦ subst (λ (k : ℕ). Rises graph spots k command (answers answered other_graph) × (fixed_at (spots k) answered ≡ []) × Replies command answered (spots k)) (sym same) (rises_one graph spots (spots 1) command answered other_graph is refl is.raised
+          (subst (λ (k : ℕ). MayCome (spots k) command) same next) (subst (λ (k : ℕ). IsGranted (spots k) answered) same given) (subst (λ (k : ℕ). IsPlain graph k command answered other_graph) same legal))
+      | inr apart ↦ let at = (is.others thread apart).0 in
+          (rises_other graph spots thread (spots thread) command answered other_graph is apart (sym at) next legal, subst (λ (spot : Spot). fixed_at spot answered ≡ []) (sym at) refl, subst (Replies command answered) (sym at) quiet)
     ]
   where
     nothing_open : (a : Reply) → [] ≡ open_at (next_spot Joins command a)
@@ -322,8 +323,8 @@ rises graph spots t command r other_graph is next given legal =
     nothing_open (reply.At place) = refl
     nothing_open reply.Full = refl
 
-    quiet : Replies command r Joins
-    quiet = nothing_open r
+    quiet : Replies command answered Joins
+    quiet = nothing_open answered
 
 -- how all begins
 
@@ -337,14 +338,14 @@ no_other_root true = refl
 no_other_root false = refl
 
 pub rising_opening : (threads : ℕ) → 0 < threads → IsRising (opening threads) entry_spot
-rising_opening threads some = record {
+rising_opening threads positive = record {
   hub_is = refl;
-  made = λ n o. by_name (λ x. x ≡ Some o → (n ≡ hub) ⊎ (n.count ≤ 0)) n hub (Some (blank 16 0)) None (λ same _. inl same) (λ _ is. let never : None ≡ Some o = is in absurd cc);
-  hub_root = ap (λ b. if b && (0 == 0) then Some hub else None) (le-leb 1 threads some);
+  made = λ name o. by_name (λ x. x ≡ Some o → (name ≡ hub) ⊎ (name.count ≤ 0)) name hub (Some (blank 16 0)) None (λ same _. inl same) (λ _ is. let never : None ≡ Some o = is in absurd cc);
+  hub_root = ap (λ b. if b && (0 == 0) then Some hub else None) (le-leb 1 threads positive);
   null_root = no_other_root (nat_le 1 1 && nat_le 1 threads);
   raised = refl;
-  others = λ u other. (
-    ap (λ b. if b then MakesAnchor else Joins) (ne_eqb u 1 other),
-    record { hub_root = starts threads u other (nat_le 1 u && nat_le u threads) refl; null_root = no_other_root (nat_le 1 u && nat_le u threads) },
+  others = λ thread other. (
+    ap (λ b. if b then MakesAnchor else Joins) (ne_eqb thread 1 other),
+    record { hub_root = starts threads thread other (nat_le 1 thread && nat_le thread threads) refl; null_root = no_other_root (nat_le 1 thread && nat_le thread threads) },
   );
 }

@@ -39,25 +39,25 @@ no_terms : (a n : ℕ) → sum_by (λ t. 0) (range_with_len a n) ≡ 0
 no_terms a zero = refl
 no_terms a (suc n) = let rest = no_terms (a + 1) n in omega (arith, sum_by-cons (λ t. 0) a (range_with_len (a + 1) n), rest)
 
-shared : (weight : Operation → ℕ) (threads : ℕ) (es : List Entry) (spots : ℕ → Spot) → AreOf threads es
-    → sum_by weight (fixed spots es) ≡ sum_by (λ t. sum_by weight (fixed_in (spots t) (of_thread es t))) (range_with_len 1 threads)
-shared weight threads [] spots of = sym (no_terms 1 threads)
-shared weight threads (e ∷ es) spots of =
-    let t = e.thread in
-    let now = fixed_at (spots t) e.reply in
-    let f = λ (thread : ℕ). sum_by weight (fixed_in (spots thread) (of_thread (e ∷ es) thread)) in
-    let g = λ (thread : ℕ). sum_by weight (fixed_in (spot_moved spots e thread) (of_thread es thread)) in
-    let later = shared weight threads es (spot_moved spots e) of.2 in
+shared : (weight : Operation → ℕ) (threads : ℕ) (entries : List Entry) (spots : ℕ → Spot) → AreOf threads entries
+    → sum_by weight (fixed spots entries) ≡ sum_by (λ t. sum_by weight (fixed_in (spots t) (of_thread entries t))) (range_with_len 1 threads)
+shared weight threads [] spots are_of = sym (no_terms 1 threads)
+shared weight threads (entry ∷ entries) spots are_of =
+    let t = entry.thread in
+    let now = fixed_at (spots t) entry.reply in
+    let f = λ (thread : ℕ). sum_by weight (fixed_in (spots thread) (of_thread (entry ∷ entries) thread)) in
+    let g = λ (thread : ℕ). sum_by weight (fixed_in (spot_moved spots entry thread) (of_thread entries thread)) in
+    let later = shared weight threads entries (spot_moved spots entry) are_of.2 in
     let here : f t ≡ sum_by weight now + g t =
-    ap (λ l. sum_by weight (fixed_in (spots t) l)) (of_here e es)
-    ∙ sum_by-append weight now (fixed_in (next_spot (spots t) e.command e.reply) (of_thread es t))
-    ∙ ap (λ s. sum_by weight now + sum_by weight (fixed_in s (of_thread es t))) (sym (on_here spots t e.command e.reply)) in
+    ap (λ l. sum_by weight (fixed_in (spots t) l)) (of_here entry entries)
+    ∙ sum_by-append weight now (fixed_in (next_spot (spots t) entry.command entry.reply) (of_thread entries t))
+    ∙ ap (λ s. sum_by weight now + sum_by weight (fixed_in s (of_thread entries t))) (sym (on_here spots t entry.command entry.reply)) in
     let there : (thread : ℕ) → thread ≢ t → f thread ≡ g thread = λ thread other.
-    ap (λ l. sum_by weight (fixed_in (spots thread) l)) (of_there e es thread other)
-    ∙ ap (λ s. sum_by weight (fixed_in s (of_thread es thread))) (sym (on_there spots t e.command e.reply thread other)) in
-    sum_by-append weight now (fixed (spot_moved spots e) es)
+    ap (λ l. sum_by weight (fixed_in (spots thread) l)) (of_there entry entries thread other)
+    ∙ ap (λ s. sum_by weight (fixed_in s (of_thread entries thread))) (sym (on_there spots t entry.command entry.reply thread other)) in
+    sum_by-append weight now (fixed (spot_moved spots entry) entries)
     ∙ ap (λ n. sum_by weight now + n) later
-    ∙ sym (one_term f g (sum_by weight now) t 1 threads of.0 (omega (arith, of.1)) here there)
+    ∙ sym (one_term f g (sum_by weight now) t 1 threads are_of.0 (omega (arith, are_of.1)) here there)
 
 pub fixed_are_shared : FixedAreShared
 fixed_are_shared weight threads history of = shared weight threads history entry_spot of

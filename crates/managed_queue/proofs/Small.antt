@@ -31,10 +31,10 @@ five_most name = at (same_name hub name)
 
 -- All names that are held are among these, objects are small, and no pin slot holds one.
 pub record AreSmall (graph : Graph) (names : List Name) : Type 0 where
-  pub roots : (thread r : ℕ) (name : Name) → graph.root thread r ≡ Some name → Contains names name
+  pub roots : (thread index : ℕ) (name : Name) → graph.root thread index ≡ Some name → Contains names name
   pub fields : (other_name : Name) (f : ℕ) (name : Name) → slice_get (named graph (Some other_name)).refs f ≡ Some (Some name) → Contains names name
-  pub sizes : (other_name : Name) → size (named graph (Some other_name)) ≤ most other_name
-  pub no_pin : (thread s : ℕ) → graph.pin thread s ≡ None
+  pub sizes : (name : Name) → size (named graph (Some name)) ≤ most name
+  pub no_pin : (thread slot : ℕ) → graph.pin thread slot ≡ None
 
 more : (name : Name) (names : List Name) (other_name : Name) → Contains names other_name → Contains (name ∷ names) other_name
 more name names other_name there = Contains-append_right (name ∷ []) names other_name there
@@ -65,29 +65,29 @@ small_object : (graph : Graph) (names : List Name) (name : Name) (object : Objec
 small_object graph names name object small held low = record {
   roots = small.roots;
   fields = λ m f other_name. by_name (λ (found : Option Object). slice_get (unwrap_or {T = Object} found (record { refs = []; nums = [] })).refs f ≡ Some (Some other_name) → Contains names other_name) m name (Some object) (graph.object m) (λ _ is. held f other_name is) (λ _ is. small.fields m f other_name is);
-  sizes = λ m. by_name (λ (found : Option Object). size (unwrap_or {T = Object} found (record { refs = []; nums = [] })) ≤ most m) m name (Some object) (graph.object m) (λ e. subst (λ (name : Name). size object ≤ most name) (sym e) low) (λ _. small.sizes m);
+  sizes = λ other_name. by_name (λ (found : Option Object). size (unwrap_or {T = Object} found (record { refs = []; nums = [] })) ≤ most other_name) other_name name (Some object) (graph.object other_name) (λ e. subst (λ (name : Name). size object ≤ most name) (sym e) low) (λ _. small.sizes other_name);
   no_pin = small.no_pin;
 }
 
 -- a field that was set is the new one, or was there
-was_field : (xs : List Reference) (k : ℕ) (reference : Reference) (index : ℕ) (name : Name) → slice_get (slice_set xs k reference) index ≡ Some (Some name) → (reference ≡ Some name) ⊎ (slice_get xs index ≡ Some (Some name))
+was_field : (references : List Reference) (k : ℕ) (reference : Reference) (index : ℕ) (name : Name) → slice_get (slice_set references k reference) index ≡ Some (Some name) → (reference ≡ Some name) ⊎ (slice_get references index ≡ Some (Some name))
 was_field [] k reference index name is = inr is
-was_field (x ∷ xs) zero reference zero name is = inl cc
-was_field (x ∷ xs) zero reference (suc index) name is = inr is
-was_field (x ∷ xs) (suc k) reference zero name is = inr is
-was_field (x ∷ xs) (suc k) reference (suc index) name is = was_field xs k reference index name is
+was_field (other_reference ∷ references) zero reference zero name is = inl cc
+was_field (other_reference ∷ references) zero reference (suc index) name is = inr is
+was_field (other_reference ∷ references) (suc k) reference zero name is = inr is
+was_field (other_reference ∷ references) (suc k) reference (suc index) name is = was_field references k reference index name is
 
 small_field : (graph : Graph) (names : List Name) (reference : Reference) (k : ℕ) (other_reference : Reference) → AreSmall graph names → ((name : Name) → other_reference ≡ Some name → Contains names name)
     → AreSmall (with_named graph reference (record { refs = slice_set (named graph reference).refs k other_reference; nums = (named graph reference).nums })) names
-small_field graph names None k other_reference small held = small
-small_field graph names (Some m) k other_reference small held =
-    small_object graph names m _ small (λ f name is. elim (was_field (named graph (Some m)).refs k other_reference f name is) [ inl here ↦ held name here | inr there ↦ small.fields m f name there ])
-    (let low = small.sizes m in let long = length-set (named graph (Some m)).refs k other_reference in omega (arith, low, long))
+small_field graph names None k reference small held = small
+small_field graph names (Some other_name) k reference small held =
+    small_object graph names other_name _ small (λ index name is. elim (was_field (named graph (Some other_name)).refs k reference index name is) [ inl here ↦ held name here | inr there ↦ small.fields other_name index name there ])
+    (let low = small.sizes other_name in let long = length-set (named graph (Some other_name)).refs k reference in omega (arith, low, long))
 
 small_number : (graph : Graph) (names : List Name) (reference : Reference) (k v : ℕ) → AreSmall graph names → AreSmall (with_named graph reference (record { refs = (named graph reference).refs; nums = slice_set (named graph reference).nums k v })) names
 small_number graph names None k v small = small
-small_number graph names (Some m) k v small =
-    small_object graph names m _ small (λ f n is. small.fields m f n is) (let low = small.sizes m in let long = length-set (named graph (Some m)).nums k v in omega (arith, low, long))
+small_number graph names (Some name) k v small =
+    small_object graph names name _ small (λ f n is. small.fields name f n is) (let low = small.sizes name in let long = length-set (named graph (Some name)).nums k v in omega (arith, low, long))
 
 -- a new object holds nothing
 blank_holds : (k index : ℕ) (name : Name) → slice_get (replicate k None) index ≡ Some (Some name) → ⊥
@@ -96,11 +96,11 @@ blank_holds (suc k) zero name is = let never : Some None ≡ Some (Some name) = 
 blank_holds (suc k) (suc index) name is = blank_holds k index name is
 
 small_fresh : (graph : Graph) (names : List Name) (t dst refs nums : ℕ) → AreSmall graph names → refs + nums ≤ 2 → AreSmall (with_root (with_fresh graph t (blank refs nums)) t dst (Some (fresh graph t))) (fresh graph t ∷ names)
-small_fresh graph names t dst refs nums small few =
+small_fresh graph names t dst refs nums small at_most =
     let low : size (blank refs nums) ≤ most (fresh graph t) =
     let least = five_most (fresh graph t) in
-    omega (arith, few, least, length-replicate {A = Reference} refs None, length-replicate {A = ℕ} nums 0) in
-    let made = small_object graph (fresh graph t ∷ names) (fresh graph t) (blank refs nums) (small_more graph names (fresh graph t) small) (λ f n is. absurd (blank_holds refs f n is)) low in
+    omega (arith, at_most, least, length-replicate {A = Reference} refs None, length-replicate {A = ℕ} nums 0) in
+    let made = small_object graph (fresh graph t ∷ names) (fresh graph t) (blank refs nums) (small_more graph names (fresh graph t) small) (λ index name is. absurd (blank_holds refs index name is)) low in
     small_root (with_fresh graph t (blank refs nums)) (fresh graph t ∷ names) t dst (Some (fresh graph t)) (record { roots = made.roots; fields = made.fields; sizes = made.sizes; no_pin = made.no_pin })
     (λ n is. let same : fresh graph t ≡ n = cc in Contains-append_left (fresh graph t ∷ []) names n (0, omega arith, same))
 
@@ -141,19 +141,19 @@ next_small _ _ (unlinked value) = tt
 -- none of them is to pin an object
 
 small_pins_none : (command : Command) → IsSmall command → IsPin command → ⊥
-small_pins_none (Pin slot obj) few is = few
-small_pins_none (New dst refs nums) few is = is
-small_pins_none (Get dst src field) few is = is
-small_pins_none (Set obj field val) few is = is
-small_pins_none (Cas obj field expect val) few is = is
-small_pins_none (Xchg dst obj field val) few is = is
-small_pins_none (Rd obj index) few is = is
-small_pins_none (Wr obj index value) few is = is
-small_pins_none (Copy dst src) few is = is
-small_pins_none (Drop dst) few is = is
-small_pins_none (Same a b) few is = is
-small_pins_none Gc few is = is
-small_pins_none (Unpin slot) few is = is
+small_pins_none (Pin slot obj) small is = small
+small_pins_none (New dst refs nums) small is = is
+small_pins_none (Get dst src field) small is = is
+small_pins_none (Set obj field val) small is = is
+small_pins_none (Cas obj field expect val) small is = is
+small_pins_none (Xchg dst obj field val) small is = is
+small_pins_none (Rd obj index) small is = is
+small_pins_none (Wr obj index value) small is = is
+small_pins_none (Copy dst src) small is = is
+small_pins_none (Drop dst) small is = is
+small_pins_none (Same a b) small is = is
+small_pins_none Gc small is = is
+small_pins_none (Unpin slot) small is = is
 
 pub next_pins_none : (spot : Spot) (command : Command) → MayCome spot command → IsPin command → ⊥
 next_pins_none spot command next = small_pins_none command (next_small spot command next)
@@ -164,8 +164,8 @@ on_small graph names (Some v) f small step = step v refl
 
 -- what a root's object has in a field is held
 loaded : (graph : Graph) (names : List Name) (reference : Reference) (k : ℕ) (other_reference : Reference) → AreSmall graph names → slice_get (named graph reference).refs k ≡ Some other_reference → (name : Name) → other_reference ≡ Some name → Contains names name
-loaded graph names None k other_reference small is name held = let never : None ≡ Some other_reference = is in absurd cc
-loaded graph names (Some m) k other_reference small is name held = small.fields m k name (is ∙ ap Some held)
+loaded graph names None k reference small is name held = let never : None ≡ Some reference = is in absurd cc
+loaded graph names (Some m) k reference small is name held = small.fields m k name (is ∙ ap Some held)
 
 -- What is given and held after an outcome.
 pub record Stays (graph : Graph) (names : List Name) (made : ℕ) : Type 0 where
@@ -179,7 +179,7 @@ same_names graph names small = record { new_names = names; small = small; count 
 small_stays : (graph : Graph) (names : List Name) (thread : ℕ) (command : Command) → IsSmall command → AreSmall graph names → Stays (outcome graph thread command).graph names (made_by command)
 small_stays graph names thread (New dst refs nums) few small = record { new_names = fresh graph thread ∷ names; small = small_fresh graph names thread dst refs nums small few; count = omega arith }
 small_stays graph names thread (Get dst src field) few small = same_names _ names (
-    on_small graph names (field_at graph thread src field) (λ v. answers (shown v) (with_root graph thread dst v)) small (λ v is. small_root graph names thread dst v small (loaded graph names (graph.root thread src) field v small is))
+    on_small graph names (field_at graph thread src field) (λ v. answers (shown v) (with_root graph thread dst v)) small (λ reference is. small_root graph names thread dst reference small (loaded graph names (graph.root thread src) field reference small is))
     )
 small_stays graph names thread (Set obj field val) few small = same_names _ names (
     on_small graph names (field_at graph thread obj field) (λ _. answers reply.Ok (with_field graph thread obj field (graph.root thread val))) small (λ v is. small_field graph names (graph.root thread obj) field (graph.root thread val) small (small.roots thread val))
@@ -216,10 +216,10 @@ entry_stays graph names entry few small = at (is_full entry.reply)
 pub small_opening : (threads : ℕ) → AreSmall (opening threads) (hub ∷ [])
 small_opening threads = record {
   roots = λ t r name. only (nat_le 1 t && nat_le t threads && (r == 0)) name;
-  fields = λ m f name. by_name (λ (found : Option Object). slice_get (unwrap_or {T = Object} found (record { refs = []; nums = [] })).refs f ≡ Some (Some name) → Contains (hub ∷ []) name) m hub (Some (blank 16 0)) None
-      (λ _ is. absurd (blank_holds 16 f name is)) (λ _ is. absurd (empty_holds f name is));
-  sizes = λ m. by_name (λ (found : Option Object). size (unwrap_or {T = Object} found (record { refs = []; nums = [] })) ≤ most m) m hub (Some (blank 16 0)) None
-      (λ e. subst (λ (name : Name). 19 ≤ most name) (sym e) (omega arith)) (λ _. let least = five_most m in omega (arith, least));
+  fields = λ other_name index name. by_name (λ (found : Option Object). slice_get (unwrap_or {T = Object} found (record { refs = []; nums = [] })).refs index ≡ Some (Some name) → Contains (hub ∷ []) name) other_name hub (Some (blank 16 0)) None
+      (λ _ is. absurd (blank_holds 16 index name is)) (λ _ is. absurd (empty_holds index name is));
+  sizes = λ other_name. by_name (λ (found : Option Object). size (unwrap_or {T = Object} found (record { refs = []; nums = [] })) ≤ most other_name) other_name hub (Some (blank 16 0)) None
+      (λ e. subst (λ (name : Name). 19 ≤ most name) (sym e) (omega arith)) (λ _. let least = five_most other_name in omega (arith, least));
   no_pin = λ t s. refl;
 }
   where

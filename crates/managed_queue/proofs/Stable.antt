@@ -6,41 +6,41 @@ use Rattle.managed_queue.specs.declared.spot.Spot.TheVariants.{MakesAnchor, Make
 use Rattle.managed_queue.proofs.Facts.{Objects, Chain, IsOwn, IsAt, IsEdge, IsPair, Facts, Rely}
 
 pub own_stays : (t : ℕ) (object : Objects) (chain : Chain) (new_object : Objects) (new_chain : Chain) (reference : Reference) (value : ℕ) → Rely t object chain new_object new_chain → IsOwn t object chain reference value → IsOwn t new_object new_chain reference value
-own_stays t object chain new_object new_chain reference value rely o = record {
-  name = o.name;
-  is = o.is;
-  mine = o.mine;
-  apart = rely.apart o.name value o.mine o.apart o.whole;
-  whole = rely.own o.name value o.mine o.apart o.whole;
+own_stays t object chain new_object new_chain reference value rely is_own = record {
+  name = is_own.name;
+  is = is_own.is;
+  mine = is_own.mine;
+  apart = rely.apart is_own.name value is_own.mine is_own.apart is_own.whole;
+  whole = rely.own is_own.name value is_own.mine is_own.apart is_own.whole;
 }
 
 abbrev pub at_stays : (t : ℕ) (object : Objects) (chain : Chain) (new_object : Objects) (new_chain : Chain) (reference : Reference) (bound new_bound : ℕ) → Rely t object chain new_object new_chain → bound ≤ new_bound → IsAt chain reference bound → IsAt new_chain reference new_bound
-at_stays t object chain new_object new_chain reference bound new_bound rely more a = record {
-  name = a.name;
-  index = a.index;
-  is = a.is;
-  at = rely.places a.name a.index a.at;
-  low = omega (arith, more, a.low);
+at_stays t object chain new_object new_chain reference bound new_bound rely at_most is_at = record {
+  name = is_at.name;
+  index = is_at.index;
+  is = is_at.is;
+  at = rely.places is_at.name is_at.index is_at.at;
+  low = omega (arith, at_most, is_at.low);
 }
 
 abbrev pub edge_stays : (t : ℕ) (object : Objects) (chain : Chain) (new_object : Objects) (new_chain : Chain) (reference other_reference : Reference) → Rely t object chain new_object new_chain → IsEdge object chain reference other_reference → IsEdge new_object new_chain reference other_reference
-edge_stays t object chain new_object new_chain reference other_reference rely e = record {
-  from = e.from;
-  to = e.to;
-  index = e.index;
-  value = e.value;
-  from_is = e.from_is;
-  to_is = e.to_is;
-  at = rely.places e.from e.index e.at;
-  next_at = rely.places e.to _ e.next_at;
-  whole = rely.inner e.from e.to e.index e.value e.at e.whole;
+edge_stays t object chain new_object new_chain reference other_reference rely edge = record {
+  from = edge.from;
+  to = edge.to;
+  index = edge.index;
+  value = edge.value;
+  from_is = edge.from_is;
+  to_is = edge.to_is;
+  at = rely.places edge.from edge.index edge.at;
+  next_at = rely.places edge.to _ edge.next_at;
+  whole = rely.inner edge.from edge.to edge.index edge.value edge.at edge.whole;
 }
 
 pub pair_stays : (t : ℕ) (object : Objects) (chain : Chain) (new_object : Objects) (new_chain : Chain) (reference other_reference : Reference) → Rely t object chain new_object new_chain → IsPair chain reference other_reference → IsPair new_chain reference other_reference
-pair_stays t object chain new_object new_chain reference other_reference rely p = record {
-  front = at_stays t object chain new_object new_chain reference chain.head new_chain.head rely rely.heads p.front;
-  back = at_stays t object chain new_object new_chain other_reference chain.tail new_chain.tail rely rely.tails p.back;
-  order = p.order;
+pair_stays t object chain new_object new_chain reference other_reference rely pair = record {
+  front = at_stays t object chain new_object new_chain reference chain.head new_chain.head rely rely.heads pair.front;
+  back = at_stays t object chain new_object new_chain other_reference chain.tail new_chain.tail rely rely.tails pair.back;
+  order = pair.order;
 }
 
 pub facts_stay : (t : ℕ) (object : Objects) (chain : Chain) (new_object : Objects) (new_chain : Chain) (root : ℕ → Reference) (spot : Spot) → Rely t object chain new_object new_chain → Facts t object chain root spot → Facts t new_object new_chain root spot

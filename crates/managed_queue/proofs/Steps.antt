@@ -3,6 +3,7 @@ use Rattle.std.proofs.Common.{ℕ, zero, suc, ◌≡◌, ◌+◌, ◌≤◌, ◌
 use Rattle.std.specs.Prelude.{◌≢◌, ◌==◌, if◌then◌else◌}
 use Rattle.std.proofs.lemmas.List.{drop-append-le}
 use Rattle.std.proofs.lemmas.Option.{get_or_from_slice_get, slice_get_within}
+use Rattle.shen_graph.proofs.Numbers.{eqb_itself}
 use Rattle.shen_graph.specs.declared.name.Name.{Name}
 use Rattle.shen_graph.specs.declared.command.Command.{Command}
 use Rattle.shen_graph.specs.declared.command.Command.TheVariants.{New, Get, Cas, Rd, Wr, Same}
@@ -20,30 +21,30 @@ use Rattle.managed_queue.proofs.Facts.IsLinked.{inner, end}
 use Rattle.managed_queue.proofs.Stable.{facts_stay}
 use Rattle.managed_queue.proofs.Moves.{but, but_here, by_name, apart_by_tag, same_place, stays, chain_but, rely_but, made_but, with_ends, ends_chain, ends_rely}
 use Rattle.managed_queue.proofs.Linking.{with_last, CanLink, link_chain, link_rely, link_edge}
-use Rattle.managed_queue.proofs.Lookups.{IsPlain, root_put, own_root, other_root, by_outcome, gets, gets_bad, swaps, reads, writes, compares, eqb_itself}
+use Rattle.managed_queue.proofs.Lookups.{IsPlain, root_put, own_root, other_root, by_outcome, gets, gets_bad, swaps, reads, writes, compares}
 
 -- the numbers in the queue
 abbrev pub waiting : Chain → List ℕ
 waiting chain = drop (suc chain.head) chain.numbers
 
 -- A step that may be made: what is left, and what it means for the queue.
-pub record Goes (t : ℕ) (graph : Graph) (w : Chain) (spot : Spot) (command : Command) (o : Outcome) : Type 0 where
+pub record Goes (other_thread : ℕ) (graph : Graph) (w : Chain) (spot : Spot) (command : Command) (o : Outcome) : Type 0 where
   pub after : Chain
   pub chain : IsChain o.graph.object o.graph.count after
-  pub rely : (thread : ℕ) → thread ≢ t → Rely thread graph.object w o.graph.object after
-  pub others : (thread : ℕ) → thread ≢ t → o.graph.root thread ≡ graph.root thread
-  pub facts : Facts t o.graph.object after (o.graph.root t) (next_spot spot command o.reply)
+  pub rely : (thread : ℕ) → thread ≢ other_thread → Rely thread graph.object w o.graph.object after
+  pub others : (thread : ℕ) → thread ≢ other_thread → o.graph.root thread ≡ graph.root thread
+  pub facts : Facts other_thread o.graph.object after (o.graph.root other_thread) (next_spot spot command o.reply)
   pub run : Leads (waiting w) (fixed_at spot o.reply) (waiting after)
   pub replies : open_at spot ++ fixed_at spot o.reply ≡ operation_ended spot o.reply ++ open_at (next_spot spot command o.reply)
 
 -- the reply fixes an operation that changes nothing, and the replies stay those of the run
-pub record Tells (chain : Chain) (spot : Spot) (command : Command) (r : Reply) : Type 0 where
-  pub run : Leads (waiting chain) (fixed_at spot r) (waiting chain)
-  pub replies : open_at spot ++ fixed_at spot r ≡ operation_ended spot r ++ open_at (next_spot spot command r)
+pub record Tells (chain : Chain) (spot : Spot) (command : Command) (answered : Reply) : Type 0 where
+  pub run : Leads (waiting chain) (fixed_at spot answered) (waiting chain)
+  pub replies : open_at spot ++ fixed_at spot answered ≡ operation_ended spot answered ++ open_at (next_spot spot command answered)
 
 -- the graph stays
-keeps : (t : ℕ) (graph : Graph) (w : Chain) (spot : Spot) (command : Command) (r : Reply) → IsChain graph.object graph.count w → Facts t graph.object w (graph.root t) (next_spot spot command r) → Tells w spot command r → Goes t graph w spot command (answers r graph)
-keeps t graph w spot command r chain facts tells = record {
+keeps : (thread : ℕ) (graph : Graph) (chain : Chain) (spot : Spot) (command : Command) (answered : Reply) → IsChain graph.object graph.count chain → Facts thread graph.object chain (graph.root thread) (next_spot spot command answered) → Tells chain spot command answered → Goes thread graph chain spot command (answers answered graph)
+keeps thread graph w spot command answered chain facts tells = record {
   after = w;
   chain = chain;
   rely = λ u other. stays u graph.object w;
@@ -54,14 +55,14 @@ keeps t graph w spot command r chain facts tells = record {
 }
 
 -- a root is loaded
-loads : (t : ℕ) (graph : Graph) (w : Chain) (spot : Spot) (command : Command) (dst : ℕ) (r : Reply) (value : Reference) → IsChain graph.object graph.count w → Facts t graph.object w (root_put (graph.root t) dst value) (next_spot spot command r) → Tells w spot command r
-    → Goes t graph w spot command (answers r (with_root graph t dst value))
-loads t graph w spot command dst r value chain facts tells = record {
+loads : (thread : ℕ) (graph : Graph) (chain : Chain) (spot : Spot) (command : Command) (dst : ℕ) (answered : Reply) (value : Reference) → IsChain graph.object graph.count chain → Facts thread graph.object chain (root_put (graph.root thread) dst value) (next_spot spot command answered) → Tells chain spot command answered
+    → Goes thread graph chain spot command (answers answered (with_root graph thread dst value))
+loads thread graph w spot command dst answered value chain facts tells = record {
   after = w;
   chain = chain;
   rely = λ u other. stays u graph.object w;
-  others = λ u other. other_root graph t dst u value other;
-  facts = subst (λ (root : ℕ → Reference). Facts t graph.object w root (next_spot spot command r)) (sym (own_root graph t dst value)) facts;
+  others = λ other_thread other. other_root graph thread dst other_thread value other;
+  facts = subst (λ (root : ℕ → Reference). Facts thread graph.object w root (next_spot spot command answered)) (sym (own_root graph thread dst value)) facts;
   run = tells.run;
   replies = tells.replies;
 }
@@ -74,33 +75,33 @@ user_put t root dst value one seven user = record {
 }
 
 -- a take has its head
-takes_head : (t : ℕ) (graph : Graph) (w : Chain) (spot : Spot) → IsChain graph.object graph.count w → IsUser t (graph.root t) → next_spot spot (Get 4 1 0) (reply.Ref w.front) ≡ TookHead → Tells w spot (Get 4 1 0) (reply.Ref w.front)
-    → Goes t graph w spot (Get 4 1 0) (outcome graph t (Get 4 1 0))
-takes_head t graph w spot chain user next tells =
-    gets (Goes t graph w spot (Get 4 1 0)) graph t 4 1 0 anchor (ends (Some w.front) (Some w.back)) (Some w.front) user.anchor_root chain.anchor_is refl
-    (loads t graph w spot (Get 4 1 0) 4 (reply.Ref w.front) (Some w.front) chain (subst (λ (spot : Spot). Facts t graph.object w (root_put (graph.root t) 4 (Some w.front)) spot) (sym next) known) tells)
+takes_head : (thread : ℕ) (graph : Graph) (chain : Chain) (spot : Spot) → IsChain graph.object graph.count chain → IsUser thread (graph.root thread) → next_spot spot (Get 4 1 0) (reply.Ref chain.front) ≡ TookHead → Tells chain spot (Get 4 1 0) (reply.Ref chain.front)
+    → Goes thread graph chain spot (Get 4 1 0) (outcome graph thread (Get 4 1 0))
+takes_head thread graph w spot chain user next tells =
+    gets (Goes thread graph w spot (Get 4 1 0)) graph thread 4 1 0 anchor (ends (Some w.front) (Some w.back)) (Some w.front) user.anchor_root chain.anchor_is refl
+    (loads thread graph w spot (Get 4 1 0) 4 (reply.Ref w.front) (Some w.front) chain (subst (λ (spot : Spot). Facts thread graph.object w (root_put (graph.root thread) 4 (Some w.front)) spot) (sym next) known) tells)
   where
-    known : Facts t graph.object w (root_put (graph.root t) 4 (Some w.front)) TookHead
-    known = (user_put t (graph.root t) 4 (Some w.front) refl refl user, record { name = w.front; index = w.head; is = refl; at = chain.front_at; low = omega arith })
+    known : Facts thread graph.object w (root_put (graph.root thread) 4 (Some w.front)) TookHead
+    known = (user_put thread (graph.root thread) 4 (Some w.front) refl refl user, record { name = w.front; index = w.head; is = refl; at = chain.front_at; low = omega arith })
 
-goes_rests_take : (t : ℕ) (graph : Graph) (w : Chain) → IsChain graph.object graph.count w → Facts t graph.object w (graph.root t) Rests → Goes t graph w Rests (Get 4 1 0) (outcome graph t (Get 4 1 0))
-goes_rests_take t graph w chain facts = takes_head t graph w Rests chain facts refl (record { run = refl; replies = refl })
+goes_rests_take : (thread : ℕ) (graph : Graph) (chain : Chain) → IsChain graph.object graph.count chain → Facts thread graph.object chain (graph.root thread) Rests → Goes thread graph chain Rests (Get 4 1 0) (outcome graph thread (Get 4 1 0))
+goes_rests_take thread graph w chain facts = takes_head thread graph w Rests chain facts refl (record { run = refl; replies = refl })
 
-goes_turns : (t : ℕ) (graph : Graph) (w : Chain) → IsChain graph.object graph.count w → Facts t graph.object w (graph.root t) Turns → Goes t graph w Turns (Get 4 1 0) (outcome graph t (Get 4 1 0))
-goes_turns t graph w chain facts = takes_head t graph w Turns chain facts refl (record { run = refl; replies = refl })
+goes_turns : (thread : ℕ) (graph : Graph) (chain : Chain) → IsChain graph.object graph.count chain → Facts thread graph.object chain (graph.root thread) Turns → Goes thread graph chain Turns (Get 4 1 0) (outcome graph thread (Get 4 1 0))
+goes_turns thread graph w chain facts = takes_head thread graph w Turns chain facts refl (record { run = refl; replies = refl })
 
 -- a put
 
-goes_refused : (t : ℕ) (graph : Graph) (w : Chain) → IsChain graph.object graph.count w → Facts t graph.object w (graph.root t) Rests → Goes t graph w Rests (New 3 1 1) (answers reply.Full graph)
-goes_refused t graph w chain facts = keeps t graph w Rests (New 3 1 1) reply.Full chain facts (record { run = refl; replies = refl })
+goes_refused : (thread : ℕ) (graph : Graph) (chain : Chain) → IsChain graph.object graph.count chain → Facts thread graph.object chain (graph.root thread) Rests → Goes thread graph chain Rests (New 3 1 1) (answers reply.Full graph)
+goes_refused thread graph w chain facts = keeps thread graph w Rests (New 3 1 1) reply.Full chain facts (record { run = refl; replies = refl })
 
 pub fresh_none : (graph : Graph) (t : ℕ) → AreMade graph.object graph.count → t ≢ zero → graph.object (fresh graph t) ≡ None
-fresh_none graph t made some = at (graph.object (fresh graph t)) refl
+fresh_none graph t made positive = at (graph.object (fresh graph t)) refl
   where
     at : (found : Option Object) → graph.object (fresh graph t) ≡ found → found ≡ None
     at None is = refl
     at (Some found) is = elim (made (fresh graph t) found is) [
-      | inl at_hub ↦ absurd (some (ap (λ (name : Name). name.thread) at_hub))
+      | inl at_hub ↦ absurd (positive (ap (λ (name : Name). name.thread) at_hub))
       | inr low ↦ absurd (omega (arith, low))
     ]
 
@@ -121,7 +122,7 @@ made_fresh graph thread object made n x =
     more : (name : Name) → name.count ≤ graph.count name.thread → name.count ≤ (if name.thread == thread then graph.count name.thread + 1 else graph.count name.thread)
     more name low = up (name.thread == thread) name.thread name.count low
 
-unplaced : (object : Objects) (count : ℕ → ℕ) (w : Chain) (name : Name) → IsChain object count w → object name ≡ None → w.place name ≡ None
+unplaced : (object : Objects) (count : ℕ → ℕ) (chain : Chain) (name : Name) → IsChain object count chain → object name ≡ None → chain.place name ≡ None
 unplaced object count w name chain none = at (w.place name) refl
   where
     has : (i : ℕ) → IsLinked object w.place w.numbers w.last name i → ⊥
@@ -136,29 +137,29 @@ unplaced object count w name chain none = at (w.place name) refl
 pub nothing_there : (object : Objects) (name other_name : Name) (o : Object) → object name ≡ Some o → object other_name ≡ None → name ≢ other_name
 nothing_there object name other_name o is none same = let never : Some o ≡ None = sym is ∙ ap object same ∙ none in absurd cc
 
-goes_made : (t : ℕ) (graph : Graph) (w : Chain) → IsChain graph.object graph.count w → Facts t graph.object w (graph.root t) Rests → Goes t graph w Rests (New 3 1 1) (outcome graph t (New 3 1 1))
-goes_made t graph w chain facts =
-    let none = fresh_none graph t chain.made facts.some in
-    let out = unplaced graph.object graph.count w (fresh graph t) chain none in
+goes_made : (thread : ℕ) (graph : Graph) (chain : Chain) → IsChain graph.object graph.count chain → Facts thread graph.object chain (graph.root thread) Rests → Goes thread graph chain Rests (New 3 1 1) (outcome graph thread (New 3 1 1))
+goes_made thread graph w chain facts =
+    let none = fresh_none graph thread chain.made facts.some in
+    let out = unplaced graph.object graph.count w (fresh graph thread) chain none in
     record {
       after = w;
-      chain = chain_but graph.object graph.count (with_fresh graph t (blank 1 1)).count w (fresh graph t) (blank 1 1) chain out (nothing_there graph.object hub (fresh graph t) _ chain.hub_is none) (nothing_there graph.object anchor (fresh graph t) _ chain.anchor_is none)
-          (made_fresh graph t (blank 1 1) chain.made);
-      rely = λ u other. rely_but u graph.object w (fresh graph t) (blank 1 1) out (λ e. other (sym e));
-      others = λ u other. other_root (with_fresh graph t (blank 1 1)) t 3 u (Some (fresh graph t)) other;
-      facts = subst (λ (root : ℕ → Reference). Facts t (but graph.object (fresh graph t) (blank 1 1)) w root Fills) (sym (own_root (with_fresh graph t (blank 1 1)) t 3 (Some (fresh graph t)))) (
-        user_put t (graph.root t) 3 (Some (fresh graph t)) refl refl facts,
+      chain = chain_but graph.object graph.count (with_fresh graph thread (blank 1 1)).count w (fresh graph thread) (blank 1 1) chain out (nothing_there graph.object hub (fresh graph thread) _ chain.hub_is none) (nothing_there graph.object anchor (fresh graph thread) _ chain.anchor_is none)
+          (made_fresh graph thread (blank 1 1) chain.made);
+      rely = λ u other. rely_but u graph.object w (fresh graph thread) (blank 1 1) out (λ e. other (sym e));
+      others = λ other_thread other. other_root (with_fresh graph thread (blank 1 1)) thread 3 other_thread (Some (fresh graph thread)) other;
+      facts = subst (λ (root : ℕ → Reference). Facts thread (but graph.object (fresh graph thread) (blank 1 1)) w root Fills) (sym (own_root (with_fresh graph thread (blank 1 1)) thread 3 (Some (fresh graph thread)))) (
+        user_put thread (graph.root thread) 3 (Some (fresh graph thread)) refl refl facts,
         0,
-        record { name = fresh graph t; is = refl; mine = refl; apart = out; whole = but_here graph.object (fresh graph t) (blank 1 1) },
+        record { name = fresh graph thread; is = refl; mine = refl; apart = out; whole = but_here graph.object (fresh graph thread) (blank 1 1) },
       );
       run = refl;
       replies = refl;
     }
 
-goes_fills : (t : ℕ) (graph : Graph) (w : Chain) (value : ℕ) → IsChain graph.object graph.count w → Facts t graph.object w (graph.root t) Fills → Goes t graph w Fills (Wr 3 0 value) (outcome graph t (Wr 3 0 value))
-goes_fills t graph w value chain facts =
+goes_fills : (thread : ℕ) (graph : Graph) (chain : Chain) (value : ℕ) → IsChain graph.object graph.count chain → Facts thread graph.object chain (graph.root thread) Fills → Goes thread graph chain Fills (Wr 3 0 value) (outcome graph thread (Wr 3 0 value))
+goes_fills thread graph w value chain facts =
     let own = facts.2 in
-    writes (Goes t graph w Fills (Wr 3 0 value)) graph t 3 0 value own.name (cell None facts.1) facts.1 own.is own.whole refl (record {
+    writes (Goes thread graph w Fills (Wr 3 0 value)) graph thread 3 0 value own.name (cell None facts.1) facts.1 own.is own.whole refl (record {
       after = w;
       chain = chain_but graph.object graph.count graph.count w own.name (cell None value) chain own.apart
           (apart_by_tag graph.object hub own.name _ _ chain.hub_is own.whole (λ (e : 16 ≡ 1). omega (arith, e)))
@@ -171,63 +172,63 @@ goes_fills t graph w value chain facts =
       replies = refl;
     })
 
-goes_looks : (t : ℕ) (graph : Graph) (w : Chain) (value : ℕ) → IsChain graph.object graph.count w → Facts t graph.object w (graph.root t) (Looks value) → Goes t graph w (Looks value) (Get 4 1 1) (outcome graph t (Get 4 1 1))
-goes_looks t graph w value chain facts =
+goes_looks : (thread : ℕ) (graph : Graph) (chain : Chain) (value : ℕ) → IsChain graph.object graph.count chain → Facts thread graph.object chain (graph.root thread) (Looks value) → Goes thread graph chain (Looks value) (Get 4 1 1) (outcome graph thread (Get 4 1 1))
+goes_looks thread graph w value chain facts =
     let user = facts.0 in
-    gets (Goes t graph w (Looks value) (Get 4 1 1)) graph t 4 1 1 anchor (ends (Some w.front) (Some w.back)) (Some w.back) user.anchor_root chain.anchor_is refl
-    (loads t graph w (Looks value) (Get 4 1 1) 4 (reply.Ref w.back) (Some w.back) chain (
-      user_put t (graph.root t) 4 (Some w.back) refl refl user,
+    gets (Goes thread graph w (Looks value) (Get 4 1 1)) graph thread 4 1 1 anchor (ends (Some w.front) (Some w.back)) (Some w.back) user.anchor_root chain.anchor_is refl
+    (loads thread graph w (Looks value) (Get 4 1 1) 4 (reply.Ref w.back) (Some w.back) chain (
+      user_put thread (graph.root thread) 4 (Some w.back) refl refl user,
       facts.1,
       record { name = w.back; index = w.tail; is = refl; at = chain.back_at; low = omega arith },
     ) (record { run = refl; replies = refl }))
 
-goes_follows : (t : ℕ) (graph : Graph) (w : Chain) (value : ℕ) → IsChain graph.object graph.count w → Facts t graph.object w (graph.root t) (Follows value) → Goes t graph w (Follows value) (Get 5 4 0) (outcome graph t (Get 5 4 0))
-goes_follows t graph w value chain facts = on (chain.linked facts.2.name facts.2.index facts.2.at)
+goes_follows : (thread : ℕ) (graph : Graph) (chain : Chain) (value : ℕ) → IsChain graph.object graph.count chain → Facts thread graph.object chain (graph.root thread) (Follows value) → Goes thread graph chain (Follows value) (Get 5 4 0) (outcome graph thread (Get 5 4 0))
+goes_follows thread graph w value chain facts = on (chain.linked facts.2.name facts.2.index facts.2.at)
   where
-    on : IsLinked graph.object w.place w.numbers w.last facts.2.name facts.2.index → Goes t graph w (Follows value) (Get 5 4 0) (outcome graph t (Get 5 4 0))
+    on : IsLinked graph.object w.place w.numbers w.last facts.2.name facts.2.index → Goes thread graph w (Follows value) (Get 5 4 0) (outcome graph thread (Get 5 4 0))
     on (inner next v whole next_at number) =
-        gets (Goes t graph w (Follows value) (Get 5 4 0)) graph t 5 4 0 facts.2.name (cell (Some next) v) (Some next) facts.2.is whole refl
-        (loads t graph w (Follows value) (Get 5 4 0) 5 (reply.Ref next) (Some next) chain (
-          user_put t (graph.root t) 5 (Some next) refl refl facts.0,
+        gets (Goes thread graph w (Follows value) (Get 5 4 0)) graph thread 5 4 0 facts.2.name (cell (Some next) v) (Some next) facts.2.is whole refl
+        (loads thread graph w (Follows value) (Get 5 4 0) 5 (reply.Ref next) (Some next) chain (
+          user_put thread (graph.root thread) 5 (Some next) refl refl facts.0,
           facts.1,
           record { from = facts.2.name; to = next; index = facts.2.index; value = v; from_is = facts.2.is; to_is = refl; at = facts.2.at; next_at = next_at; whole = whole },
         ) (record { run = refl; replies = refl }))
     on (end v whole last number) =
-        gets (Goes t graph w (Follows value) (Get 5 4 0)) graph t 5 4 0 facts.2.name (cell None v) None facts.2.is whole refl
-        (loads t graph w (Follows value) (Get 5 4 0) 5 reply.Null None chain (user_put t (graph.root t) 5 None refl refl facts.0, facts.1, facts.2) (record { run = refl; replies = refl }))
+        gets (Goes thread graph w (Follows value) (Get 5 4 0)) graph thread 5 4 0 facts.2.name (cell None v) None facts.2.is whole refl
+        (loads thread graph w (Follows value) (Get 5 4 0) 5 reply.Null None chain (user_put thread (graph.root thread) 5 None refl refl facts.0, facts.1, facts.2) (record { run = refl; replies = refl }))
 
 -- the node is linked behind the last
-links_last : (t : ℕ) (graph : Graph) (w : Chain) (value old : ℕ) → IsChain graph.object graph.count w → (facts : Facts t graph.object w (graph.root t) (Links value)) → CanLink graph.object w facts.2.name facts.1.name old value
-    → Goes t graph w (Links value) (Cas 4 0 7 3) (answers reply.Yes (with_object graph facts.2.name (cell (Some facts.1.name) old)))
-links_last t graph w value old chain facts can =
-    let n = facts.2.name in
+links_last : (thread : ℕ) (graph : Graph) (chain : Chain) (value old : ℕ) → IsChain graph.object graph.count chain → (facts : Facts thread graph.object chain (graph.root thread) (Links value)) → CanLink graph.object chain facts.2.name facts.1.name old value
+    → Goes thread graph chain (Links value) (Cas 4 0 7 3) (answers reply.Yes (with_object graph facts.2.name (cell (Some facts.1.name) old)))
+links_last thread graph w value old chain facts can =
+    let name = facts.2.name in
     let m = facts.1.name in
-    let edge = link_edge graph.object w n m old value can in
+    let edge = link_edge graph.object w name m old value can in
     record {
       after = with_last w m value;
-      chain = link_chain graph.object graph.count w n m old value chain can;
-      rely = λ u other. link_rely u graph.object graph.count w n m old value chain can (λ e. other (sym e ∙ facts.1.mine));
+      chain = link_chain graph.object graph.count w name m old value chain can;
+      rely = λ u other. link_rely u graph.object graph.count w name m old value chain can (λ e. other (sym e ∙ facts.1.mine));
       others = λ u other. refl;
-      facts = (facts.0, record { from = n; to = m; index = w.last; value = old; from_is = facts.2.is; to_is = facts.1.is; at = edge.0; next_at = edge.1; whole = edge.2 });
+      facts = (facts.0, record { from = name; to = m; index = w.last; value = old; from_is = facts.2.is; to_is = facts.1.is; at = edge.0; next_at = edge.1; whole = edge.2 });
       run = sym (drop-append-le (suc w.head) w.numbers (value ∷ []) (omega (arith, chain.size, chain.order, chain.within w.back w.tail chain.back_at)));
       replies = refl;
     }
 
-goes_links : (t : ℕ) (graph : Graph) (w : Chain) (value : ℕ) → IsChain graph.object graph.count w → Facts t graph.object w (graph.root t) (Links value) → Goes t graph w (Links value) (Cas 4 0 7 3) (outcome graph t (Cas 4 0 7 3))
-goes_links t graph w value chain facts = on (chain.linked facts.2.name facts.2.index facts.2.at)
+goes_links : (thread : ℕ) (graph : Graph) (chain : Chain) (value : ℕ) → IsChain graph.object graph.count chain → Facts thread graph.object chain (graph.root thread) (Links value) → Goes thread graph chain (Links value) (Cas 4 0 7 3) (outcome graph thread (Cas 4 0 7 3))
+goes_links thread graph w value chain facts = on (chain.linked facts.2.name facts.2.index facts.2.at)
   where
-    refused : Goes t graph w (Links value) (Cas 4 0 7 3) (answers reply.No graph)
-    refused = keeps t graph w (Links value) (Cas 4 0 7 3) reply.No chain (facts.0, facts.1) (record { run = refl; replies = refl })
+    refused : Goes thread graph w (Links value) (Cas 4 0 7 3) (answers reply.No graph)
+    refused = keeps thread graph w (Links value) (Cas 4 0 7 3) reply.No chain (facts.0, facts.1) (record { run = refl; replies = refl })
 
-    on : IsLinked graph.object w.place w.numbers w.last facts.2.name facts.2.index → Goes t graph w (Links value) (Cas 4 0 7 3) (outcome graph t (Cas 4 0 7 3))
+    on : IsLinked graph.object w.place w.numbers w.last facts.2.name facts.2.index → Goes thread graph w (Links value) (Cas 4 0 7 3) (outcome graph thread (Cas 4 0 7 3))
     on (inner next v whole next_at number) =
-        swaps (Goes t graph w (Links value) (Cas 4 0 7 3)) graph t 4 0 7 3 facts.2.name (cell (Some next) v) (Some next) facts.2.is whole refl
+        swaps (Goes thread graph w (Links value) (Cas 4 0 7 3)) graph thread 4 0 7 3 facts.2.name (cell (Some next) v) (Some next) facts.2.is whole refl
         (λ same. let never : Some next ≡ None = same ∙ facts.0.null_root in absurd cc)
         (λ _. refused)
     on (end v whole last number) =
-        swaps (Goes t graph w (Links value) (Cas 4 0 7 3)) graph t 4 0 7 3 facts.2.name (cell None v) None facts.2.is whole refl
-        (λ _. subst (λ (reference : Reference). Goes t graph w (Links value) (Cas 4 0 7 3) (answers reply.Yes (with_object graph facts.2.name (cell reference v)))) (sym facts.1.is)
-        (links_last t graph w value v chain facts (record {
+        swaps (Goes thread graph w (Links value) (Cas 4 0 7 3)) graph thread 4 0 7 3 facts.2.name (cell None v) None facts.2.is whole refl
+        (λ _. subst (λ (reference : Reference). Goes thread graph w (Links value) (Cas 4 0 7 3) (answers reply.Yes (with_object graph facts.2.name (cell reference v)))) (sym facts.1.is)
+        (links_last thread graph w value v chain facts (record {
           at = facts.2.at ∙ ap Some last;
           whole = whole;
           number = ap (slice_get w.numbers) (sym last) ∙ number;
@@ -237,15 +238,15 @@ goes_links t graph w value chain facts = on (chain.linked facts.2.name facts.2.i
         (λ _. refused)
 
 -- the three that move the tail: a root names a node and another the next one
-advances : (thread : ℕ) (graph : Graph) (w : Chain) (spot : Spot) (a b : ℕ) → IsChain graph.object graph.count w → IsUser thread (graph.root thread) → IsEdge graph.object w (graph.root thread a) (graph.root thread b)
-    → Facts thread graph.object w (graph.root thread) (next_spot spot (Cas 1 1 a b) reply.Yes) → Facts thread graph.object w (graph.root thread) (next_spot spot (Cas 1 1 a b) reply.No)
-    → Tells w spot (Cas 1 1 a b) reply.Yes → Tells w spot (Cas 1 1 a b) reply.No → Goes thread graph w spot (Cas 1 1 a b) (outcome graph thread (Cas 1 1 a b))
-advances thread graph w spot a b chain user edge yes_facts no_facts yes_tells no_tells =
-    swaps (Goes thread graph w spot (Cas 1 1 a b)) graph thread 1 1 a b anchor (ends (Some w.front) (Some w.back)) (Some w.back) user.anchor_root chain.anchor_is refl
-    (λ same. subst (λ (reference : Reference). Goes thread graph w spot (Cas 1 1 a b) (answers reply.Yes (with_object graph anchor (ends (Some w.front) reference)))) (sym edge.to_is) (moves same))
-    (λ _. keeps thread graph w spot (Cas 1 1 a b) reply.No chain no_facts no_tells)
+advances : (thread : ℕ) (graph : Graph) (chain : Chain) (spot : Spot) (expect val : ℕ) → IsChain graph.object graph.count chain → IsUser thread (graph.root thread) → IsEdge graph.object chain (graph.root thread expect) (graph.root thread val)
+    → Facts thread graph.object chain (graph.root thread) (next_spot spot (Cas 1 1 expect val) reply.Yes) → Facts thread graph.object chain (graph.root thread) (next_spot spot (Cas 1 1 expect val) reply.No)
+    → Tells chain spot (Cas 1 1 expect val) reply.Yes → Tells chain spot (Cas 1 1 expect val) reply.No → Goes thread graph chain spot (Cas 1 1 expect val) (outcome graph thread (Cas 1 1 expect val))
+advances thread graph w spot expect val chain user edge yes_facts no_facts yes_tells no_tells =
+    swaps (Goes thread graph w spot (Cas 1 1 expect val)) graph thread 1 1 expect val anchor (ends (Some w.front) (Some w.back)) (Some w.back) user.anchor_root chain.anchor_is refl
+    (λ same. subst (λ (reference : Reference). Goes thread graph w spot (Cas 1 1 expect val) (answers reply.Yes (with_object graph anchor (ends (Some w.front) reference)))) (sym edge.to_is) (moves same))
+    (λ _. keeps thread graph w spot (Cas 1 1 expect val) reply.No chain no_facts no_tells)
   where
-    moves : Some w.back ≡ graph.root thread a → Goes thread graph w spot (Cas 1 1 a b) (answers reply.Yes (with_object graph anchor (ends (Some w.front) (Some edge.to))))
+    moves : Some w.back ≡ graph.root thread expect → Goes thread graph w spot (Cas 1 1 expect val) (answers reply.Yes (with_object graph anchor (ends (Some w.front) (Some edge.to))))
     moves same =
         let names_one : Some w.back ≡ Some edge.from = same ∙ edge.from_is in
         let here : w.tail ≡ edge.index = same_place w w.back edge.from w.tail edge.index chain.back_at edge.at cc in
@@ -255,30 +256,30 @@ advances thread graph w spot a b chain user edge yes_facts no_facts yes_tells no
           chain = ends_chain graph.object graph.count w w.head (suc edge.index) w.front edge.to chain chain.front_at edge.next_at (omega (arith, here, chain.order));
           rely = λ u other. rely u;
           others = λ u other. refl;
-          facts = facts_stay thread graph.object w _ _ (graph.root thread) (next_spot spot (Cas 1 1 a b) reply.Yes) (rely thread) yes_facts;
+          facts = facts_stay thread graph.object w _ _ (graph.root thread) (next_spot spot (Cas 1 1 expect val) reply.Yes) (rely thread) yes_facts;
           run = yes_tells.run;
           replies = yes_tells.replies;
         }
 
-goes_helps : (t : ℕ) (graph : Graph) (w : Chain) (value : ℕ) → IsChain graph.object graph.count w → Facts t graph.object w (graph.root t) (Helps value) → Goes t graph w (Helps value) (Cas 1 1 4 5) (outcome graph t (Cas 1 1 4 5))
-goes_helps t graph w value chain facts =
-    advances t graph w (Helps value) 4 5 chain facts.0 facts.2 (facts.0, facts.1) (facts.0, facts.1) (record { run = refl; replies = refl }) (record { run = refl; replies = refl })
+goes_helps : (thread : ℕ) (graph : Graph) (chain : Chain) (value : ℕ) → IsChain graph.object graph.count chain → Facts thread graph.object chain (graph.root thread) (Helps value) → Goes thread graph chain (Helps value) (Cas 1 1 4 5) (outcome graph thread (Cas 1 1 4 5))
+goes_helps thread graph w value chain facts =
+    advances thread graph w (Helps value) 4 5 chain facts.0 facts.2 (facts.0, facts.1) (facts.0, facts.1) (record { run = refl; replies = refl }) (record { run = refl; replies = refl })
 
-goes_swings : (t : ℕ) (graph : Graph) (w : Chain) (value : ℕ) → IsChain graph.object graph.count w → Facts t graph.object w (graph.root t) (Swings value) → Goes t graph w (Swings value) (Cas 1 1 4 3) (outcome graph t (Cas 1 1 4 3))
-goes_swings t graph w value chain facts =
-    advances t graph w (Swings value) 4 3 chain facts.0 facts.1 facts.0 facts.0 (record { run = refl; replies = refl }) (record { run = refl; replies = refl })
+goes_swings : (thread : ℕ) (graph : Graph) (chain : Chain) (value : ℕ) → IsChain graph.object graph.count chain → Facts thread graph.object chain (graph.root thread) (Swings value) → Goes thread graph chain (Swings value) (Cas 1 1 4 3) (outcome graph thread (Cas 1 1 4 3))
+goes_swings thread graph w value chain facts =
+    advances thread graph w (Swings value) 4 3 chain facts.0 facts.1 facts.0 facts.0 (record { run = refl; replies = refl }) (record { run = refl; replies = refl })
 
-goes_pushes : (t : ℕ) (graph : Graph) (w : Chain) → IsChain graph.object graph.count w → Facts t graph.object w (graph.root t) Pushes → Goes t graph w Pushes (Cas 1 1 5 6) (outcome graph t (Cas 1 1 5 6))
-goes_pushes t graph w chain facts =
-    advances t graph w Pushes 5 6 chain facts.0 facts.1 facts.0 facts.0 (record { run = refl; replies = refl }) (record { run = refl; replies = refl })
+goes_pushes : (thread : ℕ) (graph : Graph) (chain : Chain) → IsChain graph.object graph.count chain → Facts thread graph.object chain (graph.root thread) Pushes → Goes thread graph chain Pushes (Cas 1 1 5 6) (outcome graph thread (Cas 1 1 5 6))
+goes_pushes thread graph w chain facts =
+    advances thread graph w Pushes 5 6 chain facts.0 facts.1 facts.0 facts.0 (record { run = refl; replies = refl }) (record { run = refl; replies = refl })
 
 -- a take
 
-goes_took_head : (t : ℕ) (graph : Graph) (w : Chain) → IsChain graph.object graph.count w → Facts t graph.object w (graph.root t) TookHead → Goes t graph w TookHead (Get 5 1 1) (outcome graph t (Get 5 1 1))
-goes_took_head t graph w chain facts =
-    gets (Goes t graph w TookHead (Get 5 1 1)) graph t 5 1 1 anchor (ends (Some w.front) (Some w.back)) (Some w.back) facts.0.anchor_root chain.anchor_is refl
-    (loads t graph w TookHead (Get 5 1 1) 5 (reply.Ref w.back) (Some w.back) chain (
-      user_put t (graph.root t) 5 (Some w.back) refl refl facts.0,
+goes_took_head : (thread : ℕ) (graph : Graph) (chain : Chain) → IsChain graph.object graph.count chain → Facts thread graph.object chain (graph.root thread) TookHead → Goes thread graph chain TookHead (Get 5 1 1) (outcome graph thread (Get 5 1 1))
+goes_took_head thread graph w chain facts =
+    gets (Goes thread graph w TookHead (Get 5 1 1)) graph thread 5 1 1 anchor (ends (Some w.front) (Some w.back)) (Some w.back) facts.0.anchor_root chain.anchor_is refl
+    (loads thread graph w TookHead (Get 5 1 1) 5 (reply.Ref w.back) (Some w.back) chain (
+      user_put thread (graph.root thread) 5 (Some w.back) refl refl facts.0,
       record {
         front = facts.1;
         back = record { name = w.back; index = w.tail; is = refl; at = chain.back_at; low = omega arith };
@@ -286,14 +287,14 @@ goes_took_head t graph w chain facts =
       },
     ) (record { run = refl; replies = refl }))
 
-goes_took_tail : (t : ℕ) (graph : Graph) (w : Chain) → IsChain graph.object graph.count w → Facts t graph.object w (graph.root t) TookTail → Goes t graph w TookTail (Get 6 4 0) (outcome graph t (Get 6 4 0))
-goes_took_tail t graph w chain facts = on (chain.linked facts.1.front.name facts.1.front.index facts.1.front.at)
+goes_took_tail : (thread : ℕ) (graph : Graph) (chain : Chain) → IsChain graph.object graph.count chain → Facts thread graph.object chain (graph.root thread) TookTail → Goes thread graph chain TookTail (Get 6 4 0) (outcome graph thread (Get 6 4 0))
+goes_took_tail thread graph w chain facts = on (chain.linked facts.1.front.name facts.1.front.index facts.1.front.at)
   where
-    on : IsLinked graph.object w.place w.numbers w.last facts.1.front.name facts.1.front.index → Goes t graph w TookTail (Get 6 4 0) (outcome graph t (Get 6 4 0))
+    on : IsLinked graph.object w.place w.numbers w.last facts.1.front.name facts.1.front.index → Goes thread graph w TookTail (Get 6 4 0) (outcome graph thread (Get 6 4 0))
     on (inner next v whole next_at number) =
-        gets (Goes t graph w TookTail (Get 6 4 0)) graph t 6 4 0 facts.1.front.name (cell (Some next) v) (Some next) facts.1.front.is whole refl
-        (loads t graph w TookTail (Get 6 4 0) 6 (reply.Ref next) (Some next) chain (
-          user_put t (graph.root t) 6 (Some next) refl refl facts.0,
+        gets (Goes thread graph w TookTail (Get 6 4 0)) graph thread 6 4 0 facts.1.front.name (cell (Some next) v) (Some next) facts.1.front.is whole refl
+        (loads thread graph w TookTail (Get 6 4 0) 6 (reply.Ref next) (Some next) chain (
+          user_put thread (graph.root thread) 6 (Some next) refl refl facts.0,
           facts.1,
           record {
             from = facts.1.front.name;
@@ -311,19 +312,19 @@ goes_took_tail t graph w chain facts = on (chain.linked facts.1.front.name facts
         let low = chain.within w.back w.tail chain.back_at in
         let here : facts.1.back.index ≡ facts.1.front.index = omega (arith, last, low, facts.1.order, facts.1.back.low) in
         let one = chain.once facts.1.front.name facts.1.back.name facts.1.front.index facts.1.front.at (facts.1.back.at ∙ ap Some here) in
-        gets (Goes t graph w TookTail (Get 6 4 0)) graph t 6 4 0 facts.1.front.name (cell None v) None facts.1.front.is whole refl
-        (loads t graph w TookTail (Get 6 4 0) 6 reply.Null None chain (user_put t (graph.root t) 6 None refl refl facts.0, facts.1.front.is ∙ ap Some one ∙ sym facts.1.back.is) (record {
+        gets (Goes thread graph w TookTail (Get 6 4 0)) graph thread 6 4 0 facts.1.front.name (cell None v) None facts.1.front.is whole refl
+        (loads thread graph w TookTail (Get 6 4 0) 6 reply.Null None chain (user_put thread (graph.root thread) 6 None refl refl facts.0, facts.1.front.is ∙ ap Some one ∙ sym facts.1.back.is) (record {
           run = (drop_of_length-le w.numbers {i = suc w.head} (omega (arith, chain.size, facts.1.front.low, last)), refl);
           replies = refl;
         }))
 
-goes_compares_null : (t : ℕ) (graph : Graph) (w : Chain) → IsChain graph.object graph.count w → Facts t graph.object w (graph.root t) (Compares true) → Goes t graph w (Compares true) (Same 4 5) (outcome graph t (Same 4 5))
-goes_compares_null t graph w chain facts =
-    compares (Goes t graph w (Compares true) (Same 4 5)) graph t 4 5
-    (λ _. keeps t graph w (Compares true) (Same 4 5) reply.Yes chain facts.0 (record { run = refl; replies = refl }))
+goes_compares_null : (thread : ℕ) (graph : Graph) (chain : Chain) → IsChain graph.object graph.count chain → Facts thread graph.object chain (graph.root thread) (Compares true) → Goes thread graph chain (Compares true) (Same 4 5) (outcome graph thread (Same 4 5))
+goes_compares_null thread graph w chain facts =
+    compares (Goes thread graph w (Compares true) (Same 4 5)) graph thread 4 5
+    (λ _. keeps thread graph w (Compares true) (Same 4 5) reply.Yes chain facts.0 (record { run = refl; replies = refl }))
     (λ apart. absurd (apart facts.1))
 
-goes_compares : (thread : ℕ) (graph : Graph) (w : Chain) → IsChain graph.object graph.count w → Facts thread graph.object w (graph.root thread) (Compares false) → Goes thread graph w (Compares false) (Same 4 5) (outcome graph thread (Same 4 5))
+goes_compares : (thread : ℕ) (graph : Graph) (chain : Chain) → IsChain graph.object graph.count chain → Facts thread graph.object chain (graph.root thread) (Compares false) → Goes thread graph chain (Compares false) (Same 4 5) (outcome graph thread (Same 4 5))
 goes_compares thread graph w chain facts =
     compares (Goes thread graph w (Compares false) (Same 4 5)) graph thread 4 5
     (λ same. keeps thread graph w (Compares false) (Same 4 5) reply.Yes chain (facts.0, subst (λ (reference : Reference). IsEdge graph.object w reference (graph.root thread 6)) same facts.2) (record { run = refl; replies = refl }))
@@ -338,18 +339,18 @@ goes_compares thread graph w chain facts =
         let other : front.index ≢ back.index = λ e. apart (front.is ∙ ap Some (chain.once front.name back.name front.index front.at (back.at ∙ ap Some (sym e))) ∙ sym back.is) in
         omega (arith, here, other, facts.1.order, back.low)
 
-goes_reads : (t : ℕ) (graph : Graph) (w : Chain) → IsChain graph.object graph.count w → Facts t graph.object w (graph.root t) Reads → Goes t graph w Reads (Rd 6 0) (outcome graph t (Rd 6 0))
-goes_reads t graph w chain facts = on (chain.linked facts.1.to (suc facts.1.index) facts.1.next_at)
+goes_reads : (thread : ℕ) (graph : Graph) (chain : Chain) → IsChain graph.object graph.count chain → Facts thread graph.object chain (graph.root thread) Reads → Goes thread graph chain Reads (Rd 6 0) (outcome graph thread (Rd 6 0))
+goes_reads thread graph w chain facts = on (chain.linked facts.1.to (suc facts.1.index) facts.1.next_at)
   where
-    on : IsLinked graph.object w.place w.numbers w.last facts.1.to (suc facts.1.index) → Goes t graph w Reads (Rd 6 0) (outcome graph t (Rd 6 0))
+    on : IsLinked graph.object w.place w.numbers w.last facts.1.to (suc facts.1.index) → Goes thread graph w Reads (Rd 6 0) (outcome graph thread (Rd 6 0))
     on (inner next v whole next_at number) =
-        reads (Goes t graph w Reads (Rd 6 0)) graph t 6 0 facts.1.to (cell (Some next) v) v facts.1.to_is whole refl
-        (keeps t graph w Reads (Rd 6 0) (reply.Number v) chain (facts.0, facts.1, facts.2, number) (record { run = refl; replies = refl }))
+        reads (Goes thread graph w Reads (Rd 6 0)) graph thread 6 0 facts.1.to (cell (Some next) v) v facts.1.to_is whole refl
+        (keeps thread graph w Reads (Rd 6 0) (reply.Number v) chain (facts.0, facts.1, facts.2, number) (record { run = refl; replies = refl }))
     on (end v whole last number) =
-        reads (Goes t graph w Reads (Rd 6 0)) graph t 6 0 facts.1.to (cell None v) v facts.1.to_is whole refl
-        (keeps t graph w Reads (Rd 6 0) (reply.Number v) chain (facts.0, facts.1, facts.2, number) (record { run = refl; replies = refl }))
+        reads (Goes thread graph w Reads (Rd 6 0)) graph thread 6 0 facts.1.to (cell None v) v facts.1.to_is whole refl
+        (keeps thread graph w Reads (Rd 6 0) (reply.Number v) chain (facts.0, facts.1, facts.2, number) (record { run = refl; replies = refl }))
 
-goes_unlinks : (thread : ℕ) (graph : Graph) (w : Chain) (value : ℕ) → IsChain graph.object graph.count w → Facts thread graph.object w (graph.root thread) (Unlinks value) → Goes thread graph w (Unlinks value) (Cas 1 0 4 6) (outcome graph thread (Cas 1 0 4 6))
+goes_unlinks : (thread : ℕ) (graph : Graph) (chain : Chain) (value : ℕ) → IsChain graph.object graph.count chain → Facts thread graph.object chain (graph.root thread) (Unlinks value) → Goes thread graph chain (Unlinks value) (Cas 1 0 4 6) (outcome graph thread (Cas 1 0 4 6))
 goes_unlinks thread graph w value chain facts =
     swaps (Goes thread graph w (Unlinks value) (Cas 1 0 4 6)) graph thread 1 0 4 6 anchor (ends (Some w.front) (Some w.back)) (Some w.front) facts.0.anchor_root chain.anchor_is refl
     (λ same. subst (λ (reference : Reference). Goes thread graph w (Unlinks value) (Cas 1 0 4 6) (answers reply.Yes (with_object graph anchor (ends reference (Some w.back))))) (sym facts.1.to_is) (moves same))
@@ -377,39 +378,39 @@ goes_unlinks thread graph w value chain facts =
         }
 
 -- a join finds the anchor, or has no hub to look at
-goes_joins : (t : ℕ) (graph : Graph) (w : Chain) → IsChain graph.object graph.count w → Facts t graph.object w (graph.root t) Joins → Goes t graph w Joins (Get 1 0 0) (outcome graph t (Get 1 0 0))
-goes_joins t graph w chain facts =
+goes_joins : (thread : ℕ) (graph : Graph) (chain : Chain) → IsChain graph.object graph.count chain → Facts thread graph.object chain (graph.root thread) Joins → Goes thread graph chain Joins (Get 1 0 0) (outcome graph thread (Get 1 0 0))
+goes_joins thread graph w chain facts =
     elim (facts.hub_root) [
-      | inl none ↦ gets_bad (Goes t graph w Joins (Get 1 0 0)) graph t 1 0 0 none (keeps t graph w Joins (Get 1 0 0) reply.Bad chain facts (record { run = refl; replies = refl }))
-      | inr at_hub ↦ gets (Goes t graph w Joins (Get 1 0 0)) graph t 1 0 0 hub shown_hub (Some anchor) at_hub.0 chain.hub_is refl
-          (loads t graph w Joins (Get 1 0 0) 1 (reply.Ref anchor) (Some anchor) chain (record { some = at_hub.1; anchor_root = refl; null_root = facts.null_root }) (record { run = refl; replies = refl }))
+      | inl none ↦ gets_bad (Goes thread graph w Joins (Get 1 0 0)) graph thread 1 0 0 none (keeps thread graph w Joins (Get 1 0 0) reply.Bad chain facts (record { run = refl; replies = refl }))
+      | inr at_hub ↦ gets (Goes thread graph w Joins (Get 1 0 0)) graph thread 1 0 0 hub shown_hub (Some anchor) at_hub.0 chain.hub_is refl
+          (loads thread graph w Joins (Get 1 0 0) 1 (reply.Ref anchor) (Some anchor) chain (record { some = at_hub.1; anchor_root = refl; null_root = facts.null_root }) (record { run = refl; replies = refl }))
     ]
 
 -- all spots together
-pub goes : (t : ℕ) (graph : Graph) (w : Chain) (spot : Spot) (command : Command) (r : Reply) (other_graph : Graph) → IsChain graph.object graph.count w → Facts t graph.object w (graph.root t) spot → MayCome spot command → IsPlain graph t command r other_graph → Goes t graph w spot command (answers r other_graph)
-goes t graph w _ _ r other_graph chain facts anchor_made legal = absurd facts
-goes t graph w _ _ r other_graph chain facts first_made legal = absurd facts
-goes t graph w _ _ r other_graph chain facts head_set legal = absurd facts
-goes t graph w _ _ r other_graph chain facts tail_set legal = absurd facts
-goes t graph w _ _ r other_graph chain facts anchor_shown legal = absurd facts
-goes t graph w _ _ r other_graph chain facts joined legal = by_outcome (Goes t graph w Joins (Get 1 0 0)) graph t (Get 1 0 0) r other_graph (λ never. never) legal (goes_joins t graph w chain facts)
-goes t graph w _ _ r other_graph chain facts put_begun legal =
+pub goes : (thread : ℕ) (graph : Graph) (chain : Chain) (spot : Spot) (command : Command) (answered : Reply) (other_graph : Graph) → IsChain graph.object graph.count chain → Facts thread graph.object chain (graph.root thread) spot → MayCome spot command → IsPlain graph thread command answered other_graph → Goes thread graph chain spot command (answers answered other_graph)
+goes thread graph w _ _ answered other_graph chain facts anchor_made legal = absurd facts
+goes thread graph w _ _ answered other_graph chain facts first_made legal = absurd facts
+goes thread graph w _ _ answered other_graph chain facts head_set legal = absurd facts
+goes thread graph w _ _ answered other_graph chain facts tail_set legal = absurd facts
+goes thread graph w _ _ answered other_graph chain facts anchor_shown legal = absurd facts
+goes thread graph w _ _ answered other_graph chain facts joined legal = by_outcome (Goes thread graph w Joins (Get 1 0 0)) graph thread (Get 1 0 0) answered other_graph (λ never. never) legal (goes_joins thread graph w chain facts)
+goes thread graph w _ _ answered other_graph chain facts put_begun legal =
     elim legal [
-      | inl is ↦ subst (Goes t graph w Rests (New 3 1 1)) (sym is) (goes_made t graph w chain facts)
-      | inr refused ↦ subst (λ (o : Outcome). Goes t graph w Rests (New 3 1 1) o) (λ i. answers (sym refused.1 i) (sym refused.2 i)) (goes_refused t graph w chain facts)
+      | inl is ↦ subst (Goes thread graph w Rests (New 3 1 1)) (sym is) (goes_made thread graph w chain facts)
+      | inr refused ↦ subst (λ (o : Outcome). Goes thread graph w Rests (New 3 1 1) o) (λ i. answers (sym refused.1 i) (sym refused.2 i)) (goes_refused thread graph w chain facts)
     ]
-goes t graph w _ _ r other_graph chain facts take_begun legal = by_outcome (Goes t graph w Rests (Get 4 1 0)) graph t (Get 4 1 0) r other_graph (λ never. never) legal (goes_rests_take t graph w chain facts)
-goes t graph w _ _ r other_graph chain facts (filled value) legal = by_outcome (Goes t graph w Fills (Wr 3 0 value)) graph t (Wr 3 0 value) r other_graph (λ never. never) legal (goes_fills t graph w value chain facts)
-goes t graph w _ _ r other_graph chain facts (looked value) legal = by_outcome (Goes t graph w (Looks value) (Get 4 1 1)) graph t (Get 4 1 1) r other_graph (λ never. never) legal (goes_looks t graph w value chain facts)
-goes t graph w _ _ r other_graph chain facts (followed value) legal = by_outcome (Goes t graph w (Follows value) (Get 5 4 0)) graph t (Get 5 4 0) r other_graph (λ never. never) legal (goes_follows t graph w value chain facts)
-goes t graph w _ _ r other_graph chain facts (linked value) legal = by_outcome (Goes t graph w (Links value) (Cas 4 0 7 3)) graph t (Cas 4 0 7 3) r other_graph (λ never. never) legal (goes_links t graph w value chain facts)
-goes t graph w _ _ r other_graph chain facts (helped value) legal = by_outcome (Goes t graph w (Helps value) (Cas 1 1 4 5)) graph t (Cas 1 1 4 5) r other_graph (λ never. never) legal (goes_helps t graph w value chain facts)
-goes t graph w _ _ r other_graph chain facts (swung value) legal = by_outcome (Goes t graph w (Swings value) (Cas 1 1 4 3)) graph t (Cas 1 1 4 3) r other_graph (λ never. never) legal (goes_swings t graph w value chain facts)
-goes t graph w _ _ r other_graph chain facts turned legal = by_outcome (Goes t graph w Turns (Get 4 1 0)) graph t (Get 4 1 0) r other_graph (λ never. never) legal (goes_turns t graph w chain facts)
-goes t graph w _ _ r other_graph chain facts tail_taken legal = by_outcome (Goes t graph w TookHead (Get 5 1 1)) graph t (Get 5 1 1) r other_graph (λ never. never) legal (goes_took_head t graph w chain facts)
-goes t graph w _ _ r other_graph chain facts next_taken legal = by_outcome (Goes t graph w TookTail (Get 6 4 0)) graph t (Get 6 4 0) r other_graph (λ never. never) legal (goes_took_tail t graph w chain facts)
-goes t graph w _ _ r other_graph chain facts (compared true) legal = by_outcome (Goes t graph w (Compares true) (Same 4 5)) graph t (Same 4 5) r other_graph (λ never. never) legal (goes_compares_null t graph w chain facts)
-goes t graph w _ _ r other_graph chain facts (compared false) legal = by_outcome (Goes t graph w (Compares false) (Same 4 5)) graph t (Same 4 5) r other_graph (λ never. never) legal (goes_compares t graph w chain facts)
-goes t graph w _ _ r other_graph chain facts pushed legal = by_outcome (Goes t graph w Pushes (Cas 1 1 5 6)) graph t (Cas 1 1 5 6) r other_graph (λ never. never) legal (goes_pushes t graph w chain facts)
-goes t graph w _ _ r other_graph chain facts read legal = by_outcome (Goes t graph w Reads (Rd 6 0)) graph t (Rd 6 0) r other_graph (λ never. never) legal (goes_reads t graph w chain facts)
-goes t graph w _ _ r other_graph chain facts (unlinked value) legal = by_outcome (Goes t graph w (Unlinks value) (Cas 1 0 4 6)) graph t (Cas 1 0 4 6) r other_graph (λ never. never) legal (goes_unlinks t graph w value chain facts)
+goes thread graph w _ _ answered other_graph chain facts take_begun legal = by_outcome (Goes thread graph w Rests (Get 4 1 0)) graph thread (Get 4 1 0) answered other_graph (λ never. never) legal (goes_rests_take thread graph w chain facts)
+goes thread graph w _ _ answered other_graph chain facts (filled value) legal = by_outcome (Goes thread graph w Fills (Wr 3 0 value)) graph thread (Wr 3 0 value) answered other_graph (λ never. never) legal (goes_fills thread graph w value chain facts)
+goes thread graph w _ _ answered other_graph chain facts (looked value) legal = by_outcome (Goes thread graph w (Looks value) (Get 4 1 1)) graph thread (Get 4 1 1) answered other_graph (λ never. never) legal (goes_looks thread graph w value chain facts)
+goes thread graph w _ _ answered other_graph chain facts (followed value) legal = by_outcome (Goes thread graph w (Follows value) (Get 5 4 0)) graph thread (Get 5 4 0) answered other_graph (λ never. never) legal (goes_follows thread graph w value chain facts)
+goes thread graph w _ _ answered other_graph chain facts (linked value) legal = by_outcome (Goes thread graph w (Links value) (Cas 4 0 7 3)) graph thread (Cas 4 0 7 3) answered other_graph (λ never. never) legal (goes_links thread graph w value chain facts)
+goes thread graph w _ _ answered other_graph chain facts (helped value) legal = by_outcome (Goes thread graph w (Helps value) (Cas 1 1 4 5)) graph thread (Cas 1 1 4 5) answered other_graph (λ never. never) legal (goes_helps thread graph w value chain facts)
+goes thread graph w _ _ answered other_graph chain facts (swung value) legal = by_outcome (Goes thread graph w (Swings value) (Cas 1 1 4 3)) graph thread (Cas 1 1 4 3) answered other_graph (λ never. never) legal (goes_swings thread graph w value chain facts)
+goes thread graph w _ _ answered other_graph chain facts turned legal = by_outcome (Goes thread graph w Turns (Get 4 1 0)) graph thread (Get 4 1 0) answered other_graph (λ never. never) legal (goes_turns thread graph w chain facts)
+goes thread graph w _ _ answered other_graph chain facts tail_taken legal = by_outcome (Goes thread graph w TookHead (Get 5 1 1)) graph thread (Get 5 1 1) answered other_graph (λ never. never) legal (goes_took_head thread graph w chain facts)
+goes thread graph w _ _ answered other_graph chain facts next_taken legal = by_outcome (Goes thread graph w TookTail (Get 6 4 0)) graph thread (Get 6 4 0) answered other_graph (λ never. never) legal (goes_took_tail thread graph w chain facts)
+goes thread graph w _ _ answered other_graph chain facts (compared true) legal = by_outcome (Goes thread graph w (Compares true) (Same 4 5)) graph thread (Same 4 5) answered other_graph (λ never. never) legal (goes_compares_null thread graph w chain facts)
+goes thread graph w _ _ answered other_graph chain facts (compared false) legal = by_outcome (Goes thread graph w (Compares false) (Same 4 5)) graph thread (Same 4 5) answered other_graph (λ never. never) legal (goes_compares thread graph w chain facts)
+goes thread graph w _ _ answered other_graph chain facts pushed legal = by_outcome (Goes thread graph w Pushes (Cas 1 1 5 6)) graph thread (Cas 1 1 5 6) answered other_graph (λ never. never) legal (goes_pushes thread graph w chain facts)
+goes thread graph w _ _ answered other_graph chain facts read legal = by_outcome (Goes thread graph w Reads (Rd 6 0)) graph thread (Rd 6 0) answered other_graph (λ never. never) legal (goes_reads thread graph w chain facts)
+goes thread graph w _ _ answered other_graph chain facts (unlinked value) legal = by_outcome (Goes thread graph w (Unlinks value) (Cas 1 0 4 6)) graph thread (Cas 1 0 4 6) answered other_graph (λ never. never) legal (goes_unlinks thread graph w value chain facts)

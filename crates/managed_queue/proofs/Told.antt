@@ -43,10 +43,10 @@ grows n =
 both_rows : (n : ℕ) → sum (range_with_len 1000001 n) + sum (range_with_len 2000001 n) ≡ 3000000 * n + n * (n + 1)
 both_rows zero = refl
 both_rows (suc n) =
-    let e : suc n ≡ n + 1 = omega arith in
+    let same : suc n ≡ n + 1 = omega arith in
     let first = one_more 1000001 n in
     let second = one_more 2000001 n in
-    let square : suc n * (suc n + 1) ≡ n * (n + 1) + 2 * (n + 1) = ap (λ k. k * (k + 1)) e ∙ grows n in
+    let square : suc n * (suc n + 1) ≡ n * (n + 1) + 2 * (n + 1) = ap (λ k. k * (k + 1)) same ∙ grows n in
     let before = both_rows n in
     omega (arith, first, second, square, before)
 
@@ -129,24 +129,24 @@ four_terms f = omega (arith, sum_by-cons f 1 (2 ∷ 3 ∷ 4 ∷ []), sum_by-cons
 
 -- ---- a user that has come to its end
 
-never_refused : (u : Use) (es : List Entry) → u.refused ≡ false → IsWithoutFull es → IsDriven u es → (use_after u es).refused ≡ false
-never_refused u [] fine given driven = fine
-never_refused u (e ∷ es) fine given driven =
-    let goes = going u e.command driven.0 in
-    let first = All-head (λ (entry : Entry). entry.reply ≢ reply.Full) e es given in
-    let still : (used u e.reply).refused ≡ false = ap (λ x. x.refused) (used_is u e.reply goes.on) ∙ not_refused (command_of u) e.reply first in
-    never_refused (used u e.reply) es still (All-tail (λ (entry : Entry). entry.reply ≢ reply.Full) e es given) driven.1
+never_refused : (user : Use) (entries : List Entry) → user.refused ≡ false → IsWithoutFull entries → IsDriven user entries → (use_after user entries).refused ≡ false
+never_refused user [] fine given driven = fine
+never_refused user (other_entry ∷ entries) fine given driven =
+    let goes = going user other_entry.command driven.0 in
+    let first = All-head (λ (entry : Entry). entry.reply ≢ reply.Full) other_entry entries given in
+    let still : (used user other_entry.reply).refused ≡ false = ap (λ x. x.refused) (used_is user other_entry.reply goes.on) ∙ not_refused (command_of user) other_entry.reply first in
+    never_refused (used user other_entry.reply) entries still (All-tail (λ (entry : Entry). entry.reply ≢ reply.Full) other_entry entries given) driven.1
 
 rests_at : (spot : Spot) → is_rest spot ≡ true → open_at spot ≡ []
 rests_at Rests rest = refl
 rests_at _ rest = absurd cc
 
-at_end : (u : Use) → u.refused ≡ false → next_of u ≡ None → is_rest u.spot ≡ true
-at_end u fine ended = by_tests (is_rest u.spot) (left_in_plan u.plan == 0) (ap (λ b. if b || (is_rest u.spot && (left_in_plan u.plan == 0)) then None else Some (command_of u)) (sym fine) ∙ ended)
+at_end : (user : Use) → user.refused ≡ false → next_of user ≡ None → is_rest user.spot ≡ true
+at_end user fine ended = by_tests (is_rest user.spot) (left_in_plan user.plan == 0) (ap (λ b. if b || (is_rest user.spot && (left_in_plan user.plan == 0)) then None else Some (command_of user)) (sym fine) ∙ ended)
   where
-    by_tests : (holds other_holds : Bool) → (if false || (holds && other_holds) then None else Some (command_of u)) ≡ None → holds ≡ true
+    by_tests : (holds other_holds : Bool) → (if false || (holds && other_holds) then None else Some (command_of user)) ≡ None → holds ≡ true
     by_tests true other_holds is = refl
-    by_tests false other_holds is = let never : Some (command_of u) ≡ None = is in absurd cc
+    by_tests false other_holds is = let never : Some (command_of user) ≡ None = is in absurd cc
 
 module _ (count : ℕ) (history : List Entry) (small : count ≤ 390) (run : IsQueueRun count history) where
   abbrev entries : ℕ → List Entry

@@ -14,7 +14,7 @@ made_by _ = 0
 -- how many allocations were not refused
 abbrev pub makings : List Entry → ℕ
 makings [] = 0
-makings (e ∷ es) = (if is_full e.reply then 0 else made_by e.command) + makings es
+makings (entry ∷ entries) = (if is_full entry.reply then 0 else made_by entry.command) + makings entries
 
 -- The hub has 19 words, and each object of the queue 5 at most.
 abbrev pub FewAreLive : Type 0

@@ -46,16 +46,16 @@ command_coming c Reads = Rd 6 0
 command_coming c (Unlinks value) = Cas 1 0 4 6
 
 -- what an operation answers
-abbrev pub answer : Operation → QueueReply
-answer (put value) = queue_reply.Put
-answer (got value) = queue_reply.Got value
-answer empty = queue_reply.Empty
-answer full = queue_reply.Full
+abbrev pub answered : Operation → QueueReply
+answered (put value) = queue_reply.Put
+answered (got value) = queue_reply.Got value
+answered empty = queue_reply.Empty
+answered full = queue_reply.Full
 
 -- the answer of the operation that ended, if one did
 abbrev pub answer_told : List Operation → Option QueueReply
 answer_told [] = None
-answer_told (o ∷ os) = Some (answer o)
+answer_told (o ∷ os) = Some (answered o)
 
 -- an operation of which nothing was done
 abbrev pub untouched : Choice → Course

@@ -37,19 +37,19 @@ gots_of (full ∷ rest) = gots_of rest
 -- From a spot on, each command is the next by the replies before it.
 abbrev pub IsPlayed : Spot → List Entry → Type 0
 IsPlayed spot [] = Unit {0}
-IsPlayed spot (e ∷ es) = MayCome spot e.command × IsGranted spot e.reply × IsPlayed (next_spot spot e.command e.reply) es
+IsPlayed spot (entry ∷ entries) = MayCome spot entry.command × IsGranted spot entry.reply × IsPlayed (next_spot spot entry.command entry.reply) entries
 
 abbrev pub spot_after : Spot → List Entry → Spot
 spot_after spot [] = spot
-spot_after spot (e ∷ es) = spot_after (next_spot spot e.command e.reply) es
+spot_after spot (entry ∷ entries) = spot_after (next_spot spot entry.command entry.reply) entries
 
 abbrev pub fixed_in : Spot → List Entry → List Operation
 fixed_in spot [] = []
-fixed_in spot (e ∷ es) = fixed_at spot e.reply ++ fixed_in (next_spot spot e.command e.reply) es
+fixed_in spot (entry ∷ entries) = fixed_at spot entry.reply ++ fixed_in (next_spot spot entry.command entry.reply) entries
 
 abbrev pub ended_in : Spot → List Entry → List Operation
 ended_in spot [] = []
-ended_in spot (e ∷ es) = operation_ended spot e.reply ++ ended_in (next_spot spot e.command e.reply) es
+ended_in spot (entry ∷ entries) = operation_ended spot entry.reply ++ ended_in (next_spot spot entry.command entry.reply) entries
 
 -- All threads' entries.
 
@@ -60,7 +60,7 @@ spot_moved spots entry thread = if entry.thread == thread then next_spot (spots 
 -- the operations in the order in which they take effect
 abbrev pub fixed : (ℕ → Spot) → List Entry → List Operation
 fixed spots [] = []
-fixed spots (e ∷ es) = fixed_at (spots e.thread) e.reply ++ fixed (spot_moved spots e) es
+fixed spots (entry ∷ entries) = fixed_at (spots entry.thread) entry.reply ++ fixed (spot_moved spots entry) entries
 
 -- thread 1 begins with the set-up, and each other with the join
 abbrev pub entry_spot : ℕ → Spot

@@ -8,7 +8,7 @@ use Rattle.managed_queue.specs.Queue.{fixed, fixed_in, entry_spot}
 -- each entry is one of threads 1 to `threads`
 abbrev pub AreOf : ℕ → List Entry → Type 0
 AreOf threads [] = Unit {0}
-AreOf threads (e ∷ es) = (1 ≤ e.thread) × (e.thread ≤ threads) × AreOf threads es
+AreOf threads (entry ∷ entries) = (1 ≤ entry.thread) × (entry.thread ≤ threads) × AreOf threads entries
 
 -- For any weight of operations: all that took effect weigh what those of each thread weigh together.
 abbrev pub FixedAreShared : Type 0

@@ -83,26 +83,26 @@ number_of _ = 0
 
 -- Where a reply leads. Each reply leads somewhere, also one that never comes.
 abbrev pub next_spot : Spot → Command → Reply → Spot
-next_spot MakesAnchor command r = MakesFirst
-next_spot MakesFirst command r = SetsHead
-next_spot SetsHead command r = SetsTail
-next_spot SetsTail command r = Shows
-next_spot Shows command r = Rests
-next_spot Joins command r = after_join r
-next_spot Rests command r = after_rest command r
-next_spot Fills command r = Looks (number_of command)
-next_spot (Looks value) command r = Follows value
-next_spot (Follows value) command r = behind_tail value r
-next_spot (Links value) command r = after_link value r
-next_spot (Helps value) command r = Looks value
-next_spot (Swings value) command r = Rests
-next_spot Turns command r = TookHead
-next_spot TookHead command r = TookTail
-next_spot TookTail command r = Compares (is_null r)
-next_spot (Compares nothing) command r = after_same nothing r
-next_spot Pushes command r = Turns
-next_spot Reads command r = Unlinks (number_in r)
-next_spot (Unlinks value) command r = after_unlink r
+next_spot MakesAnchor command reply = MakesFirst
+next_spot MakesFirst command reply = SetsHead
+next_spot SetsHead command reply = SetsTail
+next_spot SetsTail command reply = Shows
+next_spot Shows command reply = Rests
+next_spot Joins command reply = after_join reply
+next_spot Rests command reply = after_rest command reply
+next_spot Fills command reply = Looks (number_of command)
+next_spot (Looks value) command reply = Follows value
+next_spot (Follows value) command reply = behind_tail value reply
+next_spot (Links value) command reply = after_link value reply
+next_spot (Helps value) command reply = Looks value
+next_spot (Swings value) command reply = Rests
+next_spot Turns command reply = TookHead
+next_spot TookHead command reply = TookTail
+next_spot TookTail command reply = Compares (is_null reply)
+next_spot (Compares nothing) command reply = after_same nothing reply
+next_spot Pushes command reply = Turns
+next_spot Reads command reply = Unlinks (number_in reply)
+next_spot (Unlinks value) command reply = after_unlink reply
 
 -- one where the reply is Yes
 abbrev pub on_yes : Operation → Reply → List Operation
@@ -120,19 +120,19 @@ on_null _ = []
 -- The operation that takes effect with this reply: a put when its node is linked, a take when the head moves or when
 -- nothing follows the head, a refused put when it is refused.
 abbrev pub fixed_at : Spot → Reply → List Operation
-fixed_at Rests r = on_full r
-fixed_at (Links value) r = on_yes (put value) r
-fixed_at TookTail r = on_null r
-fixed_at (Unlinks value) r = on_yes (got value) r
-fixed_at _ r = []
+fixed_at Rests reply = on_full reply
+fixed_at (Links value) reply = on_yes (put value) reply
+fixed_at TookTail reply = on_null reply
+fixed_at (Unlinks value) reply = on_yes (got value) reply
+fixed_at _ reply = []
 
 -- the operation that ends with this reply
 abbrev pub operation_ended : Spot → Reply → List Operation
-operation_ended Rests r = on_full r
-operation_ended (Swings value) r = put value ∷ []
-operation_ended (Compares true) r = on_yes empty r
-operation_ended (Unlinks value) r = on_yes (got value) r
-operation_ended _ r = []
+operation_ended Rests reply = on_full reply
+operation_ended (Swings value) reply = put value ∷ []
+operation_ended (Compares true) reply = on_yes empty reply
+operation_ended (Unlinks value) reply = on_yes (got value) reply
+operation_ended _ reply = []
 
 -- the operation that took effect, and has not ended
 abbrev pub open_at : Spot → List Operation
@@ -142,6 +142,6 @@ open_at _ = []
 
 -- the two allocations of the set-up are not refused
 abbrev pub IsGranted : Spot → Reply → Type 0
-IsGranted MakesAnchor r = r ≢ reply.Full
-IsGranted MakesFirst r = r ≢ reply.Full
-IsGranted _ r = Unit {0}
+IsGranted MakesAnchor answered = answered ≢ reply.Full
+IsGranted MakesFirst answered = answered ≢ reply.Full
+IsGranted _ answered = Unit {0}

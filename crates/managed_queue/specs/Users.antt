@@ -40,14 +40,14 @@ is_rest _ = false
 
 -- it ends between two operations where none is left, and where an allocation is refused
 abbrev pub has_ended : Use → Bool
-has_ended u = u.refused || (is_rest u.spot && (left_in_plan u.plan == 0))
+has_ended user = user.refused || (is_rest user.spot && (left_in_plan user.plan == 0))
 
 abbrev pub command_of : Use → Command
-command_of u = command_coming (chosen u.plan) u.spot
+command_of user = command_coming (chosen user.plan) user.spot
 
 -- its next command
 abbrev pub next_of : Use → Option Command
-next_of u = if has_ended u then None else Some (command_of u)
+next_of user = if has_ended user then None else Some (command_of user)
 
 -- A put is one less to do, and the next number is one more; a take is one less only where it got a number.
 abbrev pub plan_after : Plan → Option QueueReply → Plan
@@ -66,11 +66,11 @@ is_refused _ reply = false
 
 -- It goes on by a reply, unless it has ended.
 abbrev pub used : Use → Reply → Use
-used u reply = if has_ended u then u else record {
-  spot = next_spot u.spot (command_of u) reply;
-  plan = plan_after u.plan (answer_told (operation_ended u.spot reply));
-  got = got_after u.plan u.got (answer_told (operation_ended u.spot reply));
-  refused = is_refused (command_of u) reply;
+used user reply = if has_ended user then user else record {
+  spot = next_spot user.spot (command_of user) reply;
+  plan = plan_after user.plan (answer_told (operation_ended user.spot reply));
+  got = got_after user.plan user.got (answer_told (operation_ended user.spot reply));
+  refused = is_refused (command_of user) reply;
 }
 
 -- how users begin
@@ -106,36 +106,36 @@ puts_left (Puts next left) = left
 puts_left (Takes left) = 0
 
 abbrev pub to_come : Use → ℕ
-to_come u = if has_ended u then 0 else makings_ahead u.spot (puts_left u.plan)
+to_come user = if has_ended user then 0 else makings_ahead user.spot (puts_left user.plan)
 
 -- A thread's entries are those of a user: each command is its next, and it goes on by each reply.
 abbrev pub IsDriven : Use → List Entry → Type 0
-IsDriven u [] = Unit {0}
-IsDriven u (e ∷ es) = (next_of u ≡ Some e.command) × IsDriven (used u e.reply) es
+IsDriven user [] = Unit {0}
+IsDriven user (entry ∷ entries) = (next_of user ≡ Some entry.command) × IsDriven (used user entry.reply) entries
 
 abbrev pub use_after : Use → List Entry → Use
-use_after u [] = u
-use_after u (e ∷ es) = use_after (used u e.reply) es
+use_after user [] = user
+use_after user (entry ∷ entries) = use_after (used user entry.reply) entries
 
 -- Where no allocation is refused, a user goes by the table.
 abbrev pub UsersPlay : Type 0
 UsersPlay = (u : Use) (es : List Entry) → u.refused ≡ false → IsWithoutFull es → IsDriven u es → IsPlayed u.spot es × (spot_after u.spot es ≡ (use_after u es).spot)
 
 -- What a user counted is what its takes got, none of its operations is a put, and once it has no next command it got so many.
-pub record TookInAll (count : ℕ) (es : List Entry) : Type 0 where
-  pub items : (use_after (taker count) es).got.items ≡ length (gots_of (ended_in Joins es))
-  pub sum : (use_after (taker count) es).got.sum ≡ sum (gots_of (ended_in Joins es))
-  pub no_put : puts_of (ended_in Joins es) ≡ []
-  pub all : next_of (use_after (taker count) es) ≡ None → length (gots_of (ended_in Joins es)) ≡ count
+pub record TookInAll (count : ℕ) (entries : List Entry) : Type 0 where
+  pub items : (use_after (taker count) entries).got.items ≡ length (gots_of (ended_in Joins entries))
+  pub sum : (use_after (taker count) entries).got.sum ≡ sum (gots_of (ended_in Joins entries))
+  pub no_put : puts_of (ended_in Joins entries) ≡ []
+  pub all : next_of (use_after (taker count) entries) ≡ None → length (gots_of (ended_in Joins entries)) ≡ count
 
 abbrev pub TakersTake : Type 0
 TakersTake = (count : ℕ) (es : List Entry) → IsWithoutFull es → IsDriven (taker count) es → TookInAll count es
 
 -- A putter puts its numbers in a row, and all of them once it has no next command.
-pub record DidPut (sets_up : Bool) (first count : ℕ) (es : List Entry) : Type 0 where
+pub record DidPut (sets_up : Bool) (first count : ℕ) (entries : List Entry) : Type 0 where
   pub rest : List ℕ
-  pub puts : puts_of (ended_in (putter sets_up first count).spot es) ++ rest ≡ range_with_len first count
-  pub all : next_of (use_after (putter sets_up first count) es) ≡ None → rest ≡ []
+  pub puts : puts_of (ended_in (putter sets_up first count).spot entries) ++ rest ≡ range_with_len first count
+  pub all : next_of (use_after (putter sets_up first count) entries) ≡ None → rest ≡ []
 
 abbrev pub PuttersPut : Type 0
 PuttersPut = (sets_up : Bool) (first count : ℕ) (es : List Entry) → IsWithoutFull es → IsDriven (putter sets_up first count) es → DidPut sets_up first count es

@@ -35,7 +35,7 @@ module _ (config : Config) (memory : Word → ℕ) (block : Plot) (owner : ℕ �
 
   can_trace : CanTrace config memory
   can_trace = record {
-    above = λ a traced. (let is = object a traced in (object_above config memory block owner promises graph holds marking.uncollected a is.refs is.nums is.name is.here).0);
+    above = λ address traced. (let is = object address traced in (object_above config memory block owner promises graph holds marking.uncollected address is.refs is.nums is.name is.here).0);
     below = λ a traced.
         let is = object a traced in
         let refs : refs_in (memory (Heap (a + 1))) ≡ is.refs = ap refs_in is.shape ∙ refs_read is.refs is.nums is.few_refs is.few_nums in
@@ -51,31 +51,31 @@ pub can_trace_some : (config : Config) (memory : Word → ℕ) → MarksSome con
 can_trace_some config memory marks = ∥∥₁_elim marks (trace_prop config memory) (λ h. can_trace config memory h.1 h.2 h.3 h.0 h.4 h.5)
 
 module _ (config : Config) (words : List ℕ) (can : CanTrace config (view config words)) where
-  abbrev m : Word → ℕ
-  m = view config words
+  abbrev now : Word → ℕ
+  now = view config words
 
   abbrev set : ℕ → Bool
-  set = has (traced_in config m)
+  set = has (traced_in config now)
 
   no_bits : (n : ℕ) → bit_words config ≤ n → mark_bits config set n ≡ 0
   no_bits n past = bits_none set (config.region_words + 64 * n) 64
       (λ k few. false_from_ne_true (set (config.region_words + 64 * n + k))
       (λ is.
-      let at = traced_inside config m can (config.region_words + 64 * n + k) (listed_traced config m (config.regions * config.region_words) (config.region_words + 64 * n + k) is) in
+      let at = traced_inside config now can (config.region_words + 64 * n + k) (listed_traced config now (config.regions * config.region_words) (config.region_words + 64 * n + k) is) in
       omega (arith, at.1, past)))
 
   neither : (x y : ℕ) → x ≡ 0 → y ≡ 0 → x ≡ bit_or x y
   neither x y first second = first ∙ sym (ap (λ z. bit_or z y) first ∙ ap (bit_or 0) second)
 
-  closed_at : (word : Word) → emptied config.mutators (marked config set (bit_words config) m) word ≡ closed config m word
-  closed_at (Grey n) = below_and_past n (bit_words config) (bit_or (m (Grey n)) (mark_bits config set n)) (m (Grey n)) (bit_or (m (Grey n)) (mark_bits config set n))
+  closed_at : (word : Word) → emptied config.mutators (marked config set (bit_words config) now) word ≡ closed config now word
+  closed_at (Grey number) = below_and_past number (bit_words config) (bit_or (now (Grey number)) (mark_bits config set number)) (now (Grey number)) (bit_or (now (Grey number)) (mark_bits config set number))
       (λ below. refl)
-      (λ no past. neither (m (Grey n)) (mark_bits config set n) (view_none config words (Grey n) no) (no_bits n past))
-  closed_at (Black n) = below_and_past n (bit_words config) (bit_or (m (Black n)) (mark_bits config set n)) (m (Black n)) (bit_or (m (Black n)) (mark_bits config set n))
+      (λ no past. neither (now (Grey number)) (mark_bits config set number) (view_none config words (Grey number) no) (no_bits number past))
+  closed_at (Black number) = below_and_past number (bit_words config) (bit_or (now (Black number)) (mark_bits config set number)) (now (Black number)) (bit_or (now (Black number)) (mark_bits config set number))
       (λ below. refl)
-      (λ no past. neither (m (Black n)) (mark_bits config set n) (view_none config words (Black n) no) (no_bits n past))
-  closed_at (Count t) = below_and_past t config.mutators 0 (m (Count t)) 0 (λ below. refl) (λ no past. view_none config words (Count t) no)
+      (λ no past. neither (now (Black number)) (mark_bits config set number) (view_none config words (Black number) no) (no_bits number past))
+  closed_at (Count mutator) = below_and_past mutator config.mutators 0 (now (Count mutator)) 0 (λ below. refl) (λ no past. view_none config words (Count mutator) no)
   closed_at _ = refl
 
-  pub closed_is : emptied config.mutators (marked config set (bit_words config) m) ≡ closed config m
+  pub closed_is : emptied config.mutators (marked config set (bit_words config) now) ≡ closed config now
   closed_is = fun_ext closed_at

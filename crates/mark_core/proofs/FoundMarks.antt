@@ -12,11 +12,14 @@ use Rattle.heap_words.specs.declared.config.Config.{Config}
 use Rattle.heap_words.specs.Words.{Word, Grey, Black, write}
 use Rattle.regions.specs.Marks.{mark_word, mark_bit, mark_mask}
 use Rattle.heap_world.specs.Walk.{has}
-use Rattle.heap_world.proofs.Marks.{has-push}
+use Rattle.heap_world.proofs.TakenDown.{has-push}
 use Rattle.cycle_words.specs.Marking.Marks.{mark_bits}
 use Rattle.cycle_words.proofs.Marking.Bits.{one, bits_at, bits_small}
 use Rattle.mark_core.specs.Steps.{greyed, marked}
 use Rattle.mark_core.proofs.Colours.{bits_agree, bits_none}
+
+pub or_assoc : (a b d : ℕ) → bit_or (bit_or a b) d ≡ bit_or a (bit_or b d)
+or_assoc a b d = same_from_bits _ _ (λ i. omega (arith, bit_at_or (bit_or a b) d i, bit_at_or a b i, bit_at_or a (bit_or b d) i, bit_at_or b d i))
 
 -- an address is grey besides, or black
 abbrev pub grey_besides : Config → ℕ → (Word → ℕ) → Word → ℕ
@@ -24,9 +27,6 @@ grey_besides config a memory = write memory (Grey (mark_word config a)) (bit_or 
 
 abbrev pub black_besides : Config → ℕ → (Word → ℕ) → Word → ℕ
 black_besides config a memory = write memory (Black (mark_word config a)) (bit_or (memory (Black (mark_word config a))) (mark_mask config a))
-
-or_assoc : (a b d : ℕ) → bit_or (bit_or a b) d ≡ bit_or a (bit_or b d)
-or_assoc a b d = same_from_bits _ _ (λ i. omega (arith, bit_at_or (bit_or a b) d i, bit_at_or a b i, bit_at_or a (bit_or b d) i, bit_at_or b d i))
 
 module _ (config : Config) (set more : ℕ → Bool) (a : ℕ) (above : config.region_words ≤ a) (here : more a ≡ true) (others : (q : ℕ) → q ≢ a → more q ≡ set q) where
   abbrev first : ℕ
@@ -77,19 +77,19 @@ module _ (config : Config) (set more : ℕ → Bool) (a : ℕ) (above : config.r
 
   module _ (memory : Word → ℕ) (words : ℕ) (inside : mark_word config a < words) where
     marked_more_at : (word : Word) → black_besides config a (grey_besides config a (marked config set words memory)) word ≡ marked config more words memory word
-    marked_more_at (Grey j) =
-        row_more (λ n. memory (Grey n)) (λ n. bit_or (memory (Grey n)) (mark_bits config set n)) (λ n. bit_or (memory (Grey n)) (mark_bits config more n)) words j inside
-        (word_here (memory (Grey (mark_word config a)))) (λ n other. ap (bit_or (memory (Grey n))) (word_there n other))
-    marked_more_at (Black j) =
-        row_more (λ n. memory (Black n)) (λ n. bit_or (memory (Black n)) (mark_bits config set n)) (λ n. bit_or (memory (Black n)) (mark_bits config more n)) words j inside
-        (word_here (memory (Black (mark_word config a)))) (λ n other. ap (bit_or (memory (Black n))) (word_there n other))
+    marked_more_at (Grey number) =
+        row_more (λ number. memory (Grey number)) (λ number. bit_or (memory (Grey number)) (mark_bits config set number)) (λ number. bit_or (memory (Grey number)) (mark_bits config more number)) words number inside
+        (word_here (memory (Grey (mark_word config a)))) (λ number other. ap (bit_or (memory (Grey number))) (word_there number other))
+    marked_more_at (Black number) =
+        row_more (λ number. memory (Black number)) (λ number. bit_or (memory (Black number)) (mark_bits config set number)) (λ number. bit_or (memory (Black number)) (mark_bits config more number)) words number inside
+        (word_here (memory (Black (mark_word config a)))) (λ number other. ap (bit_or (memory (Black number))) (word_there number other))
     marked_more_at _ = refl
 
     pub marked_more : black_besides config a (grey_besides config a (marked config set words memory)) ≡ marked config more words memory
     marked_more = fun_ext marked_more_at
 
     greyed_more_at : (word : Word) → grey_besides config a (greyed config set words memory) word ≡ greyed config more words memory word
-    greyed_more_at (Grey j) = row_more (λ n. memory (Grey n)) (mark_bits config set) (mark_bits config more) words j inside (same_from_bits _ _ bit_here) word_there
+    greyed_more_at (Grey number) = row_more (λ number. memory (Grey number)) (mark_bits config set) (mark_bits config more) words number inside (same_from_bits _ _ bit_here) word_there
     greyed_more_at _ = refl
 
     pub greyed_more : grey_besides config a (greyed config set words memory) ≡ greyed config more words memory
@@ -104,23 +104,23 @@ none_in_word : (config : Config) (n : ℕ) → mark_bits config (has []) n ≡ 0
 none_in_word config n = bits_none (has []) (config.region_words + 64 * n) 64 (λ k few. refl)
 
 none_marked_at : (config : Config) (words : ℕ) (memory : Word → ℕ) (word : Word) → memory word ≡ marked config (has []) words memory word
-none_marked_at config words memory (Grey n) = none_or (memory (Grey n)) (nat_lt n words) (mark_bits config (has []) n) (none_in_word config n)
-none_marked_at config words memory (Black n) = none_or (memory (Black n)) (nat_lt n words) (mark_bits config (has []) n) (none_in_word config n)
+none_marked_at config words memory (Grey number) = none_or (memory (Grey number)) (nat_lt number words) (mark_bits config (has []) number) (none_in_word config number)
+none_marked_at config words memory (Black number) = none_or (memory (Black number)) (nat_lt number words) (mark_bits config (has []) number) (none_in_word config number)
 none_marked_at config words memory _ = refl
 
 pub none_marked : (config : Config) (words : ℕ) (memory : Word → ℕ) → memory ≡ marked config (has []) words memory
-none_marked config words memory = fun_ext (λ w. none_marked_at config words memory w)
+none_marked config words memory = fun_ext (λ word. none_marked_at config words memory word)
 
 -- the first of a list, and one more of them
 pub next_of : (xs : List ℕ) (index a : ℕ) → slice_get xs index ≡ Some a → take (index + 1) xs ≡ take index xs ++ a ∷ []
-next_of xs index a at = take_more xs index 0 (slice_get_within xs index a at) ∙ ap (λ x. take index xs ++ x ∷ []) (get_or_from_slice_get xs index a 0 at)
+next_of xs index a found = take_more xs index 0 (slice_get_within xs index a found) ∙ ap (λ x. take index xs ++ x ∷ []) (get_or_from_slice_get xs index a 0 found)
 
 pub has_next : (xs : List ℕ) (index a : ℕ) → slice_get xs index ≡ Some a → has (take (index + 1) xs) a ≡ true
-has_next xs index a at = ap (λ ys. has ys a) (next_of xs index a at) ∙ has-push (take index xs) a a ∙ or_right (has (take index xs) a) (nat_eq a a) (eq-eqb a a refl)
+has_next xs index a found = ap (λ ys. has ys a) (next_of xs index a found) ∙ has-push (take index xs) a a ∙ or_right (has (take index xs) a) (nat_eq a a) (eq-eqb a a refl)
 
 pub has_others : (xs : List ℕ) (index a q : ℕ) → slice_get xs index ≡ Some a → q ≢ a → has (take (index + 1) xs) q ≡ has (take index xs) q
-has_others xs index a q at other =
-    ap (λ ys. has ys q) (next_of xs index a at) ∙ has-push (take index xs) a q ∙ ap (λ holds. has (take index xs) q || holds) (ne_eqb q a other) ∙ plain (has (take index xs) q)
+has_others xs index a q found other =
+    ap (λ ys. has ys q) (next_of xs index a found) ∙ has-push (take index xs) a q ∙ ap (λ holds. has (take index xs) q || holds) (ne_eqb q a other) ∙ plain (has (take index xs) q)
   where
     plain : (holds : Bool) → (holds || false) ≡ holds
     plain true = refl

@@ -14,4 +14,4 @@ still_found image other_image config marks found are =
     (subst (IsMarked (config_of image).region_words (marks_of image)) (sym found) are))
 
 pub found_inside : (image : Image) (index address : ℕ) → AreFound image → slice_get (found_of image) index ≡ Some address → IsWord (config_of image) (Heap address)
-found_inside image index address are at = let among = are.among address (has_at (found_of image) index address at) in (among.0, omega (arith, among.1, image.all_marks))
+found_inside image index address are found = let among = are.among address (has_at (found_of image) index address found) in (among.0, omega (arith, among.1, image.all_marks))

@@ -6,6 +6,7 @@ use Rattle.std.proofs.lemmas.Bool.Decides.{nat_tests}
 use Rattle.std.proofs.lemmas.Nat.{or_comm, or_shifted, one_shl}
 use Rattle.std.proofs.lemmas.Nat.Bits.{bit_at_or, bit_at_above, same_from_bits}
 use Rattle.std.proofs.Math.Path.{fun_ext}
+use Rattle.mark_core.proofs.FoundMarks.{or_assoc}
 use Rattle.heap_words.specs.declared.config.Config.{Config}
 use Rattle.heap_words.specs.Words.{Word, Free, Top, Tams, Limit, view, write}
 use Rattle.heap_words.proofs.Stores.{view_none}
@@ -20,20 +21,16 @@ use Rattle.mark_core.specs.Steps.{freed_one, freed_below}
 freed_by_stores_at : (region : ℕ) (memory : Word → ℕ) (word : Word)
     → write (write (write (write memory Free (bit_or (memory Free) (1 * 2 ^ region % 2 ^ 64))) (Top region) 0) (Tams region) 0) (Limit region) 0 word ≡ freed_one region memory word
 freed_by_stores_at region memory Free = refl
-freed_by_stores_at region memory (Top q) = refl
-freed_by_stores_at region memory (Tams q) = refl
-freed_by_stores_at region memory (Limit q) = refl
+freed_by_stores_at region memory (Top other_region) = refl
+freed_by_stores_at region memory (Tams other_region) = refl
+freed_by_stores_at region memory (Limit other_region) = refl
 freed_by_stores_at region memory _ = refl
 
 pub freed_by_stores : (region : ℕ) (memory : Word → ℕ)
     → write (write (write (write memory Free (bit_or (memory Free) (1 * 2 ^ region % 2 ^ 64))) (Top region) 0) (Tams region) 0) (Limit region) 0 ≡ freed_one region memory
-freed_by_stores region memory = fun_ext (λ w. freed_by_stores_at region memory w)
+freed_by_stores region memory = fun_ext (λ word. freed_by_stores_at region memory word)
 
 -- one bit more in a word
-
-or_again : (x y z : ℕ) → bit_or (bit_or x y) z ≡ bit_or x (bit_or y z)
-or_again x y z = same_from_bits (bit_or (bit_or x y) z) (bit_or x (bit_or y z))
-    (λ i. omega (arith, bit_at_or (bit_or x y) z i, bit_at_or x y i, bit_at_or x (bit_or y z) i, bit_at_or y z i))
 
 module _ (out : ℕ → Bool) where
   bits_next : (k : ℕ) → bits_of out 0 (k + 1) ≡ one (out k) * 2 ^ k + bits_of out 0 k
@@ -44,12 +41,12 @@ module _ (out : ℕ → Bool) where
       ap (bits_of out 0) next ∙ ap (λ j. one (out j) * 2 ^ k + bits_of out 0 k) here
 
   bit_set : (x k : ℕ) → k < 64 → out k ≡ true → bit_or (bit_or x (bits_of out 0 k)) (1 * 2 ^ k % 2 ^ 64) ≡ bit_or x (bits_of out 0 (k + 1))
-  bit_set x k few is =
-      let mask : 1 * 2 ^ k % 2 ^ 64 ≡ 1 * 2 ^ k = one_shl k 64 few ∙ once (2 ^ k) in
+  bit_set x k below is =
+      let mask : 1 * 2 ^ k % 2 ^ 64 ≡ 1 * 2 ^ k = one_shl k 64 below ∙ once (2 ^ k) in
       let joined : bit_or (bits_of out 0 k) (1 * 2 ^ k) ≡ 1 * 2 ^ k + bits_of out 0 k =
       or_comm (bits_of out 0 k) (1 * 2 ^ k) ∙ or_shifted 1 k (bits_of out 0 k) (bits_small out 0 k) in
       let next : bits_of out 0 (k + 1) ≡ 1 * 2 ^ k + bits_of out 0 k = bits_next k ∙ ap (λ b. one b * 2 ^ k + bits_of out 0 k) is in
-      or_again x (bits_of out 0 k) (1 * 2 ^ k % 2 ^ 64) ∙ ap (bit_or x) (ap (bit_or (bits_of out 0 k)) mask ∙ joined ∙ sym next)
+      or_assoc x (bits_of out 0 k) (1 * 2 ^ k % 2 ^ 64) ∙ ap (bit_or x) (ap (bit_or (bits_of out 0 k)) mask ∙ joined ∙ sym next)
     where
       once : (y : ℕ) → y ≡ 1 * y
       once y = omega arith
@@ -70,24 +67,24 @@ module _ (out : ℕ → Bool) where
   turned_left k j x is = grind (arith, nat_tests)
 
   freed_next_at : (k : ℕ) (memory : Word → ℕ) (word : Word) → k < 64 → out k ≡ true → freed_one k (freed_below out k memory) word ≡ freed_below out (k + 1) memory word
-  freed_next_at k memory Free few is = bit_set (memory Free) k few is
-  freed_next_at k memory (Top r) few is = turned_out k r (memory (Top r)) is
-  freed_next_at k memory (Tams r) few is = turned_out k r (memory (Tams r)) is
-  freed_next_at k memory (Limit r) few is = turned_out k r (memory (Limit r)) is
-  freed_next_at k memory _ few is = refl
+  freed_next_at k memory Free below is = bit_set (memory Free) k below is
+  freed_next_at k memory (Top region) below is = turned_out k region (memory (Top region)) is
+  freed_next_at k memory (Tams region) below is = turned_out k region (memory (Tams region)) is
+  freed_next_at k memory (Limit region) below is = turned_out k region (memory (Limit region)) is
+  freed_next_at k memory _ below is = refl
 
   pub freed_next : (k : ℕ) (memory : Word → ℕ) → k < 64 → out k ≡ true → freed_one k (freed_below out k memory) ≡ freed_below out (k + 1) memory
-  freed_next k memory few is = fun_ext (λ w. freed_next_at k memory w few is)
+  freed_next k memory below is = fun_ext (λ word. freed_next_at k memory word below is)
 
   left_next_at : (k : ℕ) (memory : Word → ℕ) (word : Word) → out k ≡ false → freed_below out k memory word ≡ freed_below out (k + 1) memory word
   left_next_at k memory Free is = bit_left (memory Free) k is
-  left_next_at k memory (Top r) is = turned_left k r (memory (Top r)) is
-  left_next_at k memory (Tams r) is = turned_left k r (memory (Tams r)) is
-  left_next_at k memory (Limit r) is = turned_left k r (memory (Limit r)) is
+  left_next_at k memory (Top region) is = turned_left k region (memory (Top region)) is
+  left_next_at k memory (Tams region) is = turned_left k region (memory (Tams region)) is
+  left_next_at k memory (Limit region) is = turned_left k region (memory (Limit region)) is
   left_next_at k memory _ is = refl
 
   pub left_next : (k : ℕ) (memory : Word → ℕ) → out k ≡ false → freed_below out k memory ≡ freed_below out (k + 1) memory
-  left_next k memory is = fun_ext (λ w. left_next_at k memory w is)
+  left_next k memory is = fun_ext (λ word. left_next_at k memory word is)
 
   -- none yet
 
@@ -100,13 +97,13 @@ module _ (out : ℕ → Bool) where
 
   freed_none_at : (memory : Word → ℕ) (word : Word) → memory word ≡ freed_below out 0 memory word
   freed_none_at memory Free = no_bit (memory Free)
-  freed_none_at memory (Top r) = none_yet r (memory (Top r))
-  freed_none_at memory (Tams r) = none_yet r (memory (Tams r))
-  freed_none_at memory (Limit r) = none_yet r (memory (Limit r))
+  freed_none_at memory (Top region) = none_yet region (memory (Top region))
+  freed_none_at memory (Tams region) = none_yet region (memory (Tams region))
+  freed_none_at memory (Limit region) = none_yet region (memory (Limit region))
   freed_none_at memory _ = refl
 
   pub freed_none : (memory : Word → ℕ) → memory ≡ freed_below out 0 memory
-  freed_none memory = fun_ext (λ w. freed_none_at memory w)
+  freed_none memory = fun_ext (λ word. freed_none_at memory word)
 
   -- the region whose turn comes is dead exactly if it was at first
 
@@ -125,8 +122,8 @@ module _ (out : ℕ → Bool) where
 -- all regions
 
 module _ (config : Config) (words : List ℕ) (out : ℕ → Bool) where
-  abbrev m : Word → ℕ
-  m = view config words
+  abbrev now : Word → ℕ
+  now = view config words
 
   below_all : (r x : ℕ) → (nat_lt r config.regions ≡ false → x ≡ 0) → cond (nat_lt r config.regions && out r) 0 x ≡ cond (out r) 0 x
   below_all r x none = by_test (nat_lt r config.regions) (out r) x none
@@ -136,11 +133,11 @@ module _ (config : Config) (words : List ℕ) (out : ℕ → Bool) where
       by_test false true y is_none = is_none refl
       by_test false false y is_none = refl
 
-  freed_all_at : (word : Word) → freed_below out config.regions m word ≡ freed config out m word
-  freed_all_at (Top r) = below_all r (m (Top r)) (λ no. view_none config words (Top r) no)
-  freed_all_at (Tams r) = below_all r (m (Tams r)) (λ no. view_none config words (Tams r) no)
-  freed_all_at (Limit r) = below_all r (m (Limit r)) (λ no. view_none config words (Limit r) no)
+  freed_all_at : (word : Word) → freed_below out config.regions now word ≡ freed config out now word
+  freed_all_at (Top region) = below_all region (now (Top region)) (λ no. view_none config words (Top region) no)
+  freed_all_at (Tams region) = below_all region (now (Tams region)) (λ no. view_none config words (Tams region) no)
+  freed_all_at (Limit region) = below_all region (now (Limit region)) (λ no. view_none config words (Limit region) no)
   freed_all_at _ = refl
 
-  pub freed_all : freed_below out config.regions m ≡ freed config out m
+  pub freed_all : freed_below out config.regions now ≡ freed config out now
   freed_all = fun_ext freed_all_at

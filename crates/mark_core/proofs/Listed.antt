@@ -6,7 +6,7 @@ use Rattle.std.proofs.lemmas.List.FromFn.{map-range_with_len_more}
 use Rattle.heap_words.specs.declared.config.Config.{Config}
 use Rattle.heap_words.specs.Words.{Word, Root, Count, Buffer, Answer, Pin}
 use Rattle.heap_world.specs.Walk.{with_address, with_addresses}
-use Rattle.heap_world.proofs.Marks.{with_addresses-push}
+use Rattle.heap_world.proofs.TakenDown.{with_addresses-push}
 use Rattle.image_graph.specs.Full.{roots_below, answers_below}
 use Rattle.image_graph.specs.Pinned.{pins_below}
 use Rattle.image_graph.proofs.FoundInTurn.{noted_both}
@@ -33,24 +33,24 @@ if_none holds x order xs is = none_more order xs ∙ ap (λ ys. with_addresses o
 module _ (memory : Word → ℕ) where
   -- the roots of one mutator more
   pub roots_more : (mutator : ℕ) (order : List ℕ)
-      → with_addresses (with_addresses order (roots_below memory mutator)) (map (λ i. memory (Root mutator i)) (range_with_len 0 16)) ≡ with_addresses order (roots_below memory (mutator + 1))
+      → with_addresses (with_addresses order (roots_below memory mutator)) (map (λ index. memory (Root mutator index)) (range_with_len 0 16)) ≡ with_addresses order (roots_below memory (mutator + 1))
   roots_more mutator order =
       let next : suc mutator ≡ mutator + 1 = omega arith in
-      noted_both order (roots_below memory mutator) (map (λ i. memory (Root mutator i)) (range_with_len 0 16)) ∙ ap (λ n. with_addresses order (roots_below memory n)) next
+      noted_both order (roots_below memory mutator) (map (λ index. memory (Root mutator index)) (range_with_len 0 16)) ∙ ap (λ n. with_addresses order (roots_below memory n)) next
 
   -- the pin slots of one mutator more
   pub pins_more : (mutator : ℕ) (order : List ℕ)
-      → with_addresses (with_addresses order (pins_below memory mutator)) (map (λ i. memory (Pin mutator i)) (range_with_len 0 4)) ≡ with_addresses order (pins_below memory (mutator + 1))
+      → with_addresses (with_addresses order (pins_below memory mutator)) (map (λ slot. memory (Pin mutator slot)) (range_with_len 0 4)) ≡ with_addresses order (pins_below memory (mutator + 1))
   pins_more mutator order =
       let next : suc mutator ≡ mutator + 1 = omega arith in
-      noted_both order (pins_below memory mutator) (map (λ i. memory (Pin mutator i)) (range_with_len 0 4)) ∙ ap (λ n. with_addresses order (pins_below memory n)) next
+      noted_both order (pins_below memory mutator) (map (λ slot. memory (Pin mutator slot)) (range_with_len 0 4)) ∙ ap (λ n. with_addresses order (pins_below memory n)) next
 
   -- the answer of one mutator more, if it is an address
   pub answer_more : (mutator : ℕ) (order : List ℕ) → 1 < memory (Answer mutator)
       → with_address (with_addresses order (answers_below memory mutator)) (memory (Answer mutator)) ≡ with_addresses order (answers_below memory (mutator + 1))
-  answer_more mutator order some =
+  answer_more mutator order below =
       let next : suc mutator ≡ mutator + 1 = omega arith in
-      let one : cond (nat_le (memory (Answer mutator)) 1) [] (memory (Answer mutator) ∷ []) ≡ memory (Answer mutator) ∷ [] = cond-false (nat_le (memory (Answer mutator)) 1) [] (memory (Answer mutator) ∷ []) (lt-leb (memory (Answer mutator)) 1 some) in
+      let one : cond (nat_le (memory (Answer mutator)) 1) [] (memory (Answer mutator) ∷ []) ≡ memory (Answer mutator) ∷ [] = cond-false (nat_le (memory (Answer mutator)) 1) [] (memory (Answer mutator) ∷ []) (lt-leb (memory (Answer mutator)) 1 below) in
       sym (with_addresses-push order (answers_below memory mutator) (memory (Answer mutator)))
       ∙ ap (λ xs. with_addresses order (answers_below memory mutator ++ xs)) (sym one)
       ∙ ap (λ n. with_addresses order (answers_below memory n)) next
@@ -65,10 +65,10 @@ module _ (memory : Word → ℕ) where
 
   -- the entries of one buffer more
   pub entries_more : (mutator : ℕ) (order : List ℕ)
-      → with_addresses (with_addresses order (entries_below memory mutator)) (map (λ i. memory (Buffer mutator i)) (range_with_len 0 (memory (Count mutator)))) ≡ with_addresses order (entries_below memory (mutator + 1))
+      → with_addresses (with_addresses order (entries_below memory mutator)) (map (λ entry. memory (Buffer mutator entry)) (range_with_len 0 (memory (Count mutator)))) ≡ with_addresses order (entries_below memory (mutator + 1))
   entries_more mutator order =
       let next : suc mutator ≡ mutator + 1 = omega arith in
-      noted_both order (entries_below memory mutator) (map (λ i. memory (Buffer mutator i)) (range_with_len 0 (memory (Count mutator)))) ∙ ap (λ n. with_addresses order (entries_below memory n)) next
+      noted_both order (entries_below memory mutator) (map (λ entry. memory (Buffer mutator entry)) (range_with_len 0 (memory (Count mutator)))) ∙ ap (λ n. with_addresses order (entries_below memory n)) next
 
   -- one address more, which is grey or is not
   pub grey_more : (config : Config) (k : ℕ) (order : List ℕ) → is_grey config memory (config.region_words + k) ≡ true

@@ -20,11 +20,11 @@ none_yet x y j = grind (arith, nat_tests)
 -- buffers
 
 emptied_next_at : (mutator : ℕ) (memory : Word → ℕ) (word : Word) → write (emptied mutator memory) (Count mutator) 0 word ≡ emptied (mutator + 1) memory word
-emptied_next_at mutator memory (Count u) = one_more (λ x. memory (Count x)) (λ x. 0) mutator u
+emptied_next_at mutator memory (Count other_mutator) = one_more (λ mutator. memory (Count mutator)) (λ x. 0) mutator other_mutator
 emptied_next_at mutator memory _ = refl
 
 pub emptied_next : (mutator : ℕ) (memory : Word → ℕ) → write (emptied mutator memory) (Count mutator) 0 ≡ emptied (mutator + 1) memory
-emptied_next mutator memory = fun_ext (λ w. emptied_next_at mutator memory w)
+emptied_next mutator memory = fun_ext (λ word. emptied_next_at mutator memory word)
 
 -- edges
 
@@ -32,27 +32,27 @@ pub edge_noted : (config : Config) (r q : ℕ) (memory : Word → ℕ) → edge 
 edge_noted config r q memory = edges_same config memory (noted config r memory) q (λ k. refl) (λ seat. refl) (seat_count config.mutators config.helpers)
 
 noted_next_at : (config : Config) (region : ℕ) (memory : Word → ℕ) (word : Word) → write (noted config region memory) (Tams region) (edge config memory region) word ≡ noted config (region + 1) memory word
-noted_next_at config region memory (Tams q) = one_more (λ x. memory (Tams x)) (edge config memory) region q
+noted_next_at config region memory (Tams other_region) = one_more (λ region. memory (Tams region)) (edge config memory) region other_region
 noted_next_at config region memory _ = refl
 
 pub noted_next : (config : Config) (region : ℕ) (memory : Word → ℕ) → write (noted config region memory) (Tams region) (edge config memory region) ≡ noted config (region + 1) memory
-noted_next config region memory = fun_ext (λ w. noted_next_at config region memory w)
+noted_next config region memory = fun_ext (λ word. noted_next_at config region memory word)
 
 -- marks
 
 module _ (config : Config) (set : ℕ → Bool) where
   greyed_none_at : (memory : Word → ℕ) (word : Word) → memory word ≡ greyed config set 0 memory word
-  greyed_none_at memory (Grey n) = none_yet (mark_bits config set n) (memory (Grey n)) n
-  greyed_none_at memory (Black n) = none_yet 0 (memory (Black n)) n
+  greyed_none_at memory (Grey number) = none_yet (mark_bits config set number) (memory (Grey number)) number
+  greyed_none_at memory (Black number) = none_yet 0 (memory (Black number)) number
   greyed_none_at memory _ = refl
 
   pub greyed_none : (memory : Word → ℕ) → memory ≡ greyed config set 0 memory
-  greyed_none memory = fun_ext (λ w. greyed_none_at memory w)
+  greyed_none memory = fun_ext (λ word. greyed_none_at memory word)
 
-  greyed_next_at : (k : ℕ) (memory : Word → ℕ) (word : Word) → write (write (greyed config set k memory) (Grey k) (mark_bits config set k)) (Black k) 0 word ≡ greyed config set (k + 1) memory word
-  greyed_next_at k memory (Grey n) = one_more (λ x. memory (Grey x)) (mark_bits config set) k n
-  greyed_next_at k memory (Black n) = one_more (λ x. memory (Black x)) (λ x. 0) k n
-  greyed_next_at k memory _ = refl
+  greyed_next_at : (number : ℕ) (memory : Word → ℕ) (word : Word) → write (write (greyed config set number memory) (Grey number) (mark_bits config set number)) (Black number) 0 word ≡ greyed config set (number + 1) memory word
+  greyed_next_at number memory (Grey other_number) = one_more (λ number. memory (Grey number)) (mark_bits config set) number other_number
+  greyed_next_at number memory (Black other_number) = one_more (λ number. memory (Black number)) (λ x. 0) number other_number
+  greyed_next_at number memory _ = refl
 
-  pub greyed_next : (k : ℕ) (memory : Word → ℕ) → write (write (greyed config set k memory) (Grey k) (mark_bits config set k)) (Black k) 0 ≡ greyed config set (k + 1) memory
-  greyed_next k memory = fun_ext (λ w. greyed_next_at k memory w)
+  pub greyed_next : (number : ℕ) (memory : Word → ℕ) → write (write (greyed config set number memory) (Grey number) (mark_bits config set number)) (Black number) 0 ≡ greyed config set (number + 1) memory
+  greyed_next number memory = fun_ext (λ word. greyed_next_at number memory word)

@@ -5,6 +5,7 @@ use Rattle.std.proofs.lemmas.Bool.Decides.{nat_tests}
 use Rattle.std.proofs.Math.Path.{fun_ext}
 use Rattle.std.proofs.Math.Logic.{∥∥₁_elim}
 use Rattle.std.proofs.Math.Bridge.{le_prop}
+use Rattle.heap_words.proofs.Bools.{same_truth}
 use Rattle.heap_words.specs.declared.config.Config.{Config}
 use Rattle.heap_words.specs.Words.{Word, Phase, Claim, Ask, Top, Tams, Root, Count, Answer, Pin, Grey, Black, bit_words, view, write}
 use Rattle.heap_words.specs.Ranges.{seat_count}
@@ -15,14 +16,14 @@ use Rattle.image_graph.proofs.Elsewhere.{settled_same}
 use Rattle.image_graph.proofs.Edges.{edges_same, edge_zero}
 use Rattle.shen_graph.specs.Graph.{Graph}
 use Rattle.heap_world.specs.Walk.{has, with_addresses}
-use Rattle.heap_world.proofs.Marks as found
+use Rattle.heap_world.proofs.TakenDown as found
 use Rattle.heap_world.specs.World.{Plot, thing}
 use Rattle.heap_world.proofs.Pointing.{piece_inside}
 use Rattle.image_graph.specs.Held.{IsAmong}
 use Rattle.image_graph.specs.Full.{roots_below, answers_below, root_words, held_words}
 use Rattle.image_graph.specs.Pinned.{pins_below}
 use Rattle.image_graph.specs.Promised.{Promises}
-use Rattle.image_graph.proofs.Roots.{has_either, root_in, answer_in, pin_in, root_among, answer_among, pin_among}
+use Rattle.image_graph.proofs.HeldRoots.{has_either, root_in, answer_in, pin_in, root_among, answer_among, pin_among}
 use Rattle.image_graph.specs.Holds.{HoldsBy, HoldsSome}
 use Rattle.cycle_words.specs.Marking.Marks.{mark_bits}
 use Rattle.cycle_words.specs.Marking.Init.{marking_begun}
@@ -40,11 +41,6 @@ below_and_past n bound x y z below past = ⊎_elim
     is ∙ past no more)
     (cases_lt n bound)
 
--- two tests that say the same
-pub same_test : (holds other_holds : Bool) → (holds ≡ true → other_holds ≡ true) → (other_holds ≡ true → holds ≡ true) → holds ≡ other_holds
-same_test true holds there back = sym (there refl)
-same_test false holds there back = sym (false_from_ne_true holds (λ is. false≢true (back is)))
-
 -- Roots, answers and pin slots hold addresses of the heap.
 module _ (config : Config) (memory : Word → ℕ) (block : Plot) (owner : ℕ → Option ℕ) (promises : Promises) (graph : Graph) (holds : HoldsBy config memory block owner promises graph) where
   abbrev top : ℕ → ℕ
@@ -59,9 +55,9 @@ module _ (config : Config) (memory : Word → ℕ) (block : Plot) (owner : ℕ �
 
   pub held_inside : HasRootsInside config memory
   held_inside = record {
-    roots = λ t i below few. word_inside (memory (Root t i)) (root_among config top memory block graph promises holds.objects.plotted holds.rooted t i below few);
-    answers = λ t below some. word_inside (memory (Answer t)) (answer_among config top memory block graph promises holds.objects.plotted holds.rooted t below some);
-    pins = λ t i below few. word_inside (memory (Pin t i)) (pin_among config top memory block graph promises holds.objects.plotted holds.rooted t i below few);
+    roots = λ mutator index below few. word_inside (memory (Root mutator index)) (root_among config top memory block graph promises holds.objects.plotted holds.rooted mutator index below few);
+    answers = λ mutator below some. word_inside (memory (Answer mutator)) (answer_among config top memory block graph promises holds.objects.plotted holds.rooted mutator below some);
+    pins = λ mutator slot below few. word_inside (memory (Pin mutator slot)) (pin_among config top memory block graph promises holds.objects.plotted holds.rooted mutator slot below few);
   }
 
 roots_prop : (config : Config) (memory : Word → ℕ) → IsProp (HasRootsInside config memory)
@@ -83,8 +79,8 @@ all_inside config memory inside word among = ⊎_elim
 -- settling leaves what they hold
 pub settled_inside : (config : Config) (memory : Word → ℕ) → HasRootsInside config memory → HasRootsInside config (buffers_settled config memory)
 settled_inside config memory inside = record {
-  roots = λ t i below few. subst (IsNullOrInside config) (sym (settled_same (Root t i) (λ other. other) config memory (seat_count config.mutators config.helpers))) (inside.roots t i below few);
-  pins = λ t i below few. subst (IsNullOrInside config) (sym (settled_same (Pin t i) (λ other. other) config memory (seat_count config.mutators config.helpers))) (inside.pins t i below few);
+  roots = λ mutator index below few. subst (IsNullOrInside config) (sym (settled_same (Root mutator index) (λ other. other) config memory (seat_count config.mutators config.helpers))) (inside.roots mutator index below few);
+  pins = λ mutator slot below few. subst (IsNullOrInside config) (sym (settled_same (Pin mutator slot) (λ other. other) config memory (seat_count config.mutators config.helpers))) (inside.pins mutator slot below few);
   answers = λ t below some.
       let same : buffers_settled config memory (Answer t) ≡ memory (Answer t) = settled_same (Answer t) (λ other. other) config memory (seat_count config.mutators config.helpers) in
       subst (IsNullOrInside config) (sym same) (inside.answers t below (omega (arith, same, some)));
@@ -92,16 +88,16 @@ settled_inside config memory inside = record {
 
 -- a list of addresses that are no null has what it was made from
 pub listed : (words : List ℕ) (a : ℕ) → a ≢ 0 → has (with_addresses [] words) a ≡ has words a
-listed words a some = same_test (has (with_addresses [] words) a) (has words a)
+listed words a positive = same_truth (has (with_addresses [] words) a) (has words a)
     (λ is. ⊎_elim (λ (none : has [] a ≡ true). absurd (false≢true none)) (λ (new : (a ≢ 0) × (has words a ≡ true)). new.1) (found.only [] words a is))
-    (λ is. found.new [] words a some is)
+    (λ is. found.new [] words a positive is)
 
 module _ (config : Config) (words : List ℕ) (inside : (word : ℕ) → IsAmong (held_words config (view config words)) word → IsNullOrInside config word) where
-  abbrev m : Word → ℕ
-  m = view config words
+  abbrev now : Word → ℕ
+  now = view config words
 
   abbrev held : List ℕ
-  held = held_words config m
+  held = held_words config now
 
   abbrev set : ℕ → Bool
   set = has (with_addresses [] held)
@@ -118,16 +114,16 @@ module _ (config : Config) (words : List ℕ) (inside : (word : ℕ) → IsAmong
       let at = inside (config.region_words + 64 * n + k) is (λ e. omega (arith, e, long)) in
       omega (arith, at.1, past))))
 
-  begun_at : (word : Word) → write (write (write (emptied config.mutators (noted config config.regions (greyed config set (bit_words config) m))) Claim 0) Ask 0) Phase 1 word ≡ marking_begun config m word
-  begun_at (Grey n) = below_and_past n (bit_words config) (mark_bits config set n) (m (Grey n)) (mark_bits config (has held) n)
-      (λ below. grey_below n)
-      (λ no past. view_none config words (Grey n) no ∙ grey_past n past)
-  begun_at (Black n) = below_and_past n (bit_words config) 0 (m (Black n)) 0 (λ below. refl) (λ no past. view_none config words (Black n) no)
-  begun_at (Tams r) = below_and_past r config.regions (edge config (greyed config set (bit_words config) m) r) (m (Tams r)) (edge config m r)
-      (λ below. edges_same config m (greyed config set (bit_words config) m) r (λ q. refl) (λ seat. refl) (seat_count config.mutators config.helpers))
-      (λ no past. view_none config words (Tams r) no ∙ sym (edge_zero config m r (view_none config words (Top r) no)))
-  begun_at (Count t) = below_and_past t config.mutators 0 (m (Count t)) 0 (λ below. refl) (λ no past. view_none config words (Count t) no)
+  begun_at : (word : Word) → write (write (write (emptied config.mutators (noted config config.regions (greyed config set (bit_words config) now))) Claim 0) Ask 0) Phase 1 word ≡ marking_begun config now word
+  begun_at (Grey number) = below_and_past number (bit_words config) (mark_bits config set number) (now (Grey number)) (mark_bits config (has held) number)
+      (λ below. grey_below number)
+      (λ no past. view_none config words (Grey number) no ∙ grey_past number past)
+  begun_at (Black number) = below_and_past number (bit_words config) 0 (now (Black number)) 0 (λ below. refl) (λ no past. view_none config words (Black number) no)
+  begun_at (Tams region) = below_and_past region config.regions (edge config (greyed config set (bit_words config) now) region) (now (Tams region)) (edge config now region)
+      (λ below. edges_same config now (greyed config set (bit_words config) now) region (λ q. refl) (λ seat. refl) (seat_count config.mutators config.helpers))
+      (λ no past. view_none config words (Tams region) no ∙ sym (edge_zero config now region (view_none config words (Top region) no)))
+  begun_at (Count mutator) = below_and_past mutator config.mutators 0 (now (Count mutator)) 0 (λ below. refl) (λ no past. view_none config words (Count mutator) no)
   begun_at _ = refl
 
-  pub begun : write (write (write (emptied config.mutators (noted config config.regions (greyed config set (bit_words config) m))) Claim 0) Ask 0) Phase 1 ≡ marking_begun config m
+  pub begun : write (write (write (emptied config.mutators (noted config config.regions (greyed config set (bit_words config) now))) Claim 0) Ask 0) Phase 1 ≡ marking_begun config now
   begun = fun_ext begun_at

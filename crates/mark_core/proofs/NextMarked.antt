@@ -29,22 +29,22 @@ module _ (config : Config) (marks : ℕ → ℕ) (at : ℕ) (above : config.regi
       ap (λ n. bit_at (marks n) (mark_bit config (at + k))) word ∙ ap (bit_at whole) bit ∙ digit k
 
   in_word : (address : ℕ) → at ≤ address → address < at + (64 - mark_bit config at) → mark_at config marks address ≡ bit_at rest (address - at)
-  in_word address from below =
-      let same : at + (address - at) ≡ address = omega (arith, from) in
-      ap (mark_at config marks) (sym same) ∙ further (address - at) (omega (arith, from, below))
+  in_word address at_most below =
+      let same : at + (address - at) ≡ address = omega (arith, at_most) in
+      ap (mark_at config marks) (sym same) ∙ further (address - at) (omega (arith, at_most, below))
 
   -- where no bit is left, none of the word's further addresses is marked
   pub none_left : (word place : ℕ) → word ≡ whole → place ≡ mark_bit config at → word / 2 ^ place ≡ 0 → (address : ℕ) → at ≤ address → address < at + (64 - place) → mark_at config marks address ≡ 0
-  none_left word place is same none address from below =
+  none_left word place is same none address at_most below =
       let left : word / 2 ^ place ≡ rest = ap (λ w. w / 2 ^ place) is ∙ ap (λ p. whole / 2 ^ p) same in
-      in_word address from (omega (arith, below, same)) ∙ ap (λ x. bit_at x (address - at)) (sym left ∙ none) ∙ bit_at-zero (address - at)
+      in_word address at_most (omega (arith, below, same)) ∙ ap (λ x. bit_at x (address - at)) (sym left ∙ none) ∙ bit_at-zero (address - at)
 
   -- and else the lowest bit is that of the first one
   first_left : (bits : ℕ) → bits ≡ rest → 0 < bits → bits < 2 ^ 64 → whole < 2 ^ 64
       → (mark_at config marks (at + trailing_zeros w64 bits) ≡ 1) × ((address : ℕ) → at ≤ address → address < at + trailing_zeros w64 bits → mark_at config marks address ≡ 0)
-  first_left bits is some fits small =
+  first_left bits is positive fits small =
       let t = trailing_zeros w64 bits in
-      let lowest = bit_at-trailing_zeros w64 bits some fits in
+      let lowest = bit_at-trailing_zeros w64 bits positive fits in
       let set : bit_at rest t ≡ 1 = ap (λ x. bit_at x t) (sym is) ∙ lowest.1 in
       let within : mark_bit config at + t < 64 = ⊎_elim
       (λ (less : mark_bit config at + t < 64). less)

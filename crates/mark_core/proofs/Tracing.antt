@@ -10,7 +10,7 @@ use Rattle.mark_core.specs.Trace.{IsNullOrInside, CanTrace}
 module _ (config : Config) (memory : Word → ℕ) (can : CanTrace config memory) where
   -- an object with its references
   pub part_inside : (address i : ℕ) → IsTraced config memory address → i < 3 + refs_in (memory (Heap (address + 1))) → IsWord config (Heap (address + i))
-  part_inside address i traced few = (let low = can.above address traced in omega (arith, low), let high = can.below address traced in omega (arith, high, few))
+  part_inside address i traced below = (let low = can.above address traced in omega (arith, low), let high = can.below address traced in omega (arith, high, below))
 
   pub traced_inside : (address : ℕ) → IsTraced config memory address → IsWord config (Heap address)
   traced_inside address traced = (can.above address traced, let high = can.below address traced in omega (arith, high))
@@ -19,5 +19,5 @@ module _ (config : Config) (memory : Word → ℕ) (can : CanTrace config memory
   pub entry_inside : (mutator index : ℕ) → mutator < config.mutators → index < memory (Count mutator) → IsNullOrInside config (memory (Buffer mutator index))
   entry_inside mutator index below few some = traced_inside (memory (Buffer mutator index)) (from_buffer mutator index below few some)
 
-  pub field_inside : (address i : ℕ) → IsTraced config memory address → is_black config memory address ≡ false → i < refs_in (memory (Heap (address + 1))) → IsNullOrInside config (memory (Heap (address + 3 + i)))
-  field_inside address i traced plain few some = traced_inside (memory (Heap (address + 3 + i))) (from_field address i traced plain few some)
+  pub field_inside : (address index : ℕ) → IsTraced config memory address → is_black config memory address ≡ false → index < refs_in (memory (Heap (address + 1))) → IsNullOrInside config (memory (Heap (address + 3 + index)))
+  field_inside address index traced plain below some = traced_inside (memory (Heap (address + 3 + index))) (from_field address index traced plain below some)

@@ -8,38 +8,38 @@ use Rattle.cycle_words.specs.Marking.Marks.{bits_of, mark_bits}
 
 -- in so many words of marks exactly a set is grey, and nothing is black
 abbrev pub greyed : Config → (ℕ → Bool) → ℕ → (Word → ℕ) → Word → ℕ
-greyed config set words memory (Grey n) = if nat_lt n words then mark_bits config set n else memory (Grey n)
-greyed config set words memory (Black n) = if nat_lt n words then 0 else memory (Black n)
+greyed config set words memory (Grey number) = if nat_lt number words then mark_bits config set number else memory (Grey number)
+greyed config set words memory (Black number) = if nat_lt number words then 0 else memory (Black number)
 greyed config set words memory word = memory word
 
 -- in so many words of marks a set has become grey and black
 abbrev pub marked : Config → (ℕ → Bool) → ℕ → (Word → ℕ) → Word → ℕ
-marked config set words memory (Grey n) = if nat_lt n words then bit_or (memory (Grey n)) (mark_bits config set n) else memory (Grey n)
-marked config set words memory (Black n) = if nat_lt n words then bit_or (memory (Black n)) (mark_bits config set n) else memory (Black n)
+marked config set words memory (Grey number) = if nat_lt number words then bit_or (memory (Grey number)) (mark_bits config set number) else memory (Grey number)
+marked config set words memory (Black number) = if nat_lt number words then bit_or (memory (Black number)) (mark_bits config set number) else memory (Black number)
 marked config set words memory word = memory word
 
 -- the edges of so many regions are noted
 abbrev pub noted : Config → ℕ → (Word → ℕ) → Word → ℕ
-noted config regions memory (Tams r) = if nat_lt r regions then edge config memory r else memory (Tams r)
+noted config regions memory (Tams region) = if nat_lt region regions then edge config memory region else memory (Tams region)
 noted config regions memory word = memory word
 
 -- the buffers of so many mutators are empty
 abbrev pub emptied : ℕ → (Word → ℕ) → Word → ℕ
-emptied mutators memory (Count t) = if nat_lt t mutators then 0 else memory (Count t)
+emptied mutators memory (Count mutator) = if nat_lt mutator mutators then 0 else memory (Count mutator)
 emptied mutators memory word = memory word
 
 -- of so many regions those that a test tells are freed
 abbrev pub freed_below : (ℕ → Bool) → ℕ → (Word → ℕ) → Word → ℕ
 freed_below out regions memory Free = bit_or (memory Free) (bits_of out 0 regions)
-freed_below out regions memory (Top r) = if nat_lt r regions && out r then 0 else memory (Top r)
-freed_below out regions memory (Tams r) = if nat_lt r regions && out r then 0 else memory (Tams r)
-freed_below out regions memory (Limit r) = if nat_lt r regions && out r then 0 else memory (Limit r)
+freed_below out regions memory (Top region) = if nat_lt region regions && out region then 0 else memory (Top region)
+freed_below out regions memory (Tams region) = if nat_lt region regions && out region then 0 else memory (Tams region)
+freed_below out regions memory (Limit region) = if nat_lt region regions && out region then 0 else memory (Limit region)
 freed_below out regions memory word = memory word
 
 -- one region is freed
 abbrev pub freed_one : ℕ → (Word → ℕ) → Word → ℕ
 freed_one region memory Free = bit_or (memory Free) (1 * 2 ^ region % 2 ^ 64)
-freed_one region memory (Top r) = if region == r then 0 else memory (Top r)
-freed_one region memory (Tams r) = if region == r then 0 else memory (Tams r)
-freed_one region memory (Limit r) = if region == r then 0 else memory (Limit r)
+freed_one region memory (Top other_region) = if region == other_region then 0 else memory (Top other_region)
+freed_one region memory (Tams other_region) = if region == other_region then 0 else memory (Tams other_region)
+freed_one region memory (Limit other_region) = if region == other_region then 0 else memory (Limit other_region)
 freed_one region memory word = memory word

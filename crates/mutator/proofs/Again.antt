@@ -27,12 +27,12 @@ pub never : (More ≡ Again) ↔ ⊥
 never = (λ is. cc, λ no. absurd no)
 
 -- a step at a field says Again exactly where an exchange finds another reference
-pub says_where_it_waits : (object : ℕ) (at : FieldSpot) (got : ℕ) → (field_says at got ≡ Again) ↔ WaitsAt (OnField object at) got
+pub says_where_it_waits : (object : ℕ) (spot : FieldSpot) (got : ℕ) → (field_says spot got ≡ Again) ↔ WaitsAt (OnField object spot) got
 says_where_it_waits object (Exchange found expect value) got = grind (arith, nat_tests)
 says_where_it_waits object _ got = (λ is. cc, λ waits. absurd waits)
 
 -- one that enters where a pause is wanted
-pub enters_where_it_waits : (at : EnterSpot) (next : Entered) (got : ℕ) → (call_says (enter_says at got) ≡ Again) ↔ WaitsAt (Entering at next) got
+pub enters_where_it_waits : (spot : EnterSpot) (next : Entered) (got : ℕ) → (call_says (enter_says spot got) ≡ Again) ↔ WaitsAt (Entering spot next) got
 enters_where_it_waits enter.Look next got = grind (arith, nat_tests)
 enters_where_it_waits enter.Await next got = grind (arith, nat_tests)
 enters_where_it_waits enter.Raise next got = (λ is. cc, λ waits. absurd waits)
@@ -40,13 +40,13 @@ enters_where_it_waits enter.Lower next got = (λ is. cc, λ waits. absurd waits)
 enters_where_it_waits enter.Inside next got = (λ is. cc, λ waits. absurd waits)
 
 -- one that makes an object where its taking of room does
-pub makes_where_it_waits : (config : Config) (command : Command) (at : MakeSpot) (got : ℕ) → (make_says config command at got ≡ Again) ↔ WaitsAt (Making at) got
+pub makes_where_it_waits : (config : Config) (command : Command) (spot : MakeSpot) (got : ℕ) → (make_says config command spot got ≡ Again) ↔ WaitsAt (Making spot) got
 makes_where_it_waits config command (Taking take) got =
     let by = taking.says_where_it_waits config (words_made command) Fresh take got in (λ is. by.0 ((says_again _).0 is), λ waits. (says_again _).1 (by.1 waits))
 makes_where_it_waits config command _ got = (λ is. cc, λ waits. absurd waits)
 
 -- and one that waits for its object where there is no answer yet
-pub polls_where_it_waits : (at : WaitSpot) (got : ℕ) → (wait_says at got ≡ Again) ↔ WaitsAt (Waiting at) got
+pub polls_where_it_waits : (spot : WaitSpot) (got : ℕ) → (wait_says spot got ≡ Again) ↔ WaitsAt (Waiting spot) got
 polls_where_it_waits wait.Poll got = grind (arith, nat_tests)
 polls_where_it_waits wait.StoreRequest got = (λ is. cc, λ waits. absurd waits)
 polls_where_it_waits wait.AskRoom got = (λ is. cc, λ waits. absurd waits)

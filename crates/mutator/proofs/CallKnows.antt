@@ -20,8 +20,8 @@ says_again took.More = (λ is. cc, λ is. cc)
 says_again took.Done = (λ is. cc, λ is. cc)
 
 -- the resolving can make its next access
-resolving_ready : (config : Config) (seat made : ℕ) (kept : Kept) (address : ℕ) (at : ResolveSpot) (next : Loaded) → is_ready config seat made kept (Resolving address at next) ≡ true → resolves.is_ready config seat address at ≡ true
-resolving_ready config seat made kept address at next ready = (and_parts _ _ (and_parts _ _ (and_parts _ _ ready).1).1).0
+resolving_ready : (config : Config) (seat made : ℕ) (kept : Kept) (address : ℕ) (spot : ResolveSpot) (next : Loaded) → is_ready config seat made kept (Resolving address spot next) ≡ true → resolves.is_ready config seat address spot ≡ true
+resolving_ready config seat made kept address spot next ready = (and_parts _ _ (and_parts _ _ (and_parts _ _ ready).1).1).0
 
 pub part_ready : (config : Config) (seat made : ℕ) (kept : Kept) (spot : Spot) (address : ℕ) (at : ResolveSpot) (next : Loaded) → spot ≡ Resolving address at next → is_ready config seat made kept spot ≡ true → resolves.is_ready config seat address at ≡ true
 part_ready config seat made kept spot address at next is ready = resolving_ready config seat made kept address at next (subst (λ s. is_ready config seat made kept s ≡ true) is ready)

@@ -30,18 +30,18 @@ goes_on took.Again is = cc
 goes_on _ is = cc
 
 -- nor does the making of an object
-pub makes_go_on : (config : Config) (command : Command) (at : MakeSpot) (got : ℕ) → make_says config command at got ≡ took.Done → ⊥
+pub makes_go_on : (config : Config) (command : Command) (spot : MakeSpot) (got : ℕ) → make_says config command spot got ≡ took.Done → ⊥
 makes_go_on config command (Taking take) got is = goes_on (takes.says_at take (take_next config command take got)) is
 makes_go_on config command _ got is = cc
 
 -- a step that says Done gives its reply, and no other step does
 pub done_gives : (config : Config) (kept : Kept) (spot : Spot) (got : ℕ) → answer_at config kept spot got ≡ took.Done → (reply : Reply) × (given_at spot ≡ Some reply)
 done_gives config kept (Leave reply) got is = (reply, refl)
-done_gives config kept (Entering at next) got is = absurd (goes_on (enter_says at got) is)
+done_gives config kept (Entering spot next) got is = absurd (goes_on (enter_says spot got) is)
 done_gives config kept (OnField object (Exchange found expect value)) got is = absurd (not_done (got == found) took.More took.Again (λ e. cc) (λ e. cc) is)
-done_gives config kept (Resolving address at next) got is = absurd (goes_on (resolves.says_at config address kept.phase at got) is)
+done_gives config kept (Resolving address spot next) got is = absurd (goes_on (resolves.says_at config address kept.phase spot got) is)
 done_gives config kept (Waiting Poll) got is = absurd (not_done (got == 0) took.Again took.More (λ e. cc) (λ e. cc) is)
-done_gives config kept (OnField object at) got is = absurd (cc)
-done_gives config kept (Making at) got is = absurd (makes_go_on config kept.command at got is)
-done_gives config kept (Waiting at) got is = absurd (cc)
+done_gives config kept (OnField object spot) got is = absurd (cc)
+done_gives config kept (Making spot) got is = absurd (makes_go_on config kept.command spot got is)
+done_gives config kept (Waiting spot) got is = absurd (cc)
 done_gives config kept _ got is = absurd (cc)

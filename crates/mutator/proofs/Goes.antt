@@ -18,5 +18,5 @@ pub ready_next : (config : Config) (mutator : Mutating) (order : Order) (got : �
 ready_next config mutator order got spot other_mutator is row ready = subst (IsReady config) row (subst (λ s. IsReady config (next_at config mutator order got s)) is ready)
 
 -- a word that is fit for the part of a spot is so for the part by its own name
-pub part_at : (config : Config) (seat : ℕ) (kept : Kept) (spot at : Spot) (got : ℕ) → spot ≡ at → PartFit config seat kept spot got → PartFit config seat kept at got
-part_at config seat kept spot at got is fit = subst (λ s. PartFit config seat kept s got) is fit
+pub part_at : (config : Config) (seat : ℕ) (kept : Kept) (spot other_spot : Spot) (got : ℕ) → spot ≡ other_spot → PartFit config seat kept spot got → PartFit config seat kept other_spot got
+part_at config seat kept spot other_spot got is fit = subst (λ s. PartFit config seat kept s got) is fit

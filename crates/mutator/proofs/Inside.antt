@@ -39,14 +39,14 @@ touch_inside config seat made kept order spot is = placed_inside config (touch_a
 pub touch_found : (config : Config) (words : List ℕ) (seat made : ℕ) (kept : Kept) (order : Order) (spot : Spot) → is_word config (touch_at config seat made kept Nothing spot).word ≡ true
     → view config words (touch_at config seat made kept order spot).word ≡ get_or words (table_index (placed config (touch_at config seat made kept order spot))) 0
 touch_found config words seat made kept order spot is =
-    let t : Touch = touch_at config seat made kept order spot in
-    view_word config words t.word (touch_word config seat made kept order spot is)
-    ∙ ap (λ k. get_or words k 0) (sym (table_index-access_at (word_at config t.word) t.form))
+    let touch : Touch = touch_at config seat made kept order spot in
+    view_word config words touch.word (touch_word config seat made kept order spot is)
+    ∙ ap (λ index. get_or words index 0) (sym (table_index-access_at (word_at config touch.word) touch.form))
 
 -- where a mutator that is ready stands at a spot, the numbers of the access are in range, and so are those of the spot
-pub ready_at : (config : Config) (seat made : ℕ) (kept : Kept) (spot at : Spot) → spot ≡ at → is_ready config seat made kept spot ≡ true
-    → ((is_word config (touch_at config seat made kept Nothing at).word && stores_fit config seat made kept at) ≡ true) × (numbers_fit config seat made kept at ≡ true)
-ready_at config seat made kept spot at is ready = and_parts _ _ (subst (λ s. is_ready config seat made kept s ≡ true) is ready)
+pub ready_at : (config : Config) (seat made : ℕ) (kept : Kept) (spot other_spot : Spot) → spot ≡ other_spot → is_ready config seat made kept spot ≡ true
+    → ((is_word config (touch_at config seat made kept Nothing other_spot).word && stores_fit config seat made kept other_spot) ≡ true) × (numbers_fit config seat made kept other_spot ≡ true)
+ready_at config seat made kept spot other_spot is ready = and_parts _ _ (subst (λ s. is_ready config seat made kept s ≡ true) is ready)
 
 -- a part that goes on has not ended
 pub not_ended : (ended : Bool) → cond ended false true ≡ true → ended ≡ false

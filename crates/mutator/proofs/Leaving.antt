@@ -45,26 +45,26 @@ use Rattle.mutator.specs.WaitRows.{wait_place}
 use Rattle.mutator.proofs.Done.{done_gives}
 
 -- no part of a call stands there
-enters_elsewhere : (at : EnterSpot) → enter_place at ≡ LV → ⊥
+enters_elsewhere : (spot : EnterSpot) → enter_place spot ≡ LV → ⊥
 enters_elsewhere enter.Raise is = cc
 enters_elsewhere enter.Look is = cc
 enters_elsewhere enter.Lower is = cc
 enters_elsewhere enter.Await is = cc
 enters_elsewhere enter.Inside is = cc
 
-takes_elsewhere : (at : TakeSpot) → takes.place_at at ≡ LV → ⊥
-takes_elsewhere at is = stands_elsewhere at LV refl is
+takes_elsewhere : (spot : TakeSpot) → takes.place_at spot ≡ LV → ⊥
+takes_elsewhere spot is = stands_elsewhere spot LV refl is
 
-records_elsewhere : (at : RememberSpot) → satb.place_at at ≡ LV → ⊥
+records_elsewhere : (spot : RememberSpot) → satb.place_at spot ≡ LV → ⊥
 records_elsewhere record_spot.LoadCount is = cc
-records_elsewhere (record_spot.LoadEntry e) is = cc
-records_elsewhere (record_spot.MarkEntry e found) is = cc
+records_elsewhere (record_spot.LoadEntry entry) is = cc
+records_elsewhere (record_spot.MarkEntry entry found) is = cc
 records_elsewhere record_spot.ClearCount is = cc
-records_elsewhere (record_spot.StoreEntry e) is = cc
-records_elsewhere (record_spot.StoreCount e) is = cc
+records_elsewhere (record_spot.StoreEntry entry) is = cc
+records_elsewhere (record_spot.StoreCount entry) is = cc
 records_elsewhere record_spot.Recorded is = cc
 
-asks_elsewhere : (at : RoomSpot) → rooms.place_at at ≡ LV → ⊥
+asks_elsewhere : (spot : RoomSpot) → rooms.place_at spot ≡ LV → ⊥
 asks_elsewhere room.Outside is = cc
 asks_elsewhere room.Look is = cc
 asks_elsewhere (room.Raise found) is = cc
@@ -75,78 +75,78 @@ asks_elsewhere (room.Mark found) is = cc
 asks_elsewhere room.Wait is = cc
 asks_elsewhere room.Stopped is = cc
 
-copies_elsewhere : (at : CopySpot) → resolves.copy_place at ≡ LV → ⊥
-copies_elsewhere (copy.LoadWord words i) is = cc
-copies_elsewhere (copy.StoreWord words i found) is = cc
+copies_elsewhere : (spot : CopySpot) → resolves.copy_place spot ≡ LV → ⊥
+copies_elsewhere (copy.LoadWord words index) is = cc
+copies_elsewhere (copy.StoreWord words index found) is = cc
 copies_elsewhere copy.StoreHeader is = cc
 copies_elsewhere copy.Publish is = cc
 copies_elsewhere (copy.GiveBack answer) is = cc
 
-resolves_elsewhere : (at : ResolveSpot) → resolves.place_at at ≡ LV → ⊥
-resolves_elsewhere (resolve.Entering at) is = asks_elsewhere at is
-resolves_elsewhere (resolve.Taking words at) is = takes_elsewhere at is
-resolves_elsewhere (resolve.Copying copy end at) is = copies_elsewhere at is
-resolves_elsewhere (resolve.Stopping at) is = asks_elsewhere at is
+resolves_elsewhere : (spot : ResolveSpot) → resolves.place_at spot ≡ LV → ⊥
+resolves_elsewhere (resolve.Entering spot) is = asks_elsewhere spot is
+resolves_elsewhere (resolve.Taking words spot) is = takes_elsewhere spot is
+resolves_elsewhere (resolve.Copying copy end spot) is = copies_elsewhere spot is
+resolves_elsewhere (resolve.Stopping spot) is = asks_elsewhere spot is
 resolves_elsewhere _ is = cc
 
-loads_elsewhere : (at : LoadSpot) → load_place at ≡ LV → ⊥
+loads_elsewhere : (spot : LoadSpot) → load_place spot ≡ LV → ⊥
 loads_elsewhere load.First is = cc
-loads_elsewhere (load.Second a) is = cc
-loads_elsewhere (load.Third a b) is = cc
-loads_elsewhere (load.Shape object b d) is = cc
+loads_elsewhere (load.Second first) is = cc
+loads_elsewhere (load.Third first second) is = cc
+loads_elsewhere (load.Shape object second third) is = cc
 
-is_on_field : (at : FieldSpot) → field_place at ≡ LV → ⊥
+is_on_field : (spot : FieldSpot) → field_place spot ≡ LV → ⊥
 is_on_field field.Load is = cc
-is_on_field (field.LoadExpected e v) is = cc
-is_on_field (field.LoadOld v) is = cc
-is_on_field (field.Store v) is = cc
-is_on_field (field.Swap v) is = cc
-is_on_field (field.Exchange f e v) is = cc
+is_on_field (field.LoadExpected expect value) is = cc
+is_on_field (field.LoadOld value) is = cc
+is_on_field (field.Store value) is = cc
+is_on_field (field.Swap value) is = cc
+is_on_field (field.Exchange found expect value) is = cc
 
-is_on_number : (at : NumberSpot) → number_place at ≡ LV → ⊥
+is_on_number : (spot : NumberSpot) → number_place spot ≡ LV → ⊥
 is_on_number number.Load is = cc
 is_on_number number.Store is = cc
 
-shows_elsewhere : (at : ShowSpot) → show_place at ≡ LV → ⊥
+shows_elsewhere : (spot : ShowSpot) → show_place spot ≡ LV → ⊥
 shows_elsewhere show.LoadName is = cc
-shows_elsewhere (show.StoreRoot r) is = cc
+shows_elsewhere (show.StoreRoot reply) is = cc
 
-makes_elsewhere : (at : MakeSpot) → make_place at ≡ LV → ⊥
+makes_elsewhere : (spot : MakeSpot) → make_place spot ≡ LV → ⊥
 makes_elsewhere (make.Taking take) is = takes_elsewhere take is
 makes_elsewhere _ is = cc
 
-pins_elsewhere : (at : PinSpot) → pin_place at ≡ LV → ⊥
+pins_elsewhere : (spot : PinSpot) → pin_place spot ≡ LV → ⊥
 pins_elsewhere pin.Look is = cc
 pins_elsewhere pin.Store is = cc
 
-waits_elsewhere : (at : WaitSpot) → wait_place at ≡ LV → ⊥
+waits_elsewhere : (spot : WaitSpot) → wait_place spot ≡ LV → ⊥
 waits_elsewhere wait.StoreRequest is = cc
 waits_elsewhere wait.AskRoom is = cc
 waits_elsewhere wait.StepOut is = cc
 waits_elsewhere wait.Poll is = cc
 waits_elsewhere wait.LoadAnswer is = cc
-waits_elsewhere (wait.StoreRoot a) is = cc
-waits_elsewhere (wait.ClearAnswer r) is = cc
+waits_elsewhere (wait.StoreRoot address) is = cc
+waits_elsewhere (wait.ClearAnswer reply) is = cc
 
 begins_elsewhere : (order : Order) → first_place order ≡ LV → ⊥
 begins_elsewhere End is = cc
 begins_elsewhere _ is = cc
 
 -- so a mutator that stands there leaves with a reply
-leaves : (order : Order) (spot : Spot) → place_at order spot ≡ LV → (r : Reply) × (spot ≡ Leave r)
-leaves order (Leave r) is = (r, refl)
+leaves : (order : Order) (spot : Spot) → place_at order spot ≡ LV → (reply : Reply) × (spot ≡ Leave reply)
+leaves order (Leave reply) is = (reply, refl)
 leaves order Rest is = absurd (begins_elsewhere order is)
 leaves order (Ended reply) is = absurd (begins_elsewhere order is)
-leaves order (Entering at next) is = absurd (enters_elsewhere at is)
-leaves order (Loading at) is = absurd (loads_elsewhere at is)
-leaves order (OnField object at) is = absurd (is_on_field at is)
-leaves order (Resolving address at next) is = absurd (resolves_elsewhere at is)
-leaves order (Recording at address next) is = absurd (records_elsewhere at is)
-leaves order (OnNumber object refs at) is = absurd (is_on_number at is)
-leaves order (Showing value at) is = absurd (shows_elsewhere at is)
-leaves order (Making at) is = absurd (makes_elsewhere at is)
-leaves order (Pinning value at) is = absurd (pins_elsewhere at is)
-leaves order (Waiting at) is = absurd (waits_elsewhere at is)
+leaves order (Entering spot next) is = absurd (enters_elsewhere spot is)
+leaves order (Loading spot) is = absurd (loads_elsewhere spot is)
+leaves order (OnField object spot) is = absurd (is_on_field spot is)
+leaves order (Resolving address spot next) is = absurd (resolves_elsewhere spot is)
+leaves order (Recording spot address next) is = absurd (records_elsewhere spot is)
+leaves order (OnNumber object refs spot) is = absurd (is_on_number spot is)
+leaves order (Showing value spot) is = absurd (shows_elsewhere spot is)
+leaves order (Making spot) is = absurd (makes_elsewhere spot is)
+leaves order (Pinning value spot) is = absurd (pins_elsewhere spot is)
+leaves order (Waiting spot) is = absurd (waits_elsewhere spot is)
 leaves order _ is = absurd (cc)
 
 -- as one that gives a reply does

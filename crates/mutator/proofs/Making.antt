@@ -19,8 +19,8 @@ use Rattle.std.specs.Prelude.{◌&&◌}
 use Rattle.mutator.specs.Fit.{is_ready, can_make, is_going, IsReady, make_goes}
 
 -- where it can make its next access
-makes_more : (config : Config) (seat made : ℕ) (kept : Kept) (at : MakeSpot) → is_ready config seat made kept (Making at) ≡ true → made < most_objects
-makes_more config seat made kept at ready = ltb-true _ _ (and_parts _ _ (and_parts _ _ (and_parts _ _ ready).1).0).0
+makes_more : (config : Config) (seat made : ℕ) (kept : Kept) (spot : MakeSpot) → is_ready config seat made kept (Making spot) ≡ true → made < most_objects
+makes_more config seat made kept spot ready = ltb-true _ _ (and_parts _ _ (and_parts _ _ (and_parts _ _ ready).1).0).0
 
 pub can_make_more : (config : Config) (seat made : ℕ) (kept : Kept) (spot : Spot) (at : MakeSpot) → spot ≡ Making at → is_ready config seat made kept spot ≡ true → made < most_objects
 can_make_more config seat made kept spot at is ready = makes_more config seat made kept at (subst (λ s. is_ready config seat made kept s ≡ true) is ready)
@@ -39,7 +39,7 @@ take_ready config seat made kept (Ended NoRoom end) ready = refl
 take_ready config seat made kept next ready = going_ready config seat made kept next ready
 
 -- so where it is ready after a step of the making, the making can go on
-pub making_goes : (config : Config) (mutator : Mutating) (at : MakeSpot) (got : ℕ) → IsReady config (next_at config mutator Nothing got (Making at)) → make_goes config mutator.seat mutator.kept.command at got ≡ true
+pub making_goes : (config : Config) (mutator : Mutating) (spot : MakeSpot) (got : ℕ) → IsReady config (next_at config mutator Nothing got (Making spot)) → make_goes config mutator.seat mutator.kept.command spot got ≡ true
 making_goes config mutator (Taking take) got ready = take_ready config mutator.seat mutator.made mutator.kept (take_next config mutator.kept.command take got) ready
 making_goes config mutator (StoreWord address done) got ready = refl
 making_goes config mutator (StoreRoot address) got ready = refl

@@ -5,9 +5,9 @@ use Rattle.mutator.specs.declared.spot.Spot.TheVariants.{Resolving, Recording, M
 
 -- whether the next step of a mutator that stands there belongs to one of the longer parts of a call
 abbrev pub is_apart : Spot → Bool
-is_apart (Resolving address at next) = true
-is_apart (Recording at address next) = true
-is_apart (Making at) = true
-is_apart (Pinning value at) = true
-is_apart (Waiting at) = true
+is_apart (Resolving address spot next) = true
+is_apart (Recording spot address next) = true
+is_apart (Making spot) = true
+is_apart (Pinning value spot) = true
+is_apart (Waiting spot) = true
 is_apart _ = false

@@ -42,7 +42,7 @@ is_going take = if takes.is_ended take then false else true
 
 -- whether an entering of the heap has not ended
 abbrev pub is_still_outside : EnterSpot → Bool
-is_still_outside at = if is_entered at then false else true
+is_still_outside spot = if is_entered spot then false else true
 
 -- whether the numbers of a spot of the making of an object are in range
 abbrev pub make_fits : Config → Command → MakeSpot → Bool
@@ -58,29 +58,29 @@ can_count made _ = true
 -- and whether those of a spot of the waiting for an object are
 abbrev pub wait_fits : ℕ → Command → WaitSpot → Bool
 wait_fits made command wait.StoreRequest = can_make made command
-wait_fits made command at = can_count made at
+wait_fits made command spot = can_count made spot
 
 -- whether the recording of an address of the heap has not ended, and its numbers are in range
 abbrev pub remember_fits : Config → ℕ → RememberSpot → Bool
-remember_fits config address at = (if satb.is_ended at then false else true) && (satb.is_ready config at && is_word config (Heap address))
+remember_fits config address spot = (if satb.is_ended spot then false else true) && (satb.is_ready config spot && is_word config (Heap address))
 
 -- whether the resolving of an address of the heap, by the mutator of a seat, has not ended, and its numbers are in range
 abbrev pub resolve_fits : Config → ℕ → ℕ → ResolveSpot → Bool
-resolve_fits config seat address at = is_word config (Heap address) && resolve_ready config seat address at
+resolve_fits config seat address spot = is_word config (Heap address) && resolve_ready config seat address spot
 
 -- Whether the numbers of a spot, beside those of its access, are in range. The phase is 0 to 3 wherever a call has begun.
 abbrev pub numbers_fit : Config → ℕ → ℕ → Kept → Spot → Bool
-numbers_fit config seat made kept (Entering at next) = is_still_outside at
+numbers_fit config seat made kept (Entering spot next) = is_still_outside spot
 numbers_fit config seat made kept LoadSet = nat_lt kept.phase 4
-numbers_fit config seat made kept (Resolving address at next) = resolve_fits config seat address at
-numbers_fit config seat made kept (Recording at address next) = remember_fits config address at
-numbers_fit config seat made kept (Making at) = can_make made kept.command && make_fits config kept.command at
-numbers_fit config seat made kept (Waiting at) = wait_fits made kept.command at
+numbers_fit config seat made kept (Resolving address spot next) = resolve_fits config seat address spot
+numbers_fit config seat made kept (Recording spot address next) = remember_fits config address spot
+numbers_fit config seat made kept (Making spot) = can_make made kept.command && make_fits config kept.command spot
+numbers_fit config seat made kept (Waiting spot) = wait_fits made kept.command spot
 numbers_fit config seat made kept _ = true
 
 -- whether the numbers of the next access are words: what is stored into a copy of an object was found in a word
 abbrev pub stores_fit : Config → ℕ → ℕ → Kept → Spot → Bool
-stores_fit config seat made kept (Resolving address at next) = true
+stores_fit config seat made kept (Resolving address spot next) = true
 stores_fit config seat made kept spot = form_fits (touch_at config seat made kept Nothing spot).form
 
 -- Whether the next access can be made from a spot. Between two calls it is that of the begin of a call; the one by which a
@@ -115,8 +115,8 @@ field_goes config _ got = true
 
 -- the word is fit for the part: a reference that is to be used is one, and a resolving can go on
 abbrev pub PartFit : Config → ℕ → Kept → Spot → ℕ → Type 0
-PartFit config seat kept (OnField object at) got = field_goes config at got ≡ true
-PartFit config seat kept (Resolving address at next) got = resolves.IsFit config seat address kept.phase at got
+PartFit config seat kept (OnField object spot) got = field_goes config spot got ≡ true
+PartFit config seat kept (Resolving address spot next) got = resolves.IsFit config seat address kept.phase spot got
 PartFit config seat kept _ got = Unit {0}
 
 -- the word is fit: the access that follows can be made, the part can go on, and nobody ends that is not counted

@@ -28,8 +28,8 @@ takes_commands _ = false
 
 -- whether it waits for an object, or has its answer and is on its way back into the heap
 abbrev pub is_waiting : Spot → Bool
-is_waiting (Waiting at) = true
-is_waiting (Entering at Waited) = true
+is_waiting (Waiting spot) = true
+is_waiting (Entering spot Waited) = true
 is_waiting _ = false
 
 -- whether a mutator that has made so many objects may be given the command

@@ -105,7 +105,7 @@ make_place (make.StoreRoot address) = place.RS
 
 -- the address that the next access makes grey, if it does so: an entry of the buffer that is full
 abbrev pub greys_at : Spot → Option ℕ
-greys_at (Recording at address next) = satb.greys_at at
+greys_at (Recording spot address next) = satb.greys_at spot
 greys_at _ = None
 
 -- between two calls it is by the order: that of the first access of a call, or of the access by which a mutator ends
@@ -117,20 +117,20 @@ first_place order = enters.place_at Raise
 abbrev pub place_at : Order → Spot → Place
 place_at order Rest = first_place order
 place_at order (Ended reply) = first_place order
-place_at order (Entering at next) = enters.place_at at
+place_at order (Entering spot next) = enters.place_at spot
 place_at order LoadPhase = place.PH
 place_at order LoadSet = place.CS
-place_at order (Loading at) = load_place at
-place_at order (OnField object at) = field_place at
-place_at order (Resolving address at next) = resolves.place_at at
-place_at order (Recording at address next) = satb.place_at at
-place_at order (OnNumber object refs at) = number_place at
-place_at order (Showing value at) = show_place at
+place_at order (Loading spot) = load_place spot
+place_at order (OnField object spot) = field_place spot
+place_at order (Resolving address spot next) = resolves.place_at spot
+place_at order (Recording spot address next) = satb.place_at spot
+place_at order (OnNumber object refs spot) = number_place spot
+place_at order (Showing value spot) = show_place spot
 place_at order (StoreRoot value) = place.RS
-place_at order (Making at) = make_place at
+place_at order (Making spot) = make_place spot
 place_at order AskCycle = place.AK
-place_at order (Pinning value at) = pin_place at
-place_at order (Waiting at) = wait_place at
+place_at order (Pinning value spot) = pin_place spot
+place_at order (Waiting spot) = wait_place spot
 place_at order (Leave reply) = place.LV
 place_at order Gone = place.ML
 
@@ -179,20 +179,20 @@ first_touch seat order = enters.touch_at seat Raise
 abbrev pub touch_at : Config → ℕ → ℕ → Kept → Order → Spot → Touch
 touch_at config seat made kept order Rest = first_touch seat order
 touch_at config seat made kept order (Ended reply) = first_touch seat order
-touch_at config seat made kept order (Entering at next) = enters.touch_at seat at
+touch_at config seat made kept order (Entering spot next) = enters.touch_at seat spot
 touch_at config seat made kept order LoadPhase = touch Phase loads
 touch_at config seat made kept order LoadSet = touch Cset loads
-touch_at config seat made kept order (Loading at) = load_touch seat kept.command at
-touch_at config seat made kept order (OnField object at) = field_touch object kept.command at
-touch_at config seat made kept order (Resolving address at next) = resolves.touch_at config seat address at
-touch_at config seat made kept order (Recording at address next) = satb.touch_at config seat address at
-touch_at config seat made kept order (OnNumber object refs at) = number_touch object refs kept.command at
-touch_at config seat made kept order (Showing value at) = show_touch seat value kept.command at
+touch_at config seat made kept order (Loading spot) = load_touch seat kept.command spot
+touch_at config seat made kept order (OnField object spot) = field_touch object kept.command spot
+touch_at config seat made kept order (Resolving address spot next) = resolves.touch_at config seat address spot
+touch_at config seat made kept order (Recording spot address next) = satb.touch_at config seat address spot
+touch_at config seat made kept order (OnNumber object refs spot) = number_touch object refs kept.command spot
+touch_at config seat made kept order (Showing value spot) = show_touch seat value kept.command spot
 touch_at config seat made kept order (StoreRoot value) = touch (Root seat (dst_of kept.command)) (stores value)
-touch_at config seat made kept order (Making at) = make_touch seat made kept.command at
+touch_at config seat made kept order (Making spot) = make_touch seat made kept.command spot
 touch_at config seat made kept order AskCycle = touch Ask (sets_bits 1)
-touch_at config seat made kept order (Pinning value at) = pin_touch seat value kept.command at
-touch_at config seat made kept order (Waiting at) = wait_touch seat made kept.command at
+touch_at config seat made kept order (Pinning value spot) = pin_touch seat value kept.command spot
+touch_at config seat made kept order (Waiting spot) = wait_touch seat made kept.command spot
 touch_at config seat made kept order (Leave reply) = touch (State seat) (stores 0)
 touch_at config seat made kept order Gone = touch Left loads
 
@@ -268,7 +268,7 @@ with_loaded config phase cset found next = if must_resolve config phase cset fou
 -- where it goes on that resolves what it found in the field and stands so
 abbrev pub after_resolve : (found : ℕ) → Loaded → ResolveSpot → Spot
 after_resolve found next (Resolved answer) = after_resolved found answer next
-after_resolve found next at = Resolving found at next
+after_resolve found next spot = Resolving found spot next
 
 -- where a call goes on with the reference that it overwrites, once that is recorded. Objects are marked then, and do not move
 abbrev pub after_recording : ℕ → Overwritten → Spot
@@ -291,7 +291,7 @@ after_swap config phase cset found = if is_to_record phase found then Recording 
 -- where it goes on that records an address and stands so
 abbrev pub after_remember : ℕ → Overwritten → RememberSpot → Spot
 after_remember address next Recorded = after_recording address next
-after_remember address next at = Recording at address next
+after_remember address next spot = Recording spot address next
 
 -- the name of a name word
 abbrev pub name_in : ℕ → Name
@@ -359,20 +359,20 @@ call_begun (Hint address) mutator = mutator
 abbrev pub next_at : Config → Mutating → Order → ℕ → Spot → Mutating
 next_at config mutator order got Rest = call_begun order mutator
 next_at config mutator order got (Ended reply) = call_begun order mutator
-next_at config mutator order got (Entering at next) = record mutator { spot = after_enter next (enters.next_at at got) }
+next_at config mutator order got (Entering spot next) = record mutator { spot = after_enter next (enters.next_at spot got) }
 next_at config mutator order got LoadPhase = record mutator { kept = record mutator.kept { phase = got }; spot = LoadSet }
 next_at config mutator order got LoadSet = record mutator { kept = record mutator.kept { cset = got }; spot = first_spot mutator.kept.command }
-next_at config mutator order got (Loading at) = record mutator { spot = load_next mutator.kept.phase mutator.kept.command at got }
-next_at config mutator order got (OnField object at) = record mutator { spot = field_next config mutator.kept.phase mutator.kept.cset object at got }
-next_at config mutator order got (Resolving address at next) = record mutator { spot = after_resolve address next (resolves.next_at config address mutator.kept.phase at got) }
-next_at config mutator order got (Recording at address next) = record mutator { spot = after_remember address next (satb.next_at at got) }
-next_at config mutator order got (OnNumber object refs at) = record mutator { spot = number_next at got }
-next_at config mutator order got (Showing value at) = record mutator { spot = show_next value at got }
+next_at config mutator order got (Loading spot) = record mutator { spot = load_next mutator.kept.phase mutator.kept.command spot got }
+next_at config mutator order got (OnField object spot) = record mutator { spot = field_next config mutator.kept.phase mutator.kept.cset object spot got }
+next_at config mutator order got (Resolving address spot next) = record mutator { spot = after_resolve address next (resolves.next_at config address mutator.kept.phase spot got) }
+next_at config mutator order got (Recording spot address next) = record mutator { spot = after_remember address next (satb.next_at spot got) }
+next_at config mutator order got (OnNumber object refs spot) = record mutator { spot = number_next spot got }
+next_at config mutator order got (Showing value spot) = record mutator { spot = show_next value spot got }
 next_at config mutator order got (StoreRoot value) = record mutator { spot = Leave reply.Ok }
-next_at config mutator order got (Making at) = record mutator { made = made_after mutator.made at; spot = make_next config mutator.seat mutator.made mutator.kept.command at got }
+next_at config mutator order got (Making spot) = record mutator { made = made_after mutator.made spot; spot = make_next config mutator.seat mutator.made mutator.kept.command spot got }
 next_at config mutator order got AskCycle = record mutator { spot = Leave reply.Ok }
-next_at config mutator order got (Pinning value at) = record mutator { spot = pin_next value mutator.kept.command at got }
-next_at config mutator order got (Waiting at) = record mutator { made = wait_made mutator.made at; spot = wait_next mutator.seat mutator.made at got }
+next_at config mutator order got (Pinning value spot) = record mutator { spot = pin_next value mutator.kept.command spot got }
+next_at config mutator order got (Waiting spot) = record mutator { made = wait_made mutator.made spot; spot = wait_next mutator.seat mutator.made spot got }
 next_at config mutator order got (Leave reply) = record mutator { spot = Ended reply }
 next_at config mutator order got Gone = mutator
 
@@ -390,11 +390,11 @@ make_says config command (make.Taking take) got = call_says (takes.says_at take 
 make_says config command _ got = More
 
 abbrev pub answer_at : Config → Kept → Spot → ℕ → Took
-answer_at config kept (Entering at next) got = call_says (enters.says_at at got)
-answer_at config kept (OnField object at) got = field_says at got
-answer_at config kept (Resolving address at next) got = call_says (resolves.says_at config address kept.phase at got)
-answer_at config kept (Making at) got = make_says config kept.command at got
-answer_at config kept (Waiting at) got = wait_says at got
+answer_at config kept (Entering spot next) got = call_says (enters.says_at spot got)
+answer_at config kept (OnField object spot) got = field_says spot got
+answer_at config kept (Resolving address spot next) got = call_says (resolves.says_at config address kept.phase spot got)
+answer_at config kept (Making spot) got = make_says config kept.command spot got
+answer_at config kept (Waiting spot) got = wait_says spot got
 answer_at config kept (Leave reply) got = Done
 answer_at config kept _ got = More
 

@@ -66,14 +66,14 @@ pin_told memory seat value command pin.Store = Some (pin_reply command value)
 -- The reply that the access of a mutator settles, by its seat, how many objects it has made, what its call keeps, and the
 -- memory that it finds. That the heap is full is settled by the pause that says so.
 abbrev pub told_at : (Word → ℕ) → ℕ → ℕ → Kept → Spot → Option Reply
-told_at memory seat made kept (Loading at) = load_told memory seat kept.command at
-told_at memory seat made kept (OnField object at) = field_told memory object kept.command at
-told_at memory seat made kept (OnNumber object refs at) = number_told memory object refs kept.command at
+told_at memory seat made kept (Loading spot) = load_told memory seat kept.command spot
+told_at memory seat made kept (OnField object spot) = field_told memory object kept.command spot
+told_at memory seat made kept (OnNumber object refs spot) = number_told memory object refs kept.command spot
 told_at memory seat made kept (StoreRoot value) = Some reply.Ok
 told_at memory seat made kept (Making (make.StoreRoot address)) = Some (reply.Ref (next_name seat made))
 told_at memory seat made kept (Waiting (wait.StoreRoot address)) = Some (reply.Ref (next_name seat made))
 told_at memory seat made kept AskCycle = Some reply.Ok
-told_at memory seat made kept (Pinning value at) = pin_told memory seat value kept.command at
+told_at memory seat made kept (Pinning value spot) = pin_told memory seat value kept.command spot
 told_at memory seat made kept _ = None
 
 abbrev pub told_of : (Word → ℕ) → Mutating → Option Reply

@@ -30,7 +30,7 @@ call_says _ = More
 abbrev pub after_enter : Entered → EnterSpot → Spot
 after_enter Call Inside = LoadPhase
 after_enter Waited Inside = Waiting wait.LoadAnswer
-after_enter next at = Entering at next
+after_enter next spot = Entering spot next
 
 -- the place of the next access
 abbrev pub wait_place : WaitSpot → Place

@@ -15,7 +15,7 @@ use Rattle.mutator.specs.declared.waits.WaitSpot.TheVariants.{Poll}
 abbrev pub WaitsAt : Spot → ℕ → Type 0
 WaitsAt (Entering Await next) got = got ≢ 0
 WaitsAt (OnField object (Exchange found expect value)) got = got ≢ found
-WaitsAt (Resolving address at next) got = resolves.WaitsAt at got
+WaitsAt (Resolving address spot next) got = resolves.WaitsAt spot got
 WaitsAt (Making (Taking take)) got = takes.WaitsAt take got
 WaitsAt (Waiting Poll) got = got ≡ 0
 WaitsAt _ got = ⊥

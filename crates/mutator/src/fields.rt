@@ -71,18 +71,14 @@ impl FieldSpot {
         let at = config.heap_at(object + 3 + index_of(command) as u64);
         match self {
             FieldSpot::Load | FieldSpot::LoadExpected { .. } | FieldSpot::LoadOld { .. } => {
-                Access::Load { at }
+                Access::load(at)
             }
             // keeps AreObjects, AreTraced, RelyCopies, IsUpdating.renewed and KeepsFields
-            FieldSpot::Store { value } => Access::Store { at, value },
+            FieldSpot::Store { value } => Access::store(at, value),
             // keeps AreObjects, AreTraced, RelyCopies, KeepsFields and HasItsOwn.roots
-            FieldSpot::Swap { value } => Access::Swap { at, value },
+            FieldSpot::Swap { value } => Access::swap(at, value),
             // keeps AreObjects, AreTraced, RelyCopies, KeepsFields and HasFound.still
-            FieldSpot::Exchange { found, value, .. } => Access::Exchange {
-                at,
-                expect: found,
-                value,
-            },
+            FieldSpot::Exchange { found, value, .. } => Access::exchange(at, found, value),
         }
     }
 

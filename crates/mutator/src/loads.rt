@@ -65,7 +65,7 @@ impl LoadSpot {
             LoadSpot::Third { .. } => config.root_at(seat, third_root(command) as usize),
             LoadSpot::Shape { object, .. } => config.heap_at(object + 1),
         };
-        Access::Load { at }
+        Access::load(at)
     }
 
     /// Where the call goes on, in its phase, with the word that was loaded.

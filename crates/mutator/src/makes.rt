@@ -60,16 +60,16 @@ impl MakeSpot {
         match self {
             MakeSpot::Taking { take } => take.access(config, seat, 3 + refs as u64 + nums as u64),
             // keeps AreObjects, AreUnwritten and IsFilling: the words are in hand
-            MakeSpot::StoreWord { address, done } => Access::Store {
-                at: config.heap_at(address + done),
-                value: fresh_word(seat, made, refs, nums, done),
-            },
+            MakeSpot::StoreWord { address, done } => Access::store(
+                config.heap_at(address + done),
+                fresh_word(seat, made, refs, nums, done),
+            ),
             // keeps HasItsOwn.roots, IsSeated.usable, AreObjects, AreRooms and IsGiven
             // keeps KeepsMarking.older and IsUpdating.outside
-            MakeSpot::StoreRoot { address } => Access::Store {
-                at: config.root_at(seat, dst_of(command) as usize),
-                value: address,
-            },
+            MakeSpot::StoreRoot { address } => Access::store(
+                config.root_at(seat, dst_of(command) as usize),
+                address,
+            ),
         }
     }
 

@@ -35,12 +35,9 @@ impl NumberSpot {
     {
         let at = config.heap_at(object + 3 + refs + index_of(command) as u64);
         match self {
-            NumberSpot::Load => Access::Load { at },
+            NumberSpot::Load => Access::load(at),
             // keeps AreObjects and RelyCopies
-            NumberSpot::Store => Access::Store {
-                at,
-                value: number_of(command),
-            },
+            NumberSpot::Store => Access::store(at, number_of(command)),
         }
     }
 

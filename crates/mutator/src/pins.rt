@@ -36,9 +36,9 @@ impl PinSpot {
     {
         let at = config.pin_at(seat, slot_of(command) as usize);
         match self {
-            PinSpot::Look => Access::Load { at },
+            PinSpot::Look => Access::load(at),
             // keeps SharedFacts.pinned
-            PinSpot::Store => Access::Store { at, value },
+            PinSpot::Store => Access::store(at, value),
         }
     }
 

@@ -37,14 +37,12 @@ impl ShowSpot {
         ensures { result ≡ placed config (rows.show_touch seat value command self) }
     {
         match self {
-            ShowSpot::LoadName => Access::Load {
-                at: config.heap_at(value + 2),
-            },
+            ShowSpot::LoadName => Access::load(config.heap_at(value + 2)),
             // keeps HasItsOwn.roots and IsSeated.usable
-            ShowSpot::StoreRoot { .. } => Access::Store {
-                at: config.root_at(seat, dst_of(command) as usize),
+            ShowSpot::StoreRoot { .. } => Access::store(
+                config.root_at(seat, dst_of(command) as usize),
                 value,
-            },
+            ),
         }
     }
 

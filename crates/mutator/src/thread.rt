@@ -209,12 +209,8 @@ impl Mutator {
         match spot {
             Spot::Rest | Spot::Ended { .. } => first_access(self.config, self.mutator, self.order),
             Spot::Entering { at, .. } => at.access(self.config, self.mutator),
-            Spot::LoadPhase => Access::Load {
-                at: self.config.phase_at(),
-            },
-            Spot::LoadSet => Access::Load {
-                at: self.config.cset_at(),
-            },
+            Spot::LoadPhase => Access::load(self.config.phase_at()),
+            Spot::LoadSet => Access::load(self.config.cset_at()),
             Spot::Loading { at } => at.access(self.config, self.mutator, self.kept.command),
             Spot::OnField { object, at } => at.access(self.config, object, self.kept.command),
             Spot::OnNumber { object, refs, at } => {
@@ -224,17 +220,13 @@ impl Mutator {
                 at.access(self.config, self.mutator, value, self.kept.command)
             }
             // keeps HasItsOwn.roots and IsSeated.usable
-            Spot::StoreRoot { value } => Access::Store {
-                at: self
-                    .config
+            Spot::StoreRoot { value } => Access::store(
+                self.config
                     .root_at(self.mutator, dst_of(self.kept.command) as usize),
                 value,
-            },
+            ),
             // keeps IsHeard and IsDue of heap_world
-            Spot::AskCycle => Access::Or {
-                at: self.config.ask_at(),
-                value: 1,
-            },
+            Spot::AskCycle => Access::or(self.config.ask_at(), 1),
             Spot::Leave { .. } => leave_access(self.config, self.mutator),
             Spot::Resolving { .. }
             | Spot::Recording { .. }
@@ -358,22 +350,12 @@ impl Mutator {
                 call_says(at.says(got))
             }
             Spot::LoadPhase => {
-                self.kept.phase = make_access(
-                    words,
-                    Access::Load {
-                        at: self.config.phase_at(),
-                    },
-                );
+                self.kept.phase = make_access(words, Access::load(self.config.phase_at()));
                 self.spot = Spot::LoadSet;
                 Took::More
             }
             Spot::LoadSet => {
-                self.kept.cset = make_access(
-                    words,
-                    Access::Load {
-                        at: self.config.cset_at(),
-                    },
-                );
+                self.kept.cset = make_access(words, Access::load(self.config.cset_at()));
                 self.spot = first_spot(self.kept.command);
                 Took::More
             }
@@ -586,7 +568,7 @@ fn first_access(config: Config, seat: usize, order: Order) -> Access
     let at = config.left_at();
     match order {
         // keeps AreLeftCounted
-        Order::End => Access::Sub { at, value: 1 },
+        Order::End => Access::sub(at, 1),
         _ => EnterSpot::Raise.access(config, seat),
     }
 }

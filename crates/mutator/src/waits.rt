@@ -62,30 +62,19 @@ impl WaitSpot {
     {
         match self {
             // keeps IsAsked
-            WaitSpot::StoreRequest => Access::Store {
-                at: config.wait_at(seat),
-                value: request(made, command),
-            },
+            WaitSpot::StoreRequest => Access::store(config.wait_at(seat), request(made, command)),
             // keeps IsHeard and IsDue of heap_world
-            WaitSpot::AskRoom => Access::Or {
-                at: config.ask_at(),
-                value: 2,
-            },
+            WaitSpot::AskRoom => Access::or(config.ask_at(), 2),
             WaitSpot::StepOut => leave_access(config, seat),
-            WaitSpot::Poll | WaitSpot::LoadAnswer => Access::Load {
-                at: config.answer_at(seat),
-            },
+            WaitSpot::Poll | WaitSpot::LoadAnswer => Access::load(config.answer_at(seat)),
             // keeps HasItsOwn.roots, IsSeated.usable, AreObjects and IsGiven
             // keeps KeepsMarking.older and HaveMoved.spents
-            WaitSpot::StoreRoot { address } => Access::Store {
-                at: config.root_at(seat, dst_of(command) as usize),
-                value: address,
-            },
+            WaitSpot::StoreRoot { address } => Access::store(
+                config.root_at(seat, dst_of(command) as usize),
+                address,
+            ),
             // keeps IsSeated.unasked and IsSeen
-            WaitSpot::ClearAnswer { .. } => Access::Store {
-                at: config.answer_at(seat),
-                value: 0,
-            },
+            WaitSpot::ClearAnswer { .. } => Access::store(config.answer_at(seat), 0),
         }
     }
 

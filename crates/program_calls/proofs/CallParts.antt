@@ -35,20 +35,20 @@ found (Ok s) test text said sink errors broken status written reports = subst (�
 -- a test came, and how its search has ended fits the status
 fits_searched : (status : Status) (input : Input) (sink errors : Output) (test : Test) → HasRead input (λ bytes. IsTest bytes (test_said test))
     → HasSearched status test sink errors → StatusTells status input sink errors
-fits_searched Holds input sink errors test read h = record { test = test; read = read; is = h }
-fits_searched Unfinished input sink errors test read h = record { test = test; read = read; is = h }
-fits_searched Fails input sink errors test read h = record { test = test; read = read; is = h }
-fits_searched Stuck input sink errors test read h = record { test = test; read = read; is = h }
-fits_searched NoMemory input sink errors test read h = h
-fits_searched BadWords input sink errors test read h = absurd h
-fits_searched BadTest input sink errors test read h = absurd h
-fits_searched ReadFault input sink errors test read h = absurd h
-fits_searched Unwritten input sink errors test read h = absurd h
+fits_searched Holds input sink errors test read has_searched = record { test = test; read = read; is = has_searched }
+fits_searched Unfinished input sink errors test read has_searched = record { test = test; read = read; is = has_searched }
+fits_searched Fails input sink errors test read has_searched = record { test = test; read = read; is = has_searched }
+fits_searched Stuck input sink errors test read has_searched = record { test = test; read = read; is = has_searched }
+fits_searched NoMemory input sink errors test read has_searched = has_searched
+fits_searched BadWords input sink errors test read has_searched = absurd has_searched
+fits_searched BadTest input sink errors test read has_searched = absurd has_searched
+fits_searched ReadFault input sink errors test read has_searched = absurd has_searched
+fits_searched Unwritten input sink errors test read has_searched = absurd has_searched
 
 pub searched : (result : Result Status WriteFault) (input : Input) (sink errors : Output) (test : Test) → HasRead input (λ bytes. IsTest bytes (test_said test))
     → IfOk result (λ s. HasSearched s test sink errors) → IfOk result (λ s. StatusTells s input sink errors)
-searched (Ok s) input sink errors test read h = fits_searched s input sink errors test read h
-searched (Err e) input sink errors test read h = tt
+searched (Ok status) input sink errors test read if_ok = fits_searched status input sink errors test read if_ok
+searched (Err e) input sink errors test read if_ok = tt
 
 -- what is known of a source where no test was read
 abbrev pub IsFaultOf : Input → TestFault → Type 0

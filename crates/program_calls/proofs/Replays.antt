@@ -31,7 +31,7 @@ noted_text : (bytes answer : List ℕ) (old kept version : ℕ) (ran again confi
     → (version ≡ kept) × (config ≡ again) × (others ≡ both) × (named ≡ schedule)
     → AllByRecursion IsOfSteps schedule → steps ≡ steps_named schedule → steps ≤ usual_steps
     → IsReplayIn version config others named steps answer found → IsNotedAs bytes found
-noted_text bytes answer old kept version ran again config scripts both others items more schedule named steps (Text text) reads run same is of_steps count few it = record {
+noted_text bytes answer old kept version ran again config scripts both others items more schedule named steps (Text text) reads run same is of_steps count at_most it = record {
   version = kept;
   config = again;
   scripts = both;
@@ -42,22 +42,22 @@ noted_text bytes answer old kept version ran again config scripts both others it
   replay = record {
     items = schedule;
     reads =
-        subst (λ (v : ℕ). Reads text.stored v again both schedule) is.0
+        subst (λ (version : ℕ). Reads text.stored version again both schedule) is.0
         (subst (λ (config : Config). Reads text.stored version config both schedule) is.1
         (subst (λ (ss : Scripts). Reads text.stored version config ss schedule) is.2 (subst (λ (all : List Item). Reads text.stored version config others all) is.3 it.reads)));
     of_steps = of_steps;
-    few = subst (λ (n : ℕ). n ≤ usual_steps) count few;
+    few = subst (λ (n : ℕ). n ≤ usual_steps) count at_most;
     replayed = λ limit enough. more_steps text.stored steps limit answer (omega (arith, count, enough)) it.replayed;
   };
 }
-noted_text bytes answer old kept version ran again config scripts both others items more schedule named steps Long reads run same is of_steps count few it = tt
-noted_text bytes answer old kept version ran again config scripts both others items more schedule named steps Other reads run same is of_steps count few it = tt
+noted_text bytes answer old kept version ran again config scripts both others items more schedule named steps Long reads run same is of_steps count at_most it = tt
+noted_text bytes answer old kept version ran again config scripts both others items more schedule named steps Other reads run same is of_steps count at_most it = tt
 
 pub noted_as : {E : Type 0} (result : Result Noted E) (bytes answer : List ℕ) (old kept version : ℕ) (ran again config : Config) (scripts both others : Scripts) (items more schedule named : List Item) (steps : ℕ)
     → Reads bytes old ran scripts items → ((some : List ℕ) → Reads some old ran scripts items → IsRun some answer) → Reads bytes kept again both more
     → (version ≡ kept) × (config ≡ again) × (others ≡ both) × (named ≡ schedule)
     → AllByRecursion IsOfSteps schedule → steps ≡ steps_named schedule → steps ≤ usual_steps
     → IfOk result (λ found. IsReplayIn version config others named steps answer found) → IfOk result (IsNotedAs bytes)
-noted_as (Ok found) bytes answer old kept version ran again config scripts both others items more schedule named steps reads run same is of_steps count few it =
-    noted_text bytes answer old kept version ran again config scripts both others items more schedule named steps found reads run same is of_steps count few it
-noted_as (Err e) bytes answer old kept version ran again config scripts both others items more schedule named steps reads run same is of_steps count few it = tt
+noted_as (Ok found) bytes answer old kept version ran again config scripts both others items more schedule named steps reads run same is of_steps count at_most it =
+    noted_text bytes answer old kept version ran again config scripts both others items more schedule named steps found reads run same is of_steps count at_most it
+noted_as (Err e) bytes answer old kept version ran again config scripts both others items more schedule named steps reads run same is of_steps count at_most it = tt

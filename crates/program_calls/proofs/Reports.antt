@@ -12,7 +12,7 @@ pub behind_some : {a b c : SinkStage} {x y : List ℕ} → Puts a b x → Puts b
 behind_some {a} {b} {c} {x} {y} p q = (x, puts_both p q)
 
 -- some texts were put, and behind them one behind some other
-pub behind_more : {a b c d : SinkStage} {v : List ℕ} → ((x : List ℕ) × Puts a b x) → ((y : List ℕ) × Puts b c y) → ((z : List ℕ) × Puts c d (z ++ v))
+pub behind_more : {a b c d : SinkStage} {v : List ℕ} → ((text : List ℕ) × Puts a b text) → ((other_text : List ℕ) × Puts b c other_text) → ((z : List ℕ) × Puts c d (z ++ v))
     → (front : List ℕ) × Puts a d (front ++ v)
 behind_more {a} {b} {c} {d} {v} s r t = (s.0 ++ (r.0 ++ t.0), puts_same same (puts_both s.1 (puts_both r.1 t.1)))
   where

@@ -4,6 +4,7 @@ use Rattle.std.specs.List.{flat_map, AllByRecursion}
 use Rattle.std.specs.Fmt.{decimal}
 use Rattle.std.proofs.lemmas.Fmt.{length-decimal-le}
 use Rattle.std.proofs.lemmas.List.Concat.{flat_map-cons}
+use Rattle.shen_graph.proofs.Lists.{all_with}
 use Rattle.heap_words.specs.declared.config.Config.{Config}
 use Rattle.heap_words.specs.declared.schedule.Item.{Item}
 use Rattle.heap_words.specs.declared.schedule.Item.TheVariants.{Steps, Until, Replies}
@@ -16,16 +17,12 @@ use Rattle.program_calls.specs.Noted.{IsOfSteps, steps_named}
 
 -- ---- one item more
 
-all_one : {X : Type 0} (P : X → Type 0) (xs : List X) (x : X) → AllByRecursion P xs → P x → AllByRecursion P (xs ++ x ∷ [])
-all_one P [] x all here = (here, tt)
-all_one P (y ∷ ys) x all here = (all.0, all_one P ys x all.1 here)
-
 pub items_one : (config : Config) (old new : List Item) (number count : ℕ) → new ≡ old ++ Steps number count ∷ [] → AllByRecursion (IsItem config) old → number < seat_count config.mutators config.helpers → 0 < count → count ≤ 4000000000
     → AllByRecursion (IsItem config) new
-items_one config old new number count is all here some few = subst (AllByRecursion (IsItem config)) (sym is) (all_one (IsItem config) old (Steps number count) all (here, (omega (arith, some), few)))
+items_one config old new number count is all here positive at_most = subst (AllByRecursion (IsItem config)) (sym is) (all_with (IsItem config) old (Steps number count) all (here, (omega (arith, positive), at_most)))
 
 pub of_steps_one : (old new : List Item) (number count : ℕ) → new ≡ old ++ Steps number count ∷ [] → AllByRecursion IsOfSteps old → AllByRecursion IsOfSteps new
-of_steps_one old new number count is all = subst (AllByRecursion IsOfSteps) (sym is) (all_one IsOfSteps old (Steps number count) all tt)
+of_steps_one old new number count is all = subst (AllByRecursion IsOfSteps) (sym is) (all_with IsOfSteps old (Steps number count) all tt)
 
 more_one : (items : List Item) (number count : ℕ) → steps_named (items ++ Steps number count ∷ []) ≡ steps_named items + count
 more_one [] number count = omega arith
@@ -67,9 +64,9 @@ schedule_bytes config (item ∷ items) good steps =
     omega (arith, items_bytes config (item ∷ items) good steps, line_bytes (item ∷ items), ap length (append-nil (schedule_line (item ∷ items))))
 
 -- A trace that can be written can be with another schedule, too, if there is room behind its text.
-writable : (v : ℕ) (config : Config) (scripts : List (List Command)) (old new : List Item) → IsWritable v config scripts old → AllByRecursion (IsItem config) new → AllByRecursion IsOfSteps new
-    → length (spelling_of v config scripts old) + 16 * length new ≤ most_bytes → IsWritable v config scripts new
-writable v config scripts old new can good steps room = record {
+writable : (version : ℕ) (config : Config) (scripts : List (List Command)) (old new : List Item) → IsWritable version config scripts old → AllByRecursion (IsItem config) new → AllByRecursion IsOfSteps new
+    → length (spelling_of version config scripts old) + 16 * length new ≤ most_bytes → IsWritable version config scripts new
+writable version config scripts old new can good steps room = record {
   known = can.known;
   narrow = can.narrow;
   threads = can.threads;
@@ -78,13 +75,13 @@ writable v config scripts old new can good steps room = record {
   short = omega (arith, schedule_bytes config new good steps, size old, size new, room);
 }
   where
-    size : (items : List Item) → length (spelling_of v config scripts items) ≡ length (header v config) + (length (flat_map line (lines_from 1 scripts)) + length (flat_map schedule_line (turns_of items)))
+    size : (items : List Item) → length (spelling_of version config scripts items) ≡ length (header version config) + (length (flat_map line (lines_from 1 scripts)) + length (flat_map schedule_line (turns_of items)))
     size items =
-        length-append (header v config) (flat_map line (lines_from 1 scripts) ++ flat_map schedule_line (turns_of items))
-        ∙ ap (λ (n : ℕ). length (header v config) + n) (length-append (flat_map line (lines_from 1 scripts)) (flat_map schedule_line (turns_of items)))
+        length-append (header version config) (flat_map line (lines_from 1 scripts) ++ flat_map schedule_line (turns_of items))
+        ∙ ap (λ (n : ℕ). length (header version config) + n) (length-append (flat_map line (lines_from 1 scripts)) (flat_map schedule_line (turns_of items)))
 
 -- the same of the text that was written, and its size
-pub fits_behind : (v : ℕ) (config : Config) (scripts : List (List Command)) (old new : List Item) (text : List ℕ) (size count : ℕ) → IsWritable v config scripts old → AllByRecursion (IsItem config) new → AllByRecursion IsOfSteps new
-    → text ≡ spelling_of v config scripts old → size ≡ length text → count ≡ length new → size + 16 * count ≤ most_bytes → IsWritable v config scripts new
-fits_behind v config scripts old new text size count can good steps is long many room =
-    let bytes = long ∙ ap length is in writable v config scripts old new can good steps (omega (arith, bytes, many, room))
+pub fits_behind : (version : ℕ) (config : Config) (scripts : List (List Command)) (old new : List Item) (text : List ℕ) (size count : ℕ) → IsWritable version config scripts old → AllByRecursion (IsItem config) new → AllByRecursion IsOfSteps new
+    → text ≡ spelling_of version config scripts old → size ≡ length text → count ≡ length new → size + 16 * count ≤ most_bytes → IsWritable version config scripts new
+fits_behind version config scripts old new text size count can good steps is long many room =
+    let bytes = long ∙ ap length is in writable version config scripts old new can good steps (omega (arith, bytes, many, room))

@@ -65,7 +65,7 @@ other_tells result input sink before after bytes version config scripts items ca
 -- a noted trace was written into the sink
 pub trace_tells : (result : Status) (input : Input) (errors before after : Outlet) (bytes text said : List ℕ) → Came input.before input.after bytes → IsNotedRun bytes text → said ≡ text → EndsWith said Ok result before after
     → NotingTells result input (over before after) (kept errors)
-trace_tells result input errors before after bytes text said came noted is ends = by_end (subst (λ t. EndsWith t Ok result before after) is ends).written
+trace_tells result input errors before after bytes text said came noted is ends = by_end (subst (λ text. EndsWith text Ok result before after) is ends).written
   where
     by_end : ((result ≡ Ok) × Appends before.written after.written text) ⊎ ((result ≡ WriteFault) × Rose before.faults after.faults × WritesFront before after text)
         → NotingTells result input (over before after) (kept errors)

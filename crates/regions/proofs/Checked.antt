@@ -8,7 +8,7 @@ use Rattle.regions.proofs.Flags.{kept_marked, kept_unmarked, kept_below}
 
 -- the words of the object at an index
 abbrev words : List ℕ → ℕ → ℕ
-words heap k = object_words (get_or heap (k + 1) 0)
+words heap address = object_words (get_or heap (address + 1) 0)
 
 -- a marked object lies within its region and within the heap
 abbrev fits : ℕ → List ℕ → List Bool → ℕ → Bool
@@ -24,8 +24,8 @@ yes k = true
 -- a kept address has a marked index
 marked_index : (w : ℕ) (heap : List ℕ) (marks : List Bool) (a : ℕ) → 0 < kept_of w heap marks a
     → (w ≤ a) × (get_or marks (a - w) false ≡ true) × (a - w < length marks) × (kept_of w heap marks a ≡ words heap (a - w))
-marked_index w heap marks a some = ⊎_elim
-    (λ (below : a < w). absurd (omega (arith, kept_below w heap marks a below, some)))
+marked_index w heap marks a positive = ⊎_elim
+    (λ (below : a < w). absurd (omega (arith, kept_below w heap marks a below, positive)))
     (λ (least : w ≤ a).
     let back : w + (a - w) ≡ a = omega (arith, least) in
     let same : kept_of w heap marks (w + (a - w)) ≡ kept_of w heap marks a = ap (kept_of w heap marks) back in
@@ -39,7 +39,7 @@ marked_index w heap marks a some = ⊎_elim
           (cases_lt (a - w) (length marks)),
       sym same ∙ kept_marked w heap marks (a - w) set,
     ))
-    (λ (unset : get_or marks (a - w) false ≡ false). absurd (omega (arith, same, some, kept_unmarked w heap marks (a - w) unset)))
+    (λ (unset : get_or marks (a - w) false ≡ false). absurd (omega (arith, same, positive, kept_unmarked w heap marks (a - w) unset)))
     (cases_Bool (get_or marks (a - w) false)))
     (cases_lt a w)
 
@@ -48,9 +48,9 @@ pub marked_if : (w : ℕ) (heap : List ℕ) (marks : List Bool) → 0 < w → le
     → agree_below (fits w heap marks) yes (length marks) ≡ true
     → agree_below (λ j. agree_below (ends_before heap marks j) yes (length marks)) yes (length marks) ≡ true
     → IsMarkedHeap w heap marks
-marked_if w heap marks some flags small one two = record {
+marked_if w heap marks positive flags small one two = record {
   apart = (record {
-    some = some;
+    some = positive;
     above = λ a begins. (marked_index w heap marks a begins).0;
     within = λ a begins.
         let at = marked_index w heap marks a begins in
@@ -130,9 +130,9 @@ can_compact_if w heap marks marked plain all = record {
       let row = agree_below_at (all_lead w heap marks) yes (length marks) k all at.2 in
       let refs = sym (cond-true (get_or marks k false) (agree_below (λ j. leads w heap marks (get_or heap (k + (3 + j)) 0)) yes (refs_in (get_or heap (k + 1) 0))) true at.1) ∙ row in
       let shape_index : a + 1 - w ≡ k + 1 = omega (arith, at.0) in
-      let shape : refs_in (word_of w heap (a + 1)) ≡ refs_in (get_or heap (k + 1) 0) = ap (λ j. refs_in (get_or heap j 0)) shape_index in
+      let shape : refs_in (word_of w heap (a + 1)) ≡ refs_in (get_or heap (k + 1) 0) = ap (λ index. refs_in (get_or heap index 0)) shape_index in
       let one = agree_below_at (λ j. leads w heap marks (get_or heap (k + (3 + j)) 0)) yes (refs_in (get_or heap (k + 1) 0)) i refs (omega (arith, few, shape)) in
       let word_index : a + (3 + i) - w ≡ k + (3 + i) = omega (arith, at.0) in
-      let word : word_of w heap (a + (3 + i)) ≡ get_or heap (k + (3 + i)) 0 = ap (λ j. get_or heap j 0) word_index in
+      let word : word_of w heap (a + (3 + i)) ≡ get_or heap (k + (3 + i)) 0 = ap (λ index. get_or heap index 0) word_index in
       leads_if w heap marks (word_of w heap (a + (3 + i))) (ap (leads w heap marks) word ∙ one);
 }

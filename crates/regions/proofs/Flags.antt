@@ -5,11 +5,11 @@ use Rattle.heap_words.specs.Encoding.{object_words}
 use Rattle.regions.specs.Table.{kept_of}
 
 -- the flag decides
-by_flag : (first : ℕ) (heap : List ℕ) (marks : List Bool) (k : ℕ)
-    → kept_of first heap marks (first + k) ≡ cond (nat_le first (first + k) && get_or marks k false) (object_words (get_or heap (k + 1) 0)) 0
+by_flag : (first : ℕ) (heap : List ℕ) (marks : List Bool) (index : ℕ)
+    → kept_of first heap marks (first + index) ≡ cond (nat_le first (first + index) && get_or marks index false) (object_words (get_or heap (index + 1) 0)) 0
 by_flag first heap marks k =
     let index : first + k - first ≡ k = omega arith in
-    ap (λ j. cond (nat_le first (first + k) && get_or marks j false) (object_words (get_or heap (j + 1) 0)) 0) index
+    ap (λ index. cond (nat_le first (first + k) && get_or marks index false) (object_words (get_or heap (index + 1) 0)) 0) index
 
 pub kept_marked : (first : ℕ) (heap : List ℕ) (marks : List Bool) (index : ℕ) → get_or marks index false ≡ true
     → kept_of first heap marks (first + index) ≡ object_words (get_or heap (index + 1) 0)

@@ -51,15 +51,15 @@ module _ (first : ℕ) (shut : ℕ → Bool) (heap : List ℕ) (marks : List Boo
 
   -- an address whose current copy is kept has the new place of that in the table
   place_of_current : (word : ℕ) → first ≤ word → word < first + length heap → 0 < kept (now word) → word_of first followed word ≡ place (now word)
-  place_of_current word low high some =
-      let above = can.marked.apart.above (now word) some in
-      let inside = can.marked.inside (now word) some in
-      let at : current_index first heap (word - first) ≡ now word - first = index_of_current first heap word above (omega (arith, inside, some)) in
-      let stays = can.current (now word) some in
+  place_of_current word low high positive =
+      let above = can.marked.apart.above (now word) positive in
+      let inside = can.marked.inside (now word) positive in
+      let at : current_index first heap (word - first) ≡ now word - first = index_of_current first heap word above (omega (arith, inside, positive)) in
+      let stays = can.current (now word) positive in
       let again : current_index first heap (now word - first) ≡ now word - first =
-      index_of_current first heap (now word) (omega (arith, stays, above)) (omega (arith, stays, inside, some)) ∙ ap (λ k. k - first) stays in
+      index_of_current first heap (now word) (omega (arith, stays, above)) (omega (arith, stays, inside, positive)) ∙ ap (λ k. k - first) stays in
       follows (word - first) (omega (arith, low, high)) (ap (current_index first heap) at ∙ again ∙ sym at)
-      ∙ ap (λ k. get_or assigned k 0) at ∙ have (now word) some
+      ∙ ap (λ index. get_or assigned index 0) at ∙ have (now word) positive
 
   -- so each kept object has its own
   pub have_places : HavePlaces first shut kept followed
@@ -105,6 +105,6 @@ module _ (first : ℕ) (shut : ℕ → Bool) (heap : List ℕ) (marks : List Boo
 -- each kept object lies in a heap of at most 64 regions
 pub in_rows : (first : ℕ) (heap : List ℕ) (marks : List Bool) (regions : ℕ) → CanCompact first heap marks → length heap ≡ regions * first → regions ≤ 64
     → (a : ℕ) → 0 < kept_of first heap marks a → a < 65 * first
-in_rows first heap marks regions can tile few a some =
-    let rows = mul-le regions first 64 first few (omega arith) in
-    omega (arith, can.marked.inside a some, some, tile, rows)
+in_rows first heap marks regions can tile at_most a positive =
+    let rows = mul-le regions first 64 first at_most (omega arith) in
+    omega (arith, can.marked.inside a positive, positive, tile, rows)

@@ -10,8 +10,8 @@ use Rattle.regions.specs.Sets.{IsIn, IsLowest, members_below, all_but}
 
 -- the lowest 1 of a word is its lowest member
 pub lowest_member : (set : ℕ) → 0 < set → set < 2 ^ 64 → IsLowest set (trailing_zeros w64 set)
-lowest_member set some fits =
-    let lowest = bit_at-trailing_zeros w64 set some fits in
+lowest_member set positive fits =
+    let lowest = bit_at-trailing_zeros w64 set positive fits in
     record { member = lowest.1; none_lower = lowest.2; in_word = lowest.0 }
 
 -- one digit has as many ones as it says

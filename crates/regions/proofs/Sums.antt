@@ -98,10 +98,10 @@ sum_front f zero = omega (arith, sum_next f 0, sum_none f, sum_none (λ k. f (su
 sum_front f (suc n) = omega (arith, sum_front f n, sum_next f (suc n), sum_next (λ k. f (suc k)) n)
 
 -- the sum over a list by its indexes
-pub sum_by_index : {X : Type 0} (size : X → ℕ) (xs : List X) (d : X) → sum_by size xs ≡ sum_below (λ k. size (get_or xs k d)) (length xs)
+pub sum_by_index : {X : Type 0} (size : X → ℕ) (xs : List X) (d : X) → sum_by size xs ≡ sum_below (λ index. size (get_or xs index d)) (length xs)
 sum_by_index size [] d = sym (sum_none (λ k. size (get_or [] k d)))
 sum_by_index size (x ∷ xs) d =
-    sum_by-cons size x xs ∙ ap (λ rest. size x + rest) (sum_by_index size xs d) ∙ sym (sum_front (λ k. size (get_or (x ∷ xs) k d)) (length xs))
+    sum_by-cons size x xs ∙ ap (λ rest. size x + rest) (sum_by_index size xs d) ∙ sym (sum_front (λ index. size (get_or (x ∷ xs) index d)) (length xs))
 
 -- the sum over two rows of numbers, one behind the other
 pub sum_of_two_rows : (f g : ℕ → ℕ) (n m : ℕ) → sum_below (λ k. if nat_lt k n then f k else g (k - n)) (n + m) ≡ sum_below f n + sum_below g m

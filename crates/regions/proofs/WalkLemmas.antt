@@ -10,17 +10,17 @@ use Rattle.regions.specs.Walk.{stride_at, Walks, met_within, met_from, IsParsabl
 
 -- an element of a list with a head is the head or a later one
 head_or_later_at : (index a : ℕ) (later : List ℕ) (x : ℕ) → index < length (a ∷ later) → get_or (a ∷ later) index x ≡ x → (a ≡ x) ⊎ Contains later x
-head_or_later_at zero a later x below e = inl e
-head_or_later_at (suc index) a later x below e = inr (index, omega arith, e)
+head_or_later_at zero a later x below same = inl same
+head_or_later_at (suc index) a later x below same = inr (index, omega arith, same)
 
 head_or_later : (a : ℕ) (later : List ℕ) (x : ℕ) → Contains (a ∷ later) x → (a ≡ x) ⊎ Contains later x
-head_or_later a later x h = head_or_later_at h.0 a later x h.1 h.2
+head_or_later a later x contains = head_or_later_at contains.0 a later x contains.1 contains.2
 
 contains_head : (a : ℕ) (later : List ℕ) (x : ℕ) → a ≡ x → Contains (a ∷ later) x
-contains_head a later x e = (0, omega arith, e)
+contains_head a later x same = (0, omega arith, same)
 
 contains_later : (a : ℕ) (later : List ℕ) (x : ℕ) → Contains later x → Contains (a ∷ later) x
-contains_later a later x h = Contains-append_right (a ∷ []) later x h
+contains_later a later x contains = Contains-append_right (a ∷ []) later x contains
 
 -- a walk never comes to an address below the one from which it set out
 pub walks_up : (words : ℕ → ℕ) (from end : ℕ) (addresses : List ℕ) → Walks words from end addresses → from ≤ end
@@ -30,8 +30,8 @@ walks_up words from end (a ∷ later) walk = omega (arith, walk.0, walks_up word
 -- an address that is met lies between the two, with all of its words
 pub met_inside : (words : ℕ → ℕ) (from end : ℕ) (addresses : List ℕ) → Walks words from end addresses
     → (x : ℕ) → Contains addresses x → (from ≤ x) × (x < x + words x) × (x + words x ≤ end)
-met_inside words from end [] walk x h = absurd (omega (arith, h.1))
-met_inside words from end (a ∷ later) walk x h =
+met_inside words from end [] walk x contains = absurd (omega (arith, contains.1))
+met_inside words from end (a ∷ later) walk x contains =
     let Inside : ℕ → Type 0 = λ y. (from ≤ y) × (y < y + words y) × (y + words y ≤ end) in
     let up : a + words a ≤ end = walks_up words (a + words a) end later walk.2 in
     let first : Inside a = (omega (arith, walk.0), omega (arith, walk.1), up) in
@@ -40,17 +40,17 @@ met_inside words from end (a ∷ later) walk x h =
     (λ (in_later : Contains later x).
     let rest = met_inside words (a + words a) end later walk.2 x in_later in
     (omega (arith, walk.0, rest.0), rest.1, rest.2))
-    (head_or_later a later x h)
+    (head_or_later a later x contains)
 
 -- what comes later than the first is above it, with all words of the first between
 later_above : (words : ℕ → ℕ) (a end : ℕ) (later : List ℕ) → Walks words (a + words a) end later → (x : ℕ) → Contains later x → a + words a ≤ x
-later_above words a end later walk x h = (met_inside words (a + words a) end later walk x h).0
+later_above words a end later walk x contains = (met_inside words (a + words a) end later walk x contains).0
 
 met_pairs : (words : ℕ → ℕ) (from end : ℕ) (addresses : List ℕ) → Walks words from end addresses → AllPairs (λ x y. x < y) addresses
 met_pairs words from end [] walk = λ i j d below last. absurd (omega (arith, last))
 met_pairs words from end (a ∷ later) walk =
     AllPairs-cons (λ x y. x < y) a later
-    (λ k d below. let above = later_above words a end later walk.2 (get_or later k d) (Contains-get_or later k d below) in omega (arith, above, walk.1))
+    (λ index d below. let above = later_above words a end later walk.2 (get_or later index d) (Contains-get_or later index d below) in omega (arith, above, walk.1))
     (met_pairs words (a + words a) end later walk.2)
 
 -- the addresses go up
@@ -91,8 +91,8 @@ met_covered words from end (a ∷ later) walk word above below =
 
 -- an address to which one comes from the same start is met
 pub met_reached : (words : ℕ → ℕ) (from end : ℕ) (addresses : List ℕ) → Walks words from end addresses
-    → (x : ℕ) (before : List ℕ) → Walks words from x before → x < end → Contains addresses x
-met_reached words from end [] walk x before to_x below = absurd (omega (arith, walk, walks_up words from x before to_x))
+    → (other_end : ℕ) (before : List ℕ) → Walks words from other_end before → other_end < end → Contains addresses other_end
+met_reached words from end [] walk other_end before to_x below = absurd (omega (arith, walk, walks_up words from other_end before to_x))
 met_reached words from end (a ∷ later) walk x [] to_x below = contains_head a later x (walk.0 ∙ to_x)
 met_reached words from end (a ∷ later) walk x (b ∷ before) to_x below =
     let From : ℕ → Type 0 = λ y. Walks words (y + words y) x before in
@@ -162,8 +162,8 @@ parsable_walks (suc steps) Begins words from end parsable enough =
 -- at each address that is met a thing begins
 parsable_begins : (Begins : ℕ → Type 0) (words : ℕ → ℕ) (from end : ℕ) (addresses : List ℕ) → IsParsableStretch Begins words from end
     → Walks words from end addresses → (x : ℕ) → Contains addresses x → Begins x
-parsable_begins Begins words from end [] parsable walk x h = absurd (omega (arith, h.1))
-parsable_begins Begins words from end (a ∷ later) parsable walk x h =
+parsable_begins Begins words from end [] parsable walk x contains = absurd (omega (arith, contains.1))
+parsable_begins Begins words from end (a ∷ later) parsable walk x contains =
     let up = walks_up words (a + words a) end later walk.2 in
     let below : from < end = omega (arith, up, walk.0, walk.1) in
     let Later : ℕ → Type 0 = λ y. Walks words (y + words y) end later in
@@ -172,7 +172,7 @@ parsable_begins Begins words from end (a ∷ later) parsable walk x h =
     (λ (in_later : Contains later x).
     parsable_begins Begins words (from + words from) end later (parsable_later Begins words from end parsable below)
     (subst Later walk.0 walk.2) x in_later)
-    (head_or_later a later x h)
+    (head_or_later a later x contains)
 
 -- where the heap is parsable, a walk meets exactly what begins there
 pub parsable_is_walked : (Begins : ℕ → Type 0) (words : ℕ → ℕ) (from end : ℕ) → IsParsableStretch Begins words from end
@@ -199,9 +199,9 @@ parsable_is_walked Begins words from end parsable =
 -- a walk with one more step
 walk_push : (words : ℕ → ℕ) (from at : ℕ) (before : List ℕ) → Walks words from at before → 0 < words at
     → Walks words from (at + words at) (before ++ at ∷ [])
-walk_push words from at [] walk some = (sym walk, some, refl)
-walk_push words from at (a ∷ later) walk some =
-    (walk.0, walk.1, walk_push words (a + words a) at later walk.2 some)
+walk_push words from at [] walk positive = (sym walk, positive, refl)
+walk_push words from at (a ∷ later) walk positive =
+    (walk.0, walk.1, walk_push words (a + words a) at later walk.2 positive)
 
 -- a walk that has come so far goes on to the address behind, which is not past the end
 pub walk_goes_on : WalkGoesOn

@@ -19,7 +19,7 @@ slid_word renew heap address index = placed_word renew (refs_in (heap (address +
 -- The heap after the kept objects that begin below an address were slid. Their words stand at their new places, and each
 -- other word of the heap, whose addresses begin at `first`, is as before.
 pub record IsSlidTo (end first : ℕ) (place kept renew before after : ℕ → ℕ) : Type 0 where
-  pub moved : (a i : ℕ) → a < end → i < kept a → after (place a + i) ≡ slid_word renew before a i
+  pub moved : (address index : ℕ) → address < end → index < kept address → after (place address + index) ≡ slid_word renew before address index
   pub others : (x : ℕ) → first ≤ x → ((a i : ℕ) → a < end → i < kept a → x ≢ place a + i) → after x ≡ before x
 
 -- whether the new place of an object covers an address
@@ -29,8 +29,8 @@ is_covered place kept a x = nat_le (place a) x && nat_lt x (place a + kept a)
 -- the same as a function: the word of the last of them whose new place covers an address, and where none does the old word
 unfoldable pub slid : (place kept renew before : ℕ → ℕ) → ℕ → ℕ → ℕ
 slid place kept renew before zero x = before x
-slid place kept renew before (suc a) x =
-    if is_covered place kept a x then slid_word renew before a (x - place a) else slid place kept renew before a x
+slid place kept renew before (suc address) x =
+    if is_covered place kept address x then slid_word renew before address (x - place address) else slid place kept renew before address x
 
 -- the places of kept objects lie apart, in whatever order
 abbrev pub PlacesApart : (place kept : ℕ → ℕ) → Type 0

@@ -22,11 +22,11 @@ PackingFits = (region_words : ℕ) (shut : ℕ → Bool) (kept : ℕ → ℕ) �
 -- Each kept object of an open region is placed at the top that its region has by then, no top is above the region's words, no word is
 -- placed in a shut region, and the tops of all regions are together the words of the kept objects of open regions.
 pub record TopsAreFilled (region_words : ℕ) (shut : ℕ → Bool) (kept : ℕ → ℕ) (regions : ℕ) : Type 0 where
-  pub at_top : (r a : ℕ) → 0 < open_kept region_words shut kept a → new_place region_words shut kept a / region_words ≡ r + 1
-      → new_place region_words shut kept a ≡ (r + 1) * region_words + top_before region_words shut kept r a
-  pub within : (r e : ℕ) → top_before region_words shut kept r e ≤ region_words
-  pub none_in_shut : (r e : ℕ) → shut (r + 1) ≡ true → top_before region_words shut kept r e ≡ 0
-  pub sum : (e : ℕ) → sum_below (λ r. top_before region_words shut kept r e) regions ≡ sum_below (open_kept region_words shut kept) e
+  pub at_top : (region a : ℕ) → 0 < open_kept region_words shut kept a → new_place region_words shut kept a / region_words ≡ region + 1
+      → new_place region_words shut kept a ≡ (region + 1) * region_words + top_before region_words shut kept region a
+  pub within : (region e : ℕ) → top_before region_words shut kept region e ≤ region_words
+  pub none_in_shut : (region e : ℕ) → shut (region + 1) ≡ true → top_before region_words shut kept region e ≡ 0
+  pub sum : (e : ℕ) → sum_below (λ region. top_before region_words shut kept region e) regions ≡ sum_below (open_kept region_words shut kept) e
 
 -- where all kept objects lie within so many regions, this holds of the tops after packing
 abbrev pub PackingFills : Type 0

@@ -44,7 +44,7 @@ AreInTable first kept heap places = (address i : ℕ) → 0 < kept address → i
 
 -- An object was moved from one index to another, and no other word was changed.
 pub record IsMovedTo (renew : ℕ → ℕ) (from to : ℕ) (before after : List ℕ) : Type 0 where
-  pub moved : (i : ℕ) → i < object_words (slice_index before (from + 1)) → slice_index after (to + i) ≡ slid_word renew (slice_index before) from i
+  pub moved : (index : ℕ) → index < object_words (slice_index before (from + 1)) → slice_index after (to + index) ≡ slid_word renew (slice_index before) from index
   pub below : (index : ℕ) → index < to → slice_index after index ≡ slice_index before index
   pub behind : (index : ℕ) → to + object_words (slice_index before (from + 1)) ≤ index → slice_index after index ≡ slice_index before index
 

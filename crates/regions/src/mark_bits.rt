@@ -52,10 +52,10 @@ pub fn grey_access(config: Config, address: u64) -> Access
     ensures inside { table_index result < table_words config }
 {
     // keeps KeepsMarking.greys, AreTraced, KeepsMarks and RelyMarks
-    Access::Or {
-        at: config.grey_at(mark_word(config, address)),
-        value: mark_mask(config, address),
-    }
+    Access::or(
+        config.grey_at(mark_word(config, address)),
+        mark_mask(config, address),
+    )
 }
 
 /// The access that makes an address of the heap black.
@@ -65,10 +65,10 @@ pub fn black_access(config: Config, address: u64) -> Access
     ensures inside { table_index result < table_words config }
 {
     // keeps KeepsMarking.blacks and AreTraced
-    Access::Or {
-        at: config.black_at(mark_word(config, address)),
-        value: mark_mask(config, address),
-    }
+    Access::or(
+        config.black_at(mark_word(config, address)),
+        mark_mask(config, address),
+    )
 }
 
 /// The address of the lowest bit that is set, in a word of marks of which these bits are some.

@@ -1,9 +1,10 @@
 -- What a mutator counts on while it records an address: it holds at each spot, whatever others do that leave its buffer, and
 -- what was recorded stays so.
 use Rattle.std.proofs.Common.{◌≡◌, ◌≢◌, ◌≤◌, ◌<◌, ℕ, ◌+◌, inl, inr, Bool, true, false, refl, sym, ap, ◌∙◌, subst, arith}
-use Rattle.std.specs.Prelude.{◌==◌, ◌&&◌, nat_lt, if◌then◌else◌, ⊤}
+use Rattle.std.specs.Prelude.{◌==◌, ◌&&◌, nat_lt, if◌then◌else◌}
 use Rattle.std.proofs.lemmas.Bool.{cond-true, cond-false, eq-eqb}
 use Rattle.std.proofs.lemmas.Bool.Decides.{nat_tests}
+use Rattle.heap_words.proofs.Bools.{if_either_way}
 use Rattle.heap_words.specs.declared.config.Config.{Config}
 use Rattle.heap_words.specs.Words.{Word, Count, Buffer, Heap, IsWord}
 use Rattle.heap_words.specs.Touch.{touch, touched, loads, stores}
@@ -12,7 +13,7 @@ use Rattle.regions.specs.Touches.{grey_touch}
 use Rattle.regions.proofs.MarksApart.{bit_below, bits_stay, mark_set}
 use Rattle.satb_barrier.specs.declared.spot.RememberSpot.{RememberSpot}
 use Rattle.satb_barrier.specs.declared.spot.RememberSpot.TheVariants.{LoadCount, LoadEntry, MarkEntry, ClearCount, StoreEntry, StoreCount, Recorded}
-use Rattle.satb_barrier.specs.Rows.{touch_at, next_at, is_ended, is_ready, IsFit}
+use Rattle.satb_barrier.specs.Rows.{touch_at, next_at, is_ended, IsFit}
 use Rattle.satb_barrier.specs.Recorded.{greys_in, IsRecorded, IsSatbBuffer, LeaveBuffer}
 use Rattle.satb_barrier.specs.Facts.{AreGrey, RememberFacts, CanRemember}
 
@@ -26,31 +27,31 @@ module _ (config : Config) (mutator : ℕ) (before after : Word → ℕ) (left :
   grey_stays address is = left.greys (mark_word config address) (mark_bit config address) (bit_below config address) is
 
   pub greys_stay : (n : ℕ) → n ≤ 8 → AreGrey config before mutator n → AreGrey config after mutator n
-  greys_stay n few are k below =
-      let entry : after (Buffer mutator k) ≡ before (Buffer mutator k) = left.entries k (omega (arith, below, few)) in
+  greys_stay n at_most are k below =
+      let entry : after (Buffer mutator k) ≡ before (Buffer mutator k) = left.entries k (omega (arith, below, at_most)) in
       subst (λ x. HasMark config (greys_in after) x) (sym entry) (grey_stays (before (Buffer mutator k)) (are k below))
 
   pub recorded_stays : before (Count mutator) ≤ 8 → KeepRecorded config mutator before after
-  recorded_stays few x (inl grey) = inl (grey_stays x grey)
-  recorded_stays few x (inr (k, below, is)) = inr (k, omega (arith, below, left.count), left.entries k (omega (arith, below, few)) ∙ is)
+  recorded_stays at_most x (inl grey) = inl (grey_stays x grey)
+  recorded_stays at_most x (inr (k, below, is)) = inr (k, omega (arith, below, left.count), left.entries k (omega (arith, below, at_most)) ∙ is)
 
   pub buffer_stays : IsSatbBuffer config before mutator → IsSatbBuffer config after mutator
   buffer_stays buffer = record {
     few = omega (arith, buffer.few, left.count);
     addresses = λ k below.
         let entry : after (Buffer mutator k) ≡ before (Buffer mutator k) = left.entries k (omega (arith, below, left.count, buffer.few)) in
-        subst (λ x. IsWord config (Heap x)) (sym entry) (buffer.addresses k (omega (arith, below, left.count)));
+        subst (λ address. IsWord config (Heap address)) (sym entry) (buffer.addresses k (omega (arith, below, left.count)));
   }
 
   pub facts_stay : (address : ℕ) (spot : RememberSpot) → before (Count mutator) ≤ 8 → RememberFacts config before mutator address spot → RememberFacts config after mutator address spot
-  facts_stay address LoadCount few facts = tt
-  facts_stay address (LoadEntry entry) few facts = (left.count ∙ facts.0, facts.1, greys_stay entry (omega (arith, facts.1)) facts.2)
-  facts_stay address (MarkEntry entry found) few facts =
+  facts_stay address LoadCount at_most facts = tt
+  facts_stay address (LoadEntry entry) at_most facts = (left.count ∙ facts.0, facts.1, greys_stay entry (omega (arith, facts.1)) facts.2)
+  facts_stay address (MarkEntry entry found) at_most facts =
       (left.count ∙ facts.0, facts.1, greys_stay entry (omega (arith, facts.1)) facts.2, left.entries entry facts.1 ∙ facts.3)
-  facts_stay address ClearCount few facts = (left.count ∙ facts.0, greys_stay 8 (omega arith) facts.1)
-  facts_stay address (StoreEntry entry) few facts = (left.count ∙ facts.0, facts.1)
-  facts_stay address (StoreCount entry) few facts = (left.count ∙ facts.0, facts.1, left.entries entry facts.1 ∙ facts.2)
-  facts_stay address Recorded few facts = recorded_stays few address facts
+  facts_stay address ClearCount at_most facts = (left.count ∙ facts.0, greys_stay 8 (omega arith) facts.1)
+  facts_stay address (StoreEntry entry) at_most facts = (left.count ∙ facts.0, facts.1)
+  facts_stay address (StoreCount entry) at_most facts = (left.count ∙ facts.0, facts.1, left.entries entry facts.1 ∙ facts.2)
+  facts_stay address Recorded at_most facts = recorded_stays at_most address facts
 
   pub can_remember_stays : (address : ℕ) (spot : RememberSpot) → CanRemember config before mutator address spot → CanRemember config after mutator address spot
   can_remember_stays address spot can = record { buffer = buffer_stays can.buffer; ready = can.ready; facts = facts_stay address spot can.buffer.few can.facts }
@@ -61,11 +62,6 @@ pub found_is_fit : (config : Config) (memory : Word → ℕ) (mutator address : 
 found_is_fit config memory mutator address LoadCount can = can.buffer.few
 found_is_fit config memory mutator address (LoadEntry entry) can = can.buffer.addresses entry (omega (arith, can.facts.0, can.facts.1))
 found_is_fit config memory mutator address _ can = tt
-
--- a number written where it stood
-stays_if : (holds : Bool) (n : ℕ) → (if holds then n else n) ≡ n
-stays_if true n = refl
-stays_if false n = refl
 
 module _ (config : Config) (memory : Word → ℕ) (mutator address : ℕ) where
   -- what the words are after the access of a spot
@@ -83,14 +79,14 @@ module _ (config : Config) (memory : Word → ℕ) (mutator address : ℕ) where
 
   -- a load, or one grey bit more, leaves the buffer
   count_loaded : LeaveBuffer mutator memory (touched memory (touch (Count mutator) loads))
-  count_loaded = record { count = stays_if (mutator == mutator) _; entries = λ k below. refl; greys = λ number bit below is. is }
+  count_loaded = record { count = if_either_way (mutator == mutator) _; entries = λ k below. refl; greys = λ number bit below is. is }
 
   entry_loaded : (entry : ℕ) → LeaveBuffer mutator memory (touched memory (touch (Buffer mutator entry) loads))
   entry_loaded entry = record { count = refl; entries = λ index below. by_entry index (entry == index) refl; greys = λ number bit below is. is }
     where
       by_entry : (index : ℕ) (holds : Bool) → (entry == index) ≡ holds → touched memory (touch (Buffer mutator entry) loads) (Buffer mutator index) ≡ memory (Buffer mutator index)
       by_entry index true is = let same : entry ≡ index = grind (arith, nat_tests) in
-          subst (λ i. touched memory (touch (Buffer mutator entry) loads) (Buffer mutator i) ≡ memory (Buffer mutator i)) same (stays_if ((mutator == mutator) && (entry == entry)) _)
+          subst (λ other_entry. touched memory (touch (Buffer mutator entry) loads) (Buffer mutator other_entry) ≡ memory (Buffer mutator other_entry)) same (if_either_way ((mutator == mutator) && (entry == entry)) _)
       by_entry index false is = cond-false ((mutator == mutator) && (entry == index)) _ _ (grind (arith, nat_tests))
 
   entry_marked : (x : ℕ) → LeaveBuffer mutator memory (touched memory (grey_touch config x))
@@ -151,7 +147,7 @@ module _ (config : Config) (memory : Word → ℕ) (mutator address : ℕ) where
         where
           by_place : (holds : Bool) → (k == entry) ≡ holds → HasMark config (greys_in (after (MarkEntry entry found))) (memory (Buffer mutator k))
           by_place true is =
-              let here : memory (Buffer mutator k) ≡ found = ap (λ i. memory (Buffer mutator i)) (grind (arith, nat_tests)) ∙ can.facts.3 in
+              let here : memory (Buffer mutator k) ≡ found = ap (λ entry. memory (Buffer mutator entry)) (grind (arith, nat_tests)) ∙ can.facts.3 in
               subst (λ x. HasMark config (greys_in (after (MarkEntry entry found))) x) (sym here) (mark_set config (greys_in memory) found)
           by_place false is =
               greys_stay config mutator memory (after (MarkEntry entry found)) left entry (omega (arith, can.facts.1)) can.facts.2 k (grind (arith, nat_tests))
@@ -180,22 +176,22 @@ module _ (config : Config) (memory : Word → ℕ) (mutator address : ℕ) where
           }
 
   -- the count after a store of it
-  count_stored : (n : ℕ) → touched memory (touch (Count mutator) (stores n)) (Count mutator) ≡ n
-  count_stored n = cond-true (mutator == mutator) n (memory (Count mutator)) (eq-eqb mutator mutator refl)
+  count_stored : (value : ℕ) → touched memory (touch (Count mutator) (stores value)) (Count mutator) ≡ value
+  count_stored value = cond-true (mutator == mutator) value (memory (Count mutator)) (eq-eqb mutator mutator refl)
 
   -- an entry after a store of one
-  entry_stored : (entry x : ℕ) → touched memory (touch (Buffer mutator entry) (stores x)) (Buffer mutator entry) ≡ x
-  entry_stored entry x = cond-true ((mutator == mutator) && (entry == entry)) x (memory (Buffer mutator entry)) (grind (arith, nat_tests))
+  entry_stored : (entry value : ℕ) → touched memory (touch (Buffer mutator entry) (stores value)) (Buffer mutator entry) ≡ value
+  entry_stored entry value = cond-true ((mutator == mutator) && (entry == entry)) value (memory (Buffer mutator entry)) (grind (arith, nat_tests))
 
-  entry_else : (entry x index : ℕ) → entry ≢ index → touched memory (touch (Buffer mutator entry) (stores x)) (Buffer mutator index) ≡ memory (Buffer mutator index)
-  entry_else entry x index other = cond-false ((mutator == mutator) && (entry == index)) x (memory (Buffer mutator index)) (grind (arith, nat_tests))
+  entry_else : (entry value index : ℕ) → entry ≢ index → touched memory (touch (Buffer mutator entry) (stores value)) (Buffer mutator index) ≡ memory (Buffer mutator index)
+  entry_else entry value index other = cond-false ((mutator == mutator) && (entry == index)) value (memory (Buffer mutator index)) (grind (arith, nat_tests))
 
   step_clear_count : CanRemember config memory mutator address ClearCount → RememberStep ClearCount
   step_clear_count can =
       let zero : after ClearCount (Count mutator) ≡ 0 = count_stored 0 in
       record {
         next = record {
-          buffer = record { few = omega (arith, zero); addresses = λ k below. absurd (omega (arith, below, zero)) };
+          buffer = record { few = omega (arith, zero); addresses = λ index below. absurd (omega (arith, below, zero)) };
           ready = refl;
           facts = (zero, omega arith);
         };
@@ -211,7 +207,7 @@ module _ (config : Config) (memory : Word → ℕ) (mutator address : ℕ) where
     next = record {
       buffer = record {
         few = can.buffer.few;
-        addresses = λ index below. subst (λ x. IsWord config (Heap x)) (sym (below_stays index below)) (can.buffer.addresses index below);
+        addresses = λ index below. subst (λ address. IsWord config (Heap address)) (sym (below_stays index below)) (can.buffer.addresses index below);
       };
       ready = can.ready;
       facts = (can.facts.0, can.facts.1, entry_stored entry address);
@@ -243,8 +239,8 @@ module _ (config : Config) (memory : Word → ℕ) (mutator address : ℕ) where
     where
       addresses_then : (index : ℕ) (holds : Bool) → (index == entry) ≡ holds → index < entry + 1 → IsWord config (Heap (memory (Buffer mutator index)))
       addresses_then index true is below =
-          let here : memory (Buffer mutator index) ≡ address = ap (λ i. memory (Buffer mutator i)) (grind (arith, nat_tests)) ∙ can.facts.2 in
-          subst (λ x. IsWord config (Heap x)) (sym here) heap
+          let here : memory (Buffer mutator index) ≡ address = ap (λ entry. memory (Buffer mutator entry)) (grind (arith, nat_tests)) ∙ can.facts.2 in
+          subst (λ address. IsWord config (Heap address)) (sym here) heap
       addresses_then index false is below = can.buffer.addresses index (grind (arith, nat_tests, can.facts.0))
 
       keeps_all : after (StoreCount entry) (Count mutator) ≡ entry + 1 → KeepRecorded config mutator memory (after (StoreCount entry))

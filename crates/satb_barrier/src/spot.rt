@@ -85,28 +85,21 @@ impl RememberSpot {
         ensures inside { table_index result < table_words config }
     {
         match self {
-            RememberSpot::LoadCount => Access::Load {
-                at: config.count_at(mutator),
-            },
-            RememberSpot::LoadEntry { entry } => Access::Load {
-                at: config.buffer_at(mutator, entry),
-            },
+            RememberSpot::LoadCount => Access::load(config.count_at(mutator)),
+            RememberSpot::LoadEntry { entry } => Access::load(config.buffer_at(mutator, entry)),
             RememberSpot::MarkEntry { found, .. } => grey_access(config, found),
             // keeps AreTraced, KeepsMarks and ScanFacts: the entries are grey
-            RememberSpot::ClearCount => Access::Store {
-                at: config.count_at(mutator),
-                value: 0,
-            },
+            RememberSpot::ClearCount => Access::store(config.count_at(mutator), 0),
             // keeps KeepsMarks: the entry does not count yet
-            RememberSpot::StoreEntry { entry } => Access::Store {
-                at: config.buffer_at(mutator, entry),
-                value: address,
-            },
+            RememberSpot::StoreEntry { entry } => Access::store(
+                config.buffer_at(mutator, entry),
+                address,
+            ),
             // keeps KeepsMarking.entries, AreTraced and IsCovered
-            RememberSpot::StoreCount { entry } => Access::Store {
-                at: config.count_at(mutator),
-                value: entry as u64 + 1,
-            },
+            RememberSpot::StoreCount { entry } => Access::store(
+                config.count_at(mutator),
+                entry as u64 + 1,
+            ),
             RememberSpot::Recorded => unreachable!(),
         }
     }

@@ -64,14 +64,14 @@ module _ {R O : Type 0} (kind : MachineKind R O) where
   go-uncounted : (s : Stage (Counted R)) (events : List (Event O)) → uncounted_stage (go (counting kind) s events) ≡ go kind (uncounted_stage s) events
   unfolding go
   go-uncounted s [] = refl
-  go-uncounted s (e ∷ es) = go-uncounted (act (counting kind) s e) es ∙ ap (λ x. go kind x es) (act-uncounted s e)
+  go-uncounted s (event ∷ rest) = go-uncounted (act (counting kind) s event) rest ∙ ap (λ x. go kind x rest) (act-uncounted s event)
 
   module _ (start : Stage R) where
     runs : (events : List (Event O)) → uncounted_stage (go (counting kind) (counted_from start) events) ≡ go kind start events
     runs events = go-uncounted (counted_from start) events ∙ ap (λ x. go kind x events) (stage_back start)
 
-    reached_uncounted : (s : Stage (Counted R)) → IsReached (counting kind) (counted_from start) s → IsReached kind start (uncounted_stage s)
-    reached_uncounted s reached = record { events = reached.events; ends = sym (runs reached.events) ∙ ap uncounted_stage reached.ends }
+    reached_uncounted : (end : Stage (Counted R)) → IsReached (counting kind) (counted_from start) end → IsReached kind start (uncounted_stage end)
+    reached_uncounted end reached = record { events = reached.events; ends = sym (runs reached.events) ∙ ap uncounted_stage reached.ends }
 
     pub view_reached : (words : List ℕ) (view : View (Counted R)) → IsReached (counting kind) (counted_from start) (record { words = words; machines = machines_of view })
         → IsReached kind start (record { words = words; machines = machines_of (uncounted_view view) })
@@ -111,7 +111,7 @@ module _ {R O : Type 0} (kind : MachineKind R O) where
   -- a machine that can make its access can do so where it counts its steps
   pub can_counted : (view : View (Counted R)) (number : ℕ) (order : O) (access : Access)
       → (r : R) × (machine_of (uncounted_view view) number ≡ Some r) × (kind.takes r order ≡ true) × (kind.plan r order ≡ access)
-      → (x : Counted R) × (machine_of view number ≡ Some x) × ((counting kind).takes x order ≡ true) × ((counting kind).plan x order ≡ access)
+      → (counted : Counted R) × (machine_of view number ≡ Some counted) × ((counting kind).takes counted order ≡ true) × ((counting kind).plan counted order ≡ access)
   can_counted view number order access can =
       let m = kept_here uncounted_machine view number can.0 can.1 in
       (m.0, m.1, ap (λ r. kind.takes r order) m.2 ∙ can.2, ap (λ r. kind.plan r order) m.2 ∙ can.3)

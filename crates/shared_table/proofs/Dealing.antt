@@ -27,32 +27,32 @@ module _ {R : Type 0} where
   length-merged (x ∷ xs) [] long = refl
   length-merged (x ∷ xs) (y ∷ ys) long = ap suc (length-merged xs ys (omega arith))
 
-  pub picked_same : (p q : ℕ → Bool) (view : View R) → ((k : ℕ) → p k ≡ q k) → machines_picked p view ≡ machines_picked q view
-  picked_same p q view same = same_view _ _ (length-picked p view ∙ sym (length-picked q view))
-      (λ k. let a = machine_of-picked p view k in let b = machine_of-picked q view k in rw (a, b, same k) refl)
+  pub picked_same : (test other_test : ℕ → Bool) (view : View R) → ((k : ℕ) → test k ≡ other_test k) → machines_picked test view ≡ machines_picked other_test view
+  picked_same test other_test view same = same_view _ _ (length-picked test view ∙ sym (length-picked other_test view))
+      (λ k. let a = machine_of-picked test view k in let b = machine_of-picked other_test view k in rw (a, b, same k) refl)
 
   -- what passes one test and then another passes both
-  pub picked_twice : (p q r : ℕ → Bool) (view : View R) → ((k : ℕ) → (if p k then q k else false) ≡ r k) → machines_picked p (machines_picked q view) ≡ machines_picked r view
-  picked_twice p q r view both = same_view _ _ (length-picked p (machines_picked q view) ∙ length-picked q view ∙ sym (length-picked r view))
+  pub picked_twice : (test other_test r : ℕ → Bool) (view : View R) → ((k : ℕ) → (if test k then other_test k else false) ≡ r k) → machines_picked test (machines_picked other_test view) ≡ machines_picked r view
+  picked_twice test other_test r view both = same_view _ _ (length-picked test (machines_picked other_test view) ∙ length-picked other_test view ∙ sym (length-picked r view))
       (λ k.
-      let a = machine_of-picked p (machines_picked q view) k in
-      let b = machine_of-picked q view k in
+      let a = machine_of-picked test (machines_picked other_test view) k in
+      let b = machine_of-picked other_test view k in
       let c = machine_of-picked r view k in
-      rw (a, b, c, ← both k) (by_tests (p k) (q k) (machine_of view k)))
+      rw (a, b, c, ← both k) (by_tests (test k) (other_test k) (machine_of view k)))
     where
       by_tests : (a b : Bool) (found : Option R) → (if a then (if b then found else None) else None) ≡ (if (if a then b else false) then found else None)
       by_tests true b found = refl
       by_tests false b found = refl
 
   -- what passes one test or another, of two parts of one view
-  pub merged_picked : (p q r : ℕ → Bool) (view : View R) → ((k : ℕ) → (if p k then true else q k) ≡ r k) → merged (machines_picked p view) (machines_picked q view) ≡ machines_picked r view
-  merged_picked p q r view one = same_view _ _ (length-merged _ _ (length-picked p view ∙ sym (length-picked q view)) ∙ length-picked p view ∙ sym (length-picked r view))
+  pub merged_picked : (test other_test r : ℕ → Bool) (view : View R) → ((k : ℕ) → (if test k then true else other_test k) ≡ r k) → merged (machines_picked test view) (machines_picked other_test view) ≡ machines_picked r view
+  merged_picked test other_test r view one = same_view _ _ (length-merged _ _ (length-picked test view ∙ sym (length-picked other_test view)) ∙ length-picked test view ∙ sym (length-picked r view))
       (λ k.
-      let a = machine_of-merged (machines_picked p view) (machines_picked q view) k in
-      let b = machine_of-picked p view k in
-      let c = machine_of-picked q view k in
+      let a = machine_of-merged (machines_picked test view) (machines_picked other_test view) k in
+      let b = machine_of-picked test view k in
+      let c = machine_of-picked other_test view k in
       let d = machine_of-picked r view k in
-      rw (a, b, c, d, ← one k) (by_tests (p k) (q k) (machine_of view k)))
+      rw (a, b, c, d, ← one k) (by_tests (test k) (other_test k) (machine_of view k)))
     where
       by_tests : (a b : Bool) (found : Option R) → whichever_is_there (if a then found else None) (if b then found else None) ≡ (if (if a then true else b) then found else None)
       by_tests true b None = by_b b
@@ -64,8 +64,8 @@ module _ {R : Type 0} where
       by_tests false b found = refl
 
   -- what passes every test
-  pub picked_all : (p : ℕ → Bool) (view : View R) → ((k : ℕ) → p k ≡ true) → machines_picked p view ≡ view
-  picked_all p view each = same_view _ _ (length-picked p view) (λ k. let a = machine_of-picked p view k in rw (a, each k) refl)
+  pub picked_all : (test : ℕ → Bool) (view : View R) → ((k : ℕ) → test k ≡ true) → machines_picked test view ≡ view
+  picked_all test view each = same_view _ _ (length-picked test view) (λ k. let a = machine_of-picked test view k in rw (a, each k) refl)
 
   -- a part and what is left over are all
   pub merged_rest : (p : ℕ → Bool) (view : View R) → merged (machines_left p view) (machines_picked p view) ≡ view
@@ -77,7 +77,7 @@ module _ {R : Type 0} where
 
   module _ (bundles bundle : ℕ) (view : View R) where
     pub deals_all : 0 < bundles → dealt_below bundles bundles view ≡ view
-    deals_all some = picked_all (is_dealt_below bundles bundles) view (λ k. grind (arith, nat_tests))
+    deals_all positive = picked_all (is_dealt_below bundles bundles) view (λ k. grind (arith, nat_tests))
 
     pub deals_first : dealt_below bundles 1 view ≡ dealt_to bundles 0 view
     deals_first = picked_same (is_dealt_below bundles 1) (is_dealt_to bundles 0) view (λ k. grind (arith, nat_tests))

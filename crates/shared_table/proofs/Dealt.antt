@@ -19,12 +19,12 @@ module _ {R : Type 0} (machines : List R) where
       shows zero number = grind (arith, nat_tests, machine_of-whole machines number)
       shows (suc seat) number = grind (arith, nat_tests)
 
-  module _ (views : List (View R)) (dealt : IsDealt machines views) (id : ℕ) (v : View R) (at : get_elem? views id ≡ some v) where
+  module _ (views : List (View R)) (dealt : IsDealt machines views) (id : ℕ) (view : View R) (at : get_elem? views id ≡ some view) where
     -- what the seat's view has
-    has : (number : ℕ) → machine_of v number ≡ (if id == dealt.owner number then slice_get machines number else None)
-    has number = sym (shown-at views id number v at) ∙ dealt.shows id number
+    has : (number : ℕ) → machine_of view number ≡ (if id == dealt.owner number then slice_get machines number else None)
+    has number = sym (shown-at views id number view at) ∙ dealt.shows id number
 
-    module _ (number : ℕ) (r : R) (here : machine_of v number ≡ Some r) where
+    module _ (number : ℕ) (r : R) (here : machine_of view number ≡ Some r) where
       pub owner-is : dealt.owner number ≡ id
       owner-is = let h = has number in grind (arith, nat_tests)
 
@@ -32,13 +32,13 @@ module _ {R : Type 0} (machines : List R) where
       machine-is = let h = has number in grind (arith, nat_tests)
 
       -- a machine goes on
-      pub dealt_step : (next : R) → IsDealt (slice_set machines number next) (slice_set views id (slice_set v number (Some next)))
+      pub dealt_step : (next : R) → IsDealt (slice_set machines number next) (slice_set views id (slice_set view number (Some next)))
       dealt_step next = record { owner = dealt.owner; shows = shows }
         where
-          shows : (seat k : ℕ) → seen_under (slice_set views id (slice_set v number (Some next))) seat k ≡ (if seat == dealt.owner k then slice_get (slice_set machines number next) k else None)
+          shows : (seat k : ℕ) → seen_under (slice_set views id (slice_set view number (Some next))) seat k ≡ (if seat == dealt.owner k then slice_get (slice_set machines number next) k else None)
           shows seat k =
-              let a = shown-set views id v (slice_set v number (Some next)) at seat k in
-              let b = machine_of-set v number r (Some next) here k in
+              let a = shown-set views id view (slice_set view number (Some next)) at seat k in
+              let b = machine_of-set view number r (Some next) here k in
               let c = slice_get-set machines number r next machine-is k in
               let d = has k in
               let e = dealt.shows seat k in
@@ -46,40 +46,40 @@ module _ {R : Type 0} (machines : List R) where
               grind (arith, nat_tests)
 
     -- the machines whose numbers pass a test go to a seat of their own
-    pub dealt_split : (test : ℕ → Bool) → IsDealt machines (slice_set views id (machines_left test v) ++ machines_picked test v ∷ [])
-    dealt_split test = record { owner = λ k. if test k then (if dealt.owner k == id then length views else dealt.owner k) else dealt.owner k; shows = shows }
+    pub dealt_split : (test : ℕ → Bool) → IsDealt machines (slice_set views id (machines_left test view) ++ machines_picked test view ∷ [])
+    dealt_split test = record { owner = λ region. if test region then (if dealt.owner region == id then length views else dealt.owner region) else dealt.owner region; shows = shows }
       where
         by_test : (seat k : ℕ) (b : Bool)
-            → (if seat == length views then (if b then machine_of v k else None) else (if seat == id then (if not b then machine_of v k else None) else seen_under views seat k))
+            → (if seat == length views then (if b then machine_of view k else None) else (if seat == id then (if not b then machine_of view k else None) else seen_under views seat k))
             ≡ (if seat == (if b then (if dealt.owner k == id then length views else dealt.owner k) else dealt.owner k) then slice_get machines k else None)
         by_test seat k true =
             let a = dealt.shows seat k in
             let b = has k in
             let c = dealt.shows (length views) k in
             let d = shown-past views (length views) k (omega arith) in
-            let e = seat_below views id v at in
+            let e = seat_below views id view at in
             grind (arith, nat_tests)
         by_test seat k false =
             let a = dealt.shows seat k in
             let b = has k in
             let c = dealt.shows (length views) k in
             let d = shown-past views (length views) k (omega arith) in
-            let e = seat_below views id v at in
+            let e = seat_below views id view at in
             grind (arith, nat_tests)
 
-        shows : (seat k : ℕ) → seen_under (slice_set views id (machines_left test v) ++ machines_picked test v ∷ []) seat k
+        shows : (seat k : ℕ) → seen_under (slice_set views id (machines_left test view) ++ machines_picked test view ∷ []) seat k
             ≡ (if seat == (if test k then (if dealt.owner k == id then length views else dealt.owner k) else dealt.owner k) then slice_get machines k else None)
         shows seat k =
-            let a = shown-last (slice_set views id (machines_left test v)) (machines_picked test v) seat k in
-            let b = shown-set views id v (machines_left test v) at seat k in
-            let c = machine_of-picked test v k in
-            let d = machine_of-picked (λ n. not (test n)) v k in
-            let e = length-set views id (machines_left test v) in
+            let a = shown-last (slice_set views id (machines_left test view)) (machines_picked test view) seat k in
+            let b = shown-set views id view (machines_left test view) at seat k in
+            let c = machine_of-picked test view k in
+            let d = machine_of-picked (λ n. not (test n)) view k in
+            let e = length-set views id (machines_left test view) in
             rw (a, e, b, c, d) (by_test seat k (test k))
 
     -- a view takes in another
-    pub dealt_join : (other : ℕ) (w : View R) → other ≢ id → get_elem? (slice_set views id (merged v w)) other ≡ some w → IsDealt machines (slice_set (slice_set views id (merged v w)) other [])
-    dealt_join other w apart there = record { owner = λ k. if dealt.owner k == other then id else dealt.owner k; shows = shows }
+    pub dealt_join : (other : ℕ) (w : View R) → other ≢ id → get_elem? (slice_set views id (merged view w)) other ≡ some w → IsDealt machines (slice_set (slice_set views id (merged view w)) other [])
+    dealt_join other w apart there = record { owner = λ region. if dealt.owner region == other then id else dealt.owner region; shows = shows }
       where
         by_owner : (o seat : ℕ) (x : Option R)
             → (if seat == other then None else (if seat == id then whichever_is_there (if id == o then x else None) (if other == o then x else None) else (if seat == o then x else None)))
@@ -88,13 +88,13 @@ module _ {R : Type 0} (machines : List R) where
         by_owner o seat (Some r) = grind (arith, nat_tests)
 
         was : get_elem? views other ≡ some w
-        was = sym (set_else views id other (merged v w) apart) ∙ there
+        was = sym (set_else views id other (merged view w) apart) ∙ there
 
-        shows : (seat k : ℕ) → seen_under (slice_set (slice_set views id (merged v w)) other []) seat k ≡ (if seat == (if dealt.owner k == other then id else dealt.owner k) then slice_get machines k else None)
+        shows : (seat k : ℕ) → seen_under (slice_set (slice_set views id (merged view w)) other []) seat k ≡ (if seat == (if dealt.owner k == other then id else dealt.owner k) then slice_get machines k else None)
         shows seat k =
-            let a = shown-set (slice_set views id (merged v w)) other w [] there seat k in
-            let b = shown-set views id v (merged v w) at seat k in
-            let c = machine_of-merged v w k in
+            let a = shown-set (slice_set views id (merged view w)) other w [] there seat k in
+            let b = shown-set views id view (merged view w) at seat k in
+            let c = machine_of-merged view w k in
             let d = has k in
-            let e : machine_of w k ≡ (if other == dealt.owner k then slice_get machines k else None) = sym (shown-at views other k w was) ∙ dealt.shows other k in
-            rw (a, b, c, d, e, dealt.shows seat k) (by_owner (dealt.owner k) seat (slice_get machines k))
+            let same : machine_of w k ≡ (if other == dealt.owner k then slice_get machines k else None) = sym (shown-at views other k w was) ∙ dealt.shows other k in
+            rw (a, b, c, d, same, dealt.shows seat k) (by_owner (dealt.owner k) seat (slice_get machines k))

@@ -40,7 +40,7 @@ module _ {R T : Type 0} (kept : R → T) where
       by_test false found = refl
 
   pub kept-merged : (view other_view : View R) → kept_in_view kept (merged view other_view) ≡ merged (kept_in_view kept view) (kept_in_view kept other_view)
-  kept-merged [] other_view = refl
+  kept-merged [] view = refl
   kept-merged (found ∷ xs) [] = refl
   kept-merged (found ∷ xs) (other_found ∷ ys) =
       let head : kept_one kept (whichever_is_there found other_found) ≡ whichever_is_there (kept_one kept found) (kept_one kept other_found) = by_cases found other_found in

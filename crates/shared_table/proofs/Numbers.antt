@@ -15,7 +15,7 @@ module _ {R : Type 0} where
   same_none view = record { long = refl; here = λ k. refl }
 
   pub same_more : (v w x : View R) → SameNumbers v w → SameNumbers w x → SameNumbers v x
-  same_more v w x a b = record { long = b.long ∙ a.long; here = λ k. b.here k ∙ a.here k }
+  same_more view other_view x same_numbers b = record { long = b.long ∙ same_numbers.long; here = λ k. b.here k ∙ same_numbers.here k }
 
   -- a machine goes on
   pub same_step : (view : View R) (number : ℕ) (r next : R) → machine_of view number ≡ Some r → SameNumbers view (slice_set view number (Some next))
@@ -29,17 +29,17 @@ module _ {R : Type 0} where
       by_number k false is = rw is refl
 
   some_of : (found other_found : Option R) → is_some (whichever_is_there found other_found) ≡ (is_some found || is_some other_found)
-  some_of None other_found = refl
-  some_of (Some r) other_found = refl
+  some_of None found = refl
+  some_of (Some r) found = refl
 
   -- bundles are joined
   pub same_merged : (v w x y : View R) → length v ≡ length x → SameNumbers v w → SameNumbers x y → SameNumbers (merged v x) (merged w y)
-  same_merged v w x y long a b = record {
-    long = length-merged w y (a.long ∙ long ∙ sym b.long) ∙ a.long ∙ sym (length-merged v x long);
+  same_merged view other_view x y long same_numbers b = record {
+    long = length-merged other_view y (same_numbers.long ∙ long ∙ sym b.long) ∙ same_numbers.long ∙ sym (length-merged view x long);
     here = λ k.
-        ap is_some (machine_of-merged w y k) ∙ some_of (machine_of w k) (machine_of y k)
-        ∙ ap (λ p. p || is_some (machine_of y k)) (a.here k) ∙ ap (λ p. is_some (machine_of v k) || p) (b.here k)
-        ∙ sym (ap is_some (machine_of-merged v x k) ∙ some_of (machine_of v k) (machine_of x k));
+        ap is_some (machine_of-merged other_view y k) ∙ some_of (machine_of other_view k) (machine_of y k)
+        ∙ ap (λ p. p || is_some (machine_of y k)) (same_numbers.here k) ∙ ap (λ p. is_some (machine_of view k) || p) (b.here k)
+        ∙ sym (ap is_some (machine_of-merged view x k) ∙ some_of (machine_of view k) (machine_of x k));
   }
 
   -- where each number has its machine, the view has all
@@ -56,7 +56,7 @@ module _ {R : Type 0} where
   -- the machines of the opening have gone on
   pub same_whole : (machines : List R) (view : View R) → SameNumbers (whole machines) view → HasAllMachines (length machines) view
   same_whole machines view same = record {
-    all = all_here view (λ k within. same.here k ∙ whole_here machines k (let a : length view ≡ length machines = same.long ∙ length-whole machines in omega arith));
+    all = all_here view (λ index within. same.here index ∙ whole_here machines index (let a : length view ≡ length machines = same.long ∙ length-whole machines in omega arith));
     counts = same.long ∙ length-whole machines;
   }
 

@@ -43,7 +43,7 @@ module _ {R O : Type 0} (kind : MachineKind R O) (start : Stage R) where
           let same : k ≡ number = grind (arith, nat_tests) in
           let new : kind.took took.machine order got ≡ r = let a = there in cc (rw is at there) in
           let reached = (tells kind start number order before after got took.machine took took.here).1 in
-          ∣ subst (λ (n : ℕ). HasReached kind start n r) (sym same) (subst (λ (m : R). HasReached kind start number m) new reached) ∣₁
+          ∣ subst (λ (number : ℕ). HasReached kind start number r) (sym same) (subst (λ (m : R). HasReached kind start number m) new reached) ∣₁
       by_number false is = each k r (rw is at there)
 
   pub reach_laws : {S : Type 0} → ReachLaws S kind start

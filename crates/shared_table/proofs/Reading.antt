@@ -10,8 +10,8 @@ use Rattle.shared_table.specs.Rule.{IsDealt, Rule}
 use Rattle.shared_table.proofs.Closing.{length-go, whole_has_all}
 use Rattle.shared_table.specs.Gathered.{StandInSomeRun, TellsOfRun}
 
-same_words : (words : List ℕ) (at : ℕ) → slice_set words at (slice_index words at) ≡ words
-same_words [] at = refl
+same_words : (words : List ℕ) (index : ℕ) → slice_set words index (slice_index words index) ≡ words
+same_words [] index = refl
 same_words (n ∷ ns) zero = refl
 same_words (n ∷ ns) (suc at) = λ i. n ∷ same_words ns at i
 
@@ -24,12 +24,12 @@ same_views (w ∷ ws) zero v here = λ i. sym (same_some w v here) i ∷ ws
 same_views (w ∷ ws) (suc id) v here = λ i. w ∷ same_views ws id v here i
 
 module _ {R O : Type 0} (kind : MachineKind R O) (start : Stage R) {S : Type 0} where
-  run_of_all : (s : State S (View R)) → Rule kind start s → (id : ℕ) (view : View R) → get_elem? s.views id ≡ some view → HasAllMachines (length start.machines) view → StandInSomeRun kind start view
-  run_of_all s kept id view at all =
-      let x : Stage R = go kind start kept.events in
-      let long : length x.machines ≡ length start.machines = length-go kind start kept.events in
-      let same : machines_of view ≡ x.machines = whole_has_all x.machines s.views kept.dealt id view at (subst (λ (n : ℕ). HasAllMachines n view) (sym long) all) in
-      record { words = x.words; reached = record { events = kept.events; ends = λ i. record { words = x.words; machines = sym same i } } }
+  run_of_all : (state : State S (View R)) → Rule kind start state → (id : ℕ) (view : View R) → get_elem? state.views id ≡ some view → HasAllMachines (length start.machines) view → StandInSomeRun kind start view
+  run_of_all state kept id view at all =
+      let stage : Stage R = go kind start kept.events in
+      let long : length stage.machines ≡ length start.machines = length-go kind start kept.events in
+      let same : machines_of view ≡ stage.machines = whole_has_all stage.machines state.views kept.dealt id view at (subst (λ (count : ℕ). HasAllMachines count view) (sym long) all) in
+      record { words = stage.words; reached = record { events = kept.events; ends = λ i. record { words = stage.words; machines = sym same i } } }
 
 module _ {R O K S : Type 0} (kinds : K → MachineKind R O) (starts : K → Stage R) (key : K) where
   pub reads : (named : Option K) → named ≡ Some key → (slots id : ℕ) (me : Me S (View R)) → Allows (Rule (kinds key) (starts key)) slots id me 0 (λ n. n) (λ found. TellsOfRun kinds starts named me)

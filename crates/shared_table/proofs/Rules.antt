@@ -30,34 +30,34 @@ module _ {R O : Type 0} (kind : MachineKind R O) (start : Stage R) {S : Type 0} 
 
   module _ (id number : ℕ) (me : Me S (View R)) (r : R) (order : O) (here : machine_of me.0 number ≡ Some r) (takes : kind.takes r order ≡ true) where
     -- the words and views after the step are those after one more event
-    planned_move : (s : State S (View R)) (kept : Rule kind start s) → get_elem? s.views id ≡ some me.0
-        → let found : ℕ = slice_index s.words (table_index (kind.plan r order)) in
+    planned_move : (state : State S (View R)) (kept : Rule kind start state) → get_elem? state.views id ≡ some me.0
+        → let found : ℕ = slice_index state.words (table_index (kind.plan r order)) in
         let view : View R = slice_set me.0 number (Some (kind.took r order found)) in
-        IsRuleKept kind start (slice_set s.words (table_index (kind.plan r order)) (made_of (kind.plan r order) found)) (slice_set s.views id view)
+        IsRuleKept kind start (slice_set state.words (table_index (kind.plan r order)) (made_of (kind.plan r order) found)) (slice_set state.views id view)
         × Took kind start number order me found (view, me.1)
-    planned_move s kept at =
-        let x : Stage R = go kind start kept.events in
-        let e : Event O = record { number = number; order = order } in
-        let there : slice_get x.machines number ≡ Some r = machine-is x.machines s.views kept.dealt id me.0 at number r here in
-        let is : IsEvent kind x e r = record { here = there; takes = takes } in
-        let same : slice_index s.words (table_index (kind.plan r order)) ≡ slice_index x.words (table_index (kind.plan r order)) = ap (λ ws. slice_index ws (table_index (kind.plan r order))) kept.words_are in
-        let after : go kind start (kept.events ++ e ∷ []) ≡ moved kind x number r order = go-step kind start kept.events e ∙ act-event kind x e r is in
-        let next : R = kind.took r order (slice_index s.words (table_index (kind.plan r order))) in (
+    planned_move state kept at =
+        let stage : Stage R = go kind start kept.events in
+        let event : Event O = record { number = number; order = order } in
+        let there : slice_get stage.machines number ≡ Some r = machine-is stage.machines state.views kept.dealt id me.0 at number r here in
+        let is : IsEvent kind stage event r = record { here = there; takes = takes } in
+        let same : slice_index state.words (table_index (kind.plan r order)) ≡ slice_index stage.words (table_index (kind.plan r order)) = ap (λ ws. slice_index ws (table_index (kind.plan r order))) kept.words_are in
+        let after : go kind start (kept.events ++ event ∷ []) ≡ moved kind stage number r order = go-step kind start kept.events event ∙ act-event kind stage event r is in
+        let next : R = kind.took r order (slice_index state.words (table_index (kind.plan r order))) in (
           record {
-            events = kept.events ++ e ∷ [];
+            events = kept.events ++ event ∷ [];
             words_are =
                 ap (λ ws. slice_set ws (table_index (kind.plan r order)) (made_of (kind.plan r order) (slice_index ws (table_index (kind.plan r order))))) kept.words_are
                 ∙ ap (λ y. y.words) (sym after);
             dealt =
-                subst (λ (rs : List R). IsDealt rs (slice_set s.views id (slice_set me.0 number (Some next))))
-                (ap (λ n. slice_set x.machines number (kind.took r order n)) same ∙ ap (λ y. y.machines) (sym after))
-                (dealt_step x.machines s.views kept.dealt id me.0 at number r here next);
+                subst (λ (rs : List R). IsDealt rs (slice_set state.views id (slice_set me.0 number (Some next))))
+                (ap (λ n. slice_set stage.machines number (kind.took r order n)) same ∙ ap (λ y. y.machines) (sym after))
+                (dealt_step stage.machines state.views kept.dealt id me.0 at number r here next);
           },
           record {
             machine = r;
             here = here;
             finds = record {
-              stage = x;
+              stage = stage;
               reached = record { events = kept.events; ends = refl };
               here = there;
               takes = takes;
@@ -73,7 +73,7 @@ module _ {R O : Type 0} (kind : MachineKind R O) (start : Stage R) {S : Type 0} 
         → Allows (Rule kind start) slots id me (table_index access) (made_of access) (λ found. Took kind start number order me found)
     moves slots access planned =
         subst (λ (access : Access). Allows (Rule kind start) slots id me (table_index access) (made_of access) (λ found. Took kind start number order me found)) planned
-        (λ s kept homes at small. let m = planned_move s kept at in (_, keeps, tt, m.0, m.1))
+        (λ state kept homes at small. let m = planned_move state kept at in (_, keeps, tt, m.0, m.1))
 
   pub splits : (id : ℕ) (view : View R) (test : ℕ → Bool) → Splits (Rule kind start {S = S}) id view (machines_left test view) (machines_picked test view)
   splits id view test s kept at = record {
@@ -93,9 +93,9 @@ module _ {R O : Type 0} (kind : MachineKind R O) (start : Stage R) {S : Type 0} 
       → Final (Seen (Rule kind start) id view) words slots → IsReached kind start (record { words = words; machines = machines_of view })
   closes id view words slots all final =
       let kept : Rule kind start final.0 = final.1.0 in
-      let x : Stage R = go kind start kept.events in
-      let long : length x.machines ≡ length start.machines = length-go kind start kept.events in
-      let same : machines_of view ≡ x.machines = whole_has_all x.machines final.0.views kept.dealt id view final.1.1 (subst (λ (n : ℕ). HasAllMachines n view) (sym long) all) in
+      let stage : Stage R = go kind start kept.events in
+      let long : length stage.machines ≡ length start.machines = length-go kind start kept.events in
+      let same : machines_of view ≡ stage.machines = whole_has_all stage.machines final.0.views kept.dealt id view final.1.1 (subst (λ (count : ℕ). HasAllMachines count view) (sym long) all) in
       record { events = kept.events; ends = λ i. record { words = (sym kept.words_are ∙ final.2) i; machines = sym same i } }
 
   -- what a step tells of a machine that one knows

@@ -14,7 +14,7 @@ number_decided m n = dite (ℕ_discrete m n) (λ e. inl e) (λ apart. inr apart)
 both_decided : {X Y Z : Type 0} {x other_x : X} {y other_y : Y} {z other_z : Z} → (z ≡ other_z → x ≡ other_x) → (z ≡ other_z → y ≡ other_y) → (x ≡ other_x → y ≡ other_y → z ≡ other_z) → Decided x other_x → Decided y other_y → Decided z other_z
 both_decided left right whole (inl e) (inl d) = inl (whole e d)
 both_decided left right whole (inl e) (inr apart) = inr (λ s. apart (right s))
-both_decided left right whole (inr apart) d = inr (λ s. apart (left s))
+both_decided left right whole (inr apart) decided = inr (λ s. apart (left s))
 
 head_or : List ℕ → ℕ
 head_or [] = 0
@@ -36,7 +36,7 @@ abbrev told : TableId → ℕ × (ℕ × (ℕ × (ℕ × (ℕ × (ℕ × List �
 told z = (z.words, (z.slots, (z.views_name, (z.atom, (z.block, (z.offset, z.slot_names))))))
 
 pair_decided : {X Y : Type 0} (p q : X × Y) → Decided p.0 q.0 → Decided p.1 q.1 → Decided p q
-pair_decided p q d e = both_decided {z = p} {other_z = q} (λ s. ap (λ r. r.0) s) (λ s. ap (λ r. r.1) s) (λ a b i. (a i, b i)) d e
+pair_decided p q decided e = both_decided {z = p} {other_z = q} (λ s. ap (λ r. r.0) s) (λ s. ap (λ r. r.1) s) (λ a b i. (a i, b i)) decided e
 
 told_decided : (x y : TableId) → Decided (told x) (told y)
 told_decided x y =

@@ -9,18 +9,18 @@ use Rattle.shared_table.specs.Views.{View, machine_of, seen_under, whole, machin
 module _ {R : Type 0} where
   pub shown-at : (views : List (View R)) (id number : ℕ) (view : View R) → get_elem? views id ≡ some view → seen_under views id number ≡ machine_of view number
   shown-at [] id number view here = cc
-  shown-at (w ∷ ws) zero number view here = cc
-  shown-at (w ∷ ws) (suc id) number view here = shown-at ws id number view here
+  shown-at (other_view ∷ rest) zero number view here = cc
+  shown-at (other_view ∷ rest) (suc id) number view here = shown-at rest id number view here
 
   pub seat_below : (views : List (View R)) (id : ℕ) (view : View R) → get_elem? views id ≡ some view → id < length views
   seat_below [] id view here = cc
-  seat_below (w ∷ ws) zero view here = omega arith
-  seat_below (w ∷ ws) (suc id) view here = omega (arith, seat_below ws id view here)
+  seat_below (other_view ∷ rest) zero view here = omega arith
+  seat_below (other_view ∷ rest) (suc id) view here = omega (arith, seat_below rest id view here)
 
   pub shown-past : (views : List (View R)) (seat number : ℕ) → length views ≤ seat → seen_under views seat number ≡ None
   shown-past [] seat number past = refl
-  shown-past (w ∷ ws) zero number past = absurd (omega arith)
-  shown-past (w ∷ ws) (suc seat) number past = shown-past ws seat number (omega arith)
+  shown-past (view ∷ rest) zero number past = absurd (omega arith)
+  shown-past (view ∷ rest) (suc seat) number past = shown-past rest seat number (omega arith)
 
   pub shown-set : (views : List (View R)) (id : ℕ) (view other_view : View R) → get_elem? views id ≡ some view → (seat number : ℕ)
       → seen_under (slice_set views id other_view) seat number ≡ (if seat == id then machine_of other_view number else seen_under views seat number)
@@ -33,8 +33,8 @@ module _ {R : Type 0} where
   pub shown-last : (views : List (View R)) (view : View R) (seat number : ℕ) → seen_under (views ++ view ∷ []) seat number ≡ (if seat == length views then machine_of view number else seen_under views seat number)
   shown-last [] view zero number = grind (arith, nat_tests)
   shown-last [] view (suc seat) number = grind (arith, nat_tests)
-  shown-last (x ∷ xs) view zero number = grind (arith, nat_tests)
-  shown-last (x ∷ xs) view (suc seat) number = grind (arith, nat_tests, shown-last xs view seat number)
+  shown-last (other_view ∷ rest) view zero number = grind (arith, nat_tests)
+  shown-last (other_view ∷ rest) view (suc seat) number = grind (arith, nat_tests, shown-last rest view seat number)
 
   pub machine_of-whole : (machines : List R) (number : ℕ) → machine_of (whole machines) number ≡ slice_get machines number
   machine_of-whole [] number = refl
@@ -55,7 +55,7 @@ module _ {R : Type 0} where
   one_of-none (Some r) = refl
 
   pub machine_of-merged : (view other_view : View R) (number : ℕ) → machine_of (merged view other_view) number ≡ whichever_is_there (machine_of view number) (machine_of other_view number)
-  machine_of-merged [] other_view number = refl
+  machine_of-merged [] view number = refl
   machine_of-merged (x ∷ xs) [] number = sym (one_of-none (machine_of (x ∷ xs) number))
   machine_of-merged (x ∷ xs) (y ∷ ys) zero = refl
   machine_of-merged (x ∷ xs) (y ∷ ys) (suc number) = machine_of-merged xs ys number

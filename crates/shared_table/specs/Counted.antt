@@ -12,11 +12,11 @@ pub record Counted (R : Type 0) : Type 0 where
 
 -- the machine alone
 abbrev pub uncounted_machine : {R : Type 0} → Counted R → R
-uncounted_machine x = x.machine
+uncounted_machine counted = counted.machine
 
 -- and the number alone
 abbrev pub steps_made : {R : Type 0} → Counted R → ℕ
-steps_made x = x.steps
+steps_made counted = counted.steps
 
 -- a machine that has made none
 abbrev pub at_start : {R : Type 0} → R → Counted R

@@ -75,11 +75,11 @@ pub record StepLaws {R O T : Type 0} (S : Type 0) (kind : MachineKind R O) (star
 
 -- A bundle keeps its numbers. Steps change none, and who has all numbers of the opening has all machines
 pub record NumberLaws (R : Type 0) : Type 0 where
-  pub none : (v : View R) → SameNumbers v v
+  pub none : (view : View R) → SameNumbers view view
   pub more : (v w x : View R) → SameNumbers v w → SameNumbers w x → SameNumbers v x
-  pub step : (v : View R) (number : ℕ) (r next : R) → machine_of v number ≡ Some r → SameNumbers v (slice_set v number (Some next))
+  pub step : (view : View R) (number : ℕ) (r next : R) → machine_of view number ≡ Some r → SameNumbers view (slice_set view number (Some next))
   pub joined : (v w x y : View R) → length v ≡ length x → SameNumbers v w → SameNumbers x y → SameNumbers (merged v x) (merged w y)
-  pub whole : (machines : List R) (v : View R) → SameNumbers (whole machines) v → HasAllMachines (length machines) v
+  pub whole : (machines : List R) (view : View R) → SameNumbers (whole machines) view → HasAllMachines (length machines) view
 
 -- Machines that count their steps run as those that do not, and a step is counted once
 pub record CountLaws {R O : Type 0} (S : Type 0) (kind : MachineKind R O) (start : Stage R) : Type 0 where

@@ -18,7 +18,7 @@ module _ {R O : Type 0} (kind : MachineKind R O) (start : Stage R) where
     pub dealt : IsDealt (go kind start events).machines views
 
   abbrev pub Rule : {S : Type 0} → State S (View R) → Type 0
-  Rule s = IsRuleKept s.words s.views
+  Rule state = IsRuleKept state.words state.views
 
   -- what a step of a machine tells: the machine was there, it took the order and found this word, and goes on from it. No
   -- other machine of the bundle has changed, and no slot

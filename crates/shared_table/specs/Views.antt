@@ -15,8 +15,8 @@ machine_of (x ∷ xs) (suc number) = machine_of xs number
 -- the machine that a seat's view has under the number
 abbrev pub seen_under : {R : Type 0} → List (View R) → ℕ → ℕ → Option R
 seen_under [] seat number = None
-seen_under (v ∷ vs) zero number = machine_of v number
-seen_under (v ∷ vs) (suc seat) number = seen_under vs seat number
+seen_under (view ∷ rest) zero number = machine_of view number
+seen_under (view ∷ rest) (suc seat) number = seen_under rest seat number
 
 -- all machines in one view
 abbrev pub whole : {R : Type 0} → List R → View R

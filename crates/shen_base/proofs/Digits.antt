@@ -20,18 +20,18 @@ decimal_some n fits = ⊎_elim
 
 -- what is left has a digit at least
 pub spelled_some : (number left from : ℕ) (digits : List ℕ) → left < 10 ^ 64 → IsSpelled number left from digits → 0 < from
-spelled_some number left from digits fits h = omega (arith, decimal_some left fits, h.room)
+spelled_some number left from digits fits spelled = omega (arith, decimal_some left fits, spelled.room)
 
 -- where two digits are left, there is room for both
 spelled_two : (number left from : ℕ) (digits : List ℕ) → 10 ≤ left → left < 10 ^ 64 → IsSpelled number left from digits → length (decimal (left / 10)) + 1 ≤ from
-spelled_two number left from digits big fits h =
-    let e : length (decimal left) ≡ length (decimal (left / 10)) + 1 =
+spelled_two number left from digits big fits spelled =
+    let same : length (decimal left) ≡ length (decimal (left / 10)) + 1 =
     ap length (decimal_step_wide left big fits) ∙ length-append (decimal (left / 10)) ((48 + left % 10) ∷ []) in
-    omega (arith, e, h.room)
+    omega (arith, same, spelled.room)
 
 -- what stands from an index on, after a write just before it
 drop_before : (from : ℕ) (xs : List ℕ) (x : ℕ) → 0 < from → from ≤ length xs → drop (from - 1) (set xs (from - 1) x) ≡ x ∷ drop from xs
-drop_before from xs x some within =
+drop_before from xs x positive within =
     let below : from - 1 < length xs = omega arith in
     let back : (from - 1) + 1 ≡ from = omega arith in
     drop-set xs (from - 1) x below ∙ ap (λ n. x ∷ drop n xs) back
@@ -55,16 +55,16 @@ spelled_more number left from digits big fits h =
 -- the last digit
 pub spelled_all : (number left from : ℕ) (digits : List ℕ) → left < 10 → IsSpelled number left from digits
     → drop (from - 1) (set digits (from - 1) (48 + left)) ≡ decimal number
-spelled_all number left from digits small h =
+spelled_all number left from digits small spelled =
     let fits : left < 10 ^ 64 = omega arith in
-    let some : 0 < from = spelled_some number left from digits fits h in
-    drop_before from digits (48 + left) some h.within
-    ∙ ap (λ t. t ++ drop from digits) (sym (decimal_digit left small)) ∙ sym h.spelled
+    let some : 0 < from = spelled_some number left from digits fits spelled in
+    drop_before from digits (48 + left) some spelled.within
+    ∙ ap (λ t. t ++ drop from digits) (sym (decimal_digit left small)) ∙ sym spelled.spelled
 
 -- nothing is spelled yet
 pub spelled_none : (number size : ℕ) (digits : List ℕ) → 0 < size → number < 10 ^ size → number < 10 ^ 64 → length digits ≡ size → IsSpelled number number size digits
-spelled_none number size digits some fits wide long = record {
+spelled_none number size digits positive fits wide long = record {
   spelled = sym (ap (λ t. decimal number ++ t) (drop_all size digits (omega (arith, long))) ∙ append-nil (decimal number));
-  room = length-decimal-le_wide size number some fits wide;
+  room = length-decimal-le_wide size number positive fits wide;
   within = omega (arith, long);
 }

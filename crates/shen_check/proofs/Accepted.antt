@@ -11,24 +11,24 @@ use Rattle.shen_graph.specs.Graph.{Graph, Reference}
 use Rattle.shen_graph.specs.History.{Entry, is_full, after_reply, after_entry}
 use Rattle.shen_graph.specs.Step.{Outcome, outcome, pinned_by, with_pinned, slot_of, IsLegal}
 use Rattle.shen_graph.specs.Work.{Progress}
-use Rattle.shen_check.specs.Judging.{MayAnswer}
+use Rattle.shen_check.specs.JudgeState.{MayAnswer}
 
 -- what pins no object leaves its outcome, and what pins one has it pinned
-unpinned_leaves : (graph : Graph) (t : ℕ) (command : Command) (r : Reply) → pinned_by graph t command ≡ None → after_reply graph t command r ≡ (outcome graph t command).graph
+unpinned_leaves : (graph : Graph) (t : ℕ) (command : Command) (answer : Reply) → pinned_by graph t command ≡ None → after_reply graph t command answer ≡ (outcome graph t command).graph
 unpinned_leaves graph t (Pin slot obj) (reply.At place) none = ap (λ (reference : Reference). with_pinned graph t slot reference place) none
-unpinned_leaves graph t command r none = refl
+unpinned_leaves graph t command answer none = refl
 
 pinned_leaves : (graph : Graph) (t : ℕ) (command : Command) (place : ℕ) (name : Name) → pinned_by graph t command ≡ Some name → after_reply graph t command (reply.At place) ≡ with_pinned graph t (slot_of command) (Some name) place
 pinned_leaves graph t (Pin slot obj) place name is = ap (λ (reference : Reference). with_pinned graph t slot reference place) is
 pinned_leaves graph t _ place name is = absurd cc
 
-legal_leaves : (regions region_words : ℕ) (graph : Graph) (t : ℕ) (command : Command) (r : Reply) (other_graph : Graph) → (r ≡ reply.Full → ⊥) → IsLegal regions region_words graph t command r other_graph → other_graph ≡ after_reply graph t command r
-legal_leaves regions region_words graph t command r other_graph never (inl told) = ap (λ (o : Outcome). o.graph) told.1 ∙ sym (unpinned_leaves graph t command r told.0)
-legal_leaves regions region_words graph t command r other_graph never (inr (inl full)) = absurd (never full.1)
-legal_leaves regions region_words graph t command r other_graph never (inr (inr pinning)) =
+legal_leaves : (regions region_words : ℕ) (graph : Graph) (t : ℕ) (command : Command) (answer : Reply) (other_graph : Graph) → (answer ≡ reply.Full → ⊥) → IsLegal regions region_words graph t command answer other_graph → other_graph ≡ after_reply graph t command answer
+legal_leaves regions region_words graph t command answer other_graph never (inl told) = ap (λ (o : Outcome). o.graph) told.1 ∙ sym (unpinned_leaves graph t command answer told.0)
+legal_leaves regions region_words graph t command answer other_graph never (inr (inl full)) = absurd (never full.1)
+legal_leaves regions region_words graph t command answer other_graph never (inr (inr pinning)) =
     pinning.graph ∙ sym (pinned_leaves graph t command pinning.place pinning.name pinning.pins) ∙ ap (after_reply graph t command) (sym pinning.reply)
 
-not_full : (r : Reply) → (r ≡ reply.Full → ⊥) → is_full r ≡ false
+not_full : (answer : Reply) → (answer ≡ reply.Full → ⊥) → is_full answer ≡ false
 not_full reply.Full never = absurd (never refl)
 not_full _ never = refl
 
@@ -44,9 +44,9 @@ pub answered : {E : Type 0} (config : Config) (g h : Graph) (work : List (Option
     → (entry.reply ≡ reply.Full → ⊥)
     → IfOk r (λ may. MatchBool may (IsLegal regions region_words g entry.thread entry.command entry.reply h × (entry.reply ≡ reply.Full → ⊥)) (((k : Graph) → IsLegal regions region_words g entry.thread entry.command entry.reply k → entry.reply ≡ reply.Full) × Same))
     → IfOk r (λ may. MatchBool may (MayAnswer config g work entry × (h ≡ after_entry g entry)) (MayAnswer config g work entry → ⊥))
-answered config g h work entry regions region_words (Ok true) Same a b never told =
-    accepted config g h work entry never (subst (λ (n : ℕ). IsLegal config.regions n g entry.thread entry.command entry.reply h) b (subst (λ (n : ℕ). IsLegal n region_words g entry.thread entry.command entry.reply h) a told.0))
-answered config g h work entry regions region_words (Ok false) Same a b never told = λ may.
-    never (told.0 (after_entry g entry) (subst (λ (n : ℕ). IsLegal n region_words g entry.thread entry.command entry.reply (after_entry g entry)) (sym a)
-    (subst (λ (n : ℕ). IsLegal config.regions n g entry.thread entry.command entry.reply (after_entry g entry)) (sym b) may.legal)))
-answered config g h work entry regions region_words (Err f) Same a b never told = tt
+answered config graph other_graph work entry regions region_words (Ok true) Same same b never told =
+    accepted config graph other_graph work entry never (subst (λ (region_words : ℕ). IsLegal config.regions region_words graph entry.thread entry.command entry.reply other_graph) b (subst (λ (regions : ℕ). IsLegal regions region_words graph entry.thread entry.command entry.reply other_graph) same told.0))
+answered config graph other_graph work entry regions region_words (Ok false) Same same b never told = λ may.
+    never (told.0 (after_entry graph entry) (subst (λ (regions : ℕ). IsLegal regions region_words graph entry.thread entry.command entry.reply (after_entry graph entry)) (sym same)
+    (subst (λ (region_words : ℕ). IsLegal config.regions region_words graph entry.thread entry.command entry.reply (after_entry graph entry)) (sym b) may.legal)))
+answered config graph other_graph work entry regions region_words (Err f) Same same b never told = tt

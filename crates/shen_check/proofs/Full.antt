@@ -13,12 +13,12 @@ use Rattle.shen_graph.specs.Graph.{Graph, named}
 use Rattle.shen_graph.specs.Reach.{Live, size}
 use Rattle.shen_graph.specs.Work.{Progress}
 use Rattle.churn.proofs.OneReach.{one_reach}
-use Rattle.shen_check.specs.Judging.{words_waiting, IsFullFor}
+use Rattle.shen_check.specs.JudgeState.{words_waiting, IsFullFor}
 use Rattle.shen_check.proofs.HeldOnce.{held_once, regions_once}
 
 -- a graph has so many live words, and no other number
 pub live_once : (graph : Graph) (a b : ℕ) → Live graph a → Live graph b → a ≡ b
-live_once graph a b x y = x.2 ∙ ap (sum_by (λ (name : Name). size (named graph (Some name)))) (one_reach graph x.0 y.0 x.1 y.1) ∙ sym y.2
+live_once graph a b live y = live.2 ∙ ap (sum_by (λ (name : Name). size (named graph (Some name)))) (one_reach graph live.0 y.0 live.1 y.1) ∙ sym y.2
 
 -- a bound that a u64 holds is reached by a sum exactly where it is reached by the sum that stands still
 reaches : (bound sum sat : ℕ) → bound < 2 ^ 32 → sat ≡ min sum (2 ^ 64 - 1) → bound ≤ sat → bound ≤ sum
@@ -28,9 +28,9 @@ falls_short : (bound sum sat : ℕ) → bound < 2 ^ 32 → sat ≡ min sum (2 ^ 
 falls_short bound sum sat small is lt = omega (arith, small, is, lt)
 
 small : (r short : ℕ) → r ≤ 64 → short ≤ 33554432 → r * (short + 1) < 2 ^ 32
-small r short few less =
+small r short at_most less =
     let s : short + 1 ≤ 33554433 = omega (arith, less) in
-    let p : r * (short + 1) ≤ 64 * 33554433 = mul-le-mul few s in
+    let p : r * (short + 1) ≤ 64 * 33554433 = mul-le-mul at_most s in
     omega (arith, p)
 
 clash : (a b x y : ℕ) → a < b → a ≡ y → b ≡ x → x ≤ y → ⊥

@@ -11,6 +11,7 @@ use Rattle.std.proofs.lemmas.List.Sums.{fold-append, sum_by_push}
 use Rattle.std.proofs.lemmas.List.FromFn.{get_or-range_with_len, length-range_with_len}
 use Rattle.std.proofs.lemmas.Map.Keys.{IsDistinct-push}
 use Rattle.std.proofs.lemmas.Map.Views.{Contains-from_any}
+use Rattle.shen_graph.proofs.Lists.{contains_mapped}
 use Rattle.shen_graph.specs.declared.name.Name.{Name}
 use Rattle.shen_graph.specs.declared.pin.Pinned.{Pinned}
 use Rattle.shen_graph.specs.Graph.{Graph, Object, Reference, same_name, named}
@@ -18,7 +19,7 @@ use Rattle.shen_graph.specs.Reach.{size}
 use Rattle.shen_graph.specs.Crowd.{ArePinned, Held, ArePinnedRegions, PinnedRegions}
 use Rattle.shen_graph.proofs.ReachLemmas.{Contains-cons_cases, Contains-nil, Contains-flat_map, Contains-from_flat_map, with_names-has, with_names-only, with_names-distinct}
 use Rattle.shen_graph.specs.Found.{with_name}
-use Rattle.shen_check.specs.Judging.{slot_held, pins_held, names_held, with_number, regions_held, words_held, HasPinsOf}
+use Rattle.shen_check.specs.JudgeState.{slot_held, pins_held, names_held, with_number, regions_held, words_held, HasPinsOf}
 
 -- ---- the slots
 
@@ -30,36 +31,29 @@ in_slot found held is = subst (λ (found : Option Pinned). Contains (slot_held f
 
 of_slot : (found : Option Pinned) (held : Pinned) → Contains (slot_held found) held → found ≡ Some held
 of_slot None held there = absurd (Contains-nil held there)
-of_slot (Some p) held there = elim (Contains-cons_cases p [] held there) [ inl same ↦ ap Some same | inr later ↦ absurd (Contains-nil held later) ]
+of_slot (Some pinned) held there = elim (Contains-cons_cases pinned [] held there) [ inl same ↦ ap Some same | inr later ↦ absurd (Contains-nil held later) ]
 
-pub in_pins : (graph : Graph) (threads t slot : ℕ) (held : Pinned) → 1 ≤ t → t ≤ threads → slot < 4 → graph.pin t slot ≡ Some held → Contains (pins_held graph threads) held
-in_pins graph threads t slot held low high few is =
+pub in_pins : (graph : Graph) (threads thread slot : ℕ) (held : Pinned) → 1 ≤ thread → thread ≤ threads → slot < 4 → graph.pin thread slot ≡ Some held → Contains (pins_held graph threads) held
+in_pins graph threads t slot held low high below is =
     let back : 1 + (t - 1) ≡ t = omega (arith, low) in
     let thread : get_or (range_with_len 1 threads) (t - 1) 0 ≡ t = get_or-range_with_len 1 threads (t - 1) 0 (omega (arith, low, high)) ∙ back in
-    let number : get_or (range_with_len 0 4) slot 0 ≡ slot = get_or-range_with_len 0 4 slot 0 few ∙ zero_more slot in
-    let there : Contains (slot_held (graph.pin t (get_or (range_with_len 0 4) slot 0))) held = subst (λ (s : ℕ). Contains (slot_held (graph.pin t s)) held) (sym number) (in_slot (graph.pin t slot) held is) in
-    let own : Contains (held_by graph t) held = Contains-flat_map (λ s. slot_held (graph.pin t s)) (range_with_len 0 4) slot 0 held (omega (arith, few, length-range_with_len 0 4)) there in
+    let number : get_or (range_with_len 0 4) slot 0 ≡ slot = get_or-range_with_len 0 4 slot 0 below ∙ zero_more slot in
+    let there : Contains (slot_held (graph.pin t (get_or (range_with_len 0 4) slot 0))) held = subst (λ (slot : ℕ). Contains (slot_held (graph.pin t slot)) held) (sym number) (in_slot (graph.pin t slot) held is) in
+    let own : Contains (held_by graph t) held = Contains-flat_map (λ slot. slot_held (graph.pin t slot)) (range_with_len 0 4) slot 0 held (omega (arith, below, length-range_with_len 0 4)) there in
     Contains-flat_map (held_by graph) (range_with_len 1 threads) (t - 1) 0 held (omega (arith, low, high, length-range_with_len 1 threads)) (subst (λ (u : ℕ). Contains (held_by graph u) held) (sym thread) own)
   where
     zero_more : (n : ℕ) → 0 + n ≡ n
     zero_more n = omega arith
 
-pub of_pins : (graph : Graph) (threads : ℕ) (held : Pinned) → Contains (pins_held graph threads) held → (t : ℕ) × (slot : ℕ) × (graph.pin t slot ≡ Some held)
+pub of_pins : (graph : Graph) (threads : ℕ) (held : Pinned) → Contains (pins_held graph threads) held → (thread : ℕ) × (slot : ℕ) × (graph.pin thread slot ≡ Some held)
 of_pins graph threads held there =
     let row = Contains-from_flat_map (held_by graph) (range_with_len 1 threads) 0 held there in
     let t = get_or (range_with_len 1 threads) row.0 0 in
-    let place = Contains-from_flat_map (λ s. slot_held (graph.pin t s)) (range_with_len 0 4) 0 held row.2 in
+    let place = Contains-from_flat_map (λ slot. slot_held (graph.pin t slot)) (range_with_len 0 4) 0 held row.2 in
     let slot = get_or (range_with_len 0 4) place.0 0 in
     (t, slot, of_slot (graph.pin t slot) held place.2)
 
 -- ---- what is told of each that is held
-
-has_told : {A B : Type 0} (f : A → B) (xs : List A) (x : A) → Contains xs x → Contains (map f xs) (f x)
-has_told f [] x there = absurd (Contains-nil x there)
-has_told f (y ∷ xs) x there = elim (Contains-cons_cases y xs x there) [
-  | inl same ↦ (0, omega arith, ap f same)
-  | inr later ↦ Contains-append_right (f y ∷ []) (map f xs) (f x) (has_told f xs x later)
-]
 
 told_of : {A B : Type 0} (f : A → B) (xs : List A) (y : B) → Contains (map f xs) y → (x : A) × Contains xs x × (f x ≡ y)
 told_of f [] y there = absurd (Contains-nil y there)
@@ -85,7 +79,7 @@ are_pinned graph threads pins = record {
   differ = with_names-distinct [] (map named_by (pins_held graph threads)) (none_twice same_name);
   all = λ t slot held is.
       let within = pins t slot held is in
-      with_names-has [] (map named_by (pins_held graph threads)) held.name (has_told named_by (pins_held graph threads) held (in_pins graph threads t slot held within.0 within.1 within.2 is));
+      with_names-has [] (map named_by (pins_held graph threads)) held.name (contains_mapped named_by (pins_held graph threads) held (in_pins graph threads t slot held within.0 within.1 within.2 is));
   only = λ n there. elim (with_names-only [] (map named_by (pins_held graph threads)) n there) [
     | inl never ↦ absurd (Contains-nil n never)
     | inr told ↦ (
@@ -172,7 +166,7 @@ are_regions region_words graph threads pins = record {
   differ = numbers_distinct [] (map (region_of region_words) (pins_held graph threads)) (none_twice (λ r s. r == s));
   all = λ t slot held is.
       let within = pins t slot held is in
-      numbers_have [] (map (region_of region_words) (pins_held graph threads)) (region_of region_words held) (has_told (region_of region_words) (pins_held graph threads) held (in_pins graph threads t slot held within.0 within.1 within.2 is));
+      numbers_have [] (map (region_of region_words) (pins_held graph threads)) (region_of region_words held) (contains_mapped (region_of region_words) (pins_held graph threads) held (in_pins graph threads t slot held within.0 within.1 within.2 is));
   only = λ r there. elim (numbers_only [] (map (region_of region_words) (pins_held graph threads)) r there) [
     | inl never ↦ absurd (Contains-nil r never)
     | inr told ↦ (

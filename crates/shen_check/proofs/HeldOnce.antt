@@ -4,10 +4,10 @@ use Rattle.std.proofs.Common.{◌≡◌, ℕ, ◌+◌, ◌≤◌, Bool, true, fa
 use Rattle.std.specs.Prelude.{Contains, ◌==◌}
 use Rattle.std.specs.List.{IsDistinct}
 use Rattle.std.proofs.lemmas.Bool.{false≢true}
-use Rattle.std.proofs.lemmas.Bool.Decides.{Decides-eqb}
 use Rattle.std.proofs.lemmas.List.Elements.{All-contains, All-from_recursion, Contains-append_left, Contains-append_right, Contains-append_cases}
 use Rattle.std.proofs.lemmas.List.Sums.{sum_by-append, sum_by-cons}
 use Rattle.std.proofs.lemmas.Map.Keys.{IsDistinct-head, IsDistinct-tail}
+use Rattle.shen_graph.proofs.Numbers.{equal_itself}
 use Rattle.shen_graph.specs.declared.name.Name.{Name}
 use Rattle.shen_graph.specs.Graph.{Graph, same_name, named}
 use Rattle.shen_graph.specs.Reach.{size}
@@ -24,9 +24,9 @@ record Around {K : Type 0} (ys : List K) (x : K) : Type 0 where
 
 around : {K : Type 0} (ys : List K) (x : K) → Contains ys x → Around ys x
 around [] x there = absurd (Contains-nil x there)
-around {K} (y ∷ ys) x there = elim (Contains-cons_cases y ys x there) [
+around {K} (y ∷ ys) contains there = elim (Contains-cons_cases y ys contains there) [
   | inl same ↦ record { front = []; behind = ys; is = ap (λ (z : K). z ∷ ys) same }
-  | inr later ↦ (let w = around ys x later in record { front = y ∷ w.front; behind = w.behind; is = ap (λ (zs : List K). y ∷ zs) w.is })
+  | inr later ↦ (let w = around ys contains later in record { front = y ∷ w.front; behind = w.behind; is = ap (λ (zs : List K). y ∷ zs) w.is })
 ]
 
 others : {K : Type 0} (front behind : List K) (x y : K) → Contains (front ++ x ∷ behind) y → (x ≡ y → ⊥) → Contains (front ++ behind) y
@@ -76,25 +76,22 @@ ones (x ∷ xs) = let others = ones xs in let first = sum_by-cons (λ _. 1) x xs
 
 -- ---- the words
 
-names_within : (graph : Graph) (xs ys : List Name) → ArePinned graph xs → ArePinned graph ys → (name : Name) → Contains xs name → Contains ys name
-names_within graph xs ys p q name there = let it = p.only name there in subst (Contains ys) it.4 (q.all it.0 it.1 it.2 it.3)
+names_within : (graph : Graph) (names other_names : List Name) → ArePinned graph names → ArePinned graph other_names → (name : Name) → Contains names name → Contains other_names name
+names_within graph names other_names pinned q name there = let it = pinned.only name there in subst (Contains other_names) it.4 (q.all it.0 it.1 it.2 it.3)
 
 pub held_once : (graph : Graph) (a b : ℕ) → Held graph a → Held graph b → a ≡ b
-held_once graph a b x y =
-    x.2
-    ∙ one_sum same_name same_name-itself (λ (name : Name). size (named graph (Some name))) x.0 y.0 x.1.differ y.1.differ (names_within graph x.0 y.0 x.1 y.1) (names_within graph y.0 x.0 y.1 x.1)
+held_once graph a b held y =
+    held.2
+    ∙ one_sum same_name same_name-itself (λ (name : Name). size (named graph (Some name))) held.0 y.0 held.1.differ y.1.differ (names_within graph held.0 y.0 held.1 y.1) (names_within graph y.0 held.0 y.1 held.1)
     ∙ sym y.2
 
 -- ---- the regions
 
-regions_within : (region_words : ℕ) (graph : Graph) (xs ys : List ℕ) → ArePinnedRegions region_words graph xs → ArePinnedRegions region_words graph ys → (r : ℕ) → Contains xs r → Contains ys r
-regions_within region_words graph xs ys p q r there = let it = p.only r there in subst (Contains ys) it.4 (q.all it.0 it.1 it.2 it.3)
-
-number-itself : (n : ℕ) → (n == n) ≡ true
-number-itself n = (Decides-eqb n n).1 refl
+regions_within : (region_words : ℕ) (graph : Graph) (regions other_regions : List ℕ) → ArePinnedRegions region_words graph regions → ArePinnedRegions region_words graph other_regions → (r : ℕ) → Contains regions r → Contains other_regions r
+regions_within region_words graph regions ys pinned_regions q r there = let it = pinned_regions.only r there in subst (Contains ys) it.4 (q.all it.0 it.1 it.2 it.3)
 
 pub regions_once : (region_words : ℕ) (graph : Graph) (a b : ℕ) → PinnedRegions region_words graph a → PinnedRegions region_words graph b → a ≡ b
-regions_once region_words graph a b x y =
-    let same : sum_by (λ (_ : ℕ). 1) x.0 ≡ sum_by (λ (_ : ℕ). 1) y.0 =
-    one_sum (λ r s. r == s) number-itself (λ (_ : ℕ). 1) x.0 y.0 x.1.differ y.1.differ (regions_within region_words graph x.0 y.0 x.1 y.1) (regions_within region_words graph y.0 x.0 y.1 x.1) in
-    x.2 ∙ sym (ones x.0) ∙ same ∙ ones y.0 ∙ sym y.2
+regions_once region_words graph a b pinned_regions y =
+    let same : sum_by (λ (_ : ℕ). 1) pinned_regions.0 ≡ sum_by (λ (_ : ℕ). 1) y.0 =
+    one_sum (λ r s. r == s) equal_itself (λ (_ : ℕ). 1) pinned_regions.0 y.0 pinned_regions.1.differ y.1.differ (regions_within region_words graph pinned_regions.0 y.0 pinned_regions.1 y.1) (regions_within region_words graph y.0 pinned_regions.0 y.1 pinned_regions.1) in
+    pinned_regions.2 ∙ sym (ones pinned_regions.0) ∙ same ∙ ones y.0 ∙ sym y.2

@@ -13,7 +13,7 @@ use Rattle.shen_graph.specs.Graph.{Graph, Object, Reference, field_at, number_at
 use Rattle.shen_graph.specs.Valid.{IsValid}
 use Rattle.shen_graph.specs.History.{Entry, is_full, after_reply, after_entry}
 use Rattle.shen_graph.specs.Step.{Outcome, answers, on, outcome, pinned_by, with_pinned, IsNew, IsLegal}
-use Rattle.shen_check.specs.Judging.{HasPinsOf}
+use Rattle.shen_check.specs.JudgeState.{HasPinsOf}
 
 -- ---- only an allocation counts
 
@@ -26,12 +26,12 @@ on_count None graph f thread h = refl
 on_count (Some v) graph f thread h = h v
 
 if_count : (holds : Bool) (x y : Outcome) (thread n : ℕ) → x.graph.count thread ≡ n → y.graph.count thread ≡ n → (if holds then x else y).graph.count thread ≡ n
-if_count true x y thread n p q = p
-if_count false x y thread n p q = q
+if_count true x y thread n same q = same
+if_count false x y thread n same q = q
 
 at_most : (holds : Bool) (m n : ℕ) → m ≡ n → m ≤ (if holds then n + 1 else n)
-at_most true m n e = omega (arith, e)
-at_most false m n e = omega (arith, e)
+at_most true m n same = omega (arith, same)
+at_most false m n same = omega (arith, same)
 
 itself : (n : ℕ) → n ≤ n
 itself n = omega arith
@@ -55,22 +55,22 @@ outcome_counts graph thread (Unpin slot) other_thread = at_most (other_thread ==
 -- ---- after a reply
 
 -- a fact of the outcome and of a pinned object is one of what a reply leaves
-pub left_by : (P : Graph → Type 0) (graph : Graph) (t : ℕ) (command : Command) (r : Reply) → P graph → P (outcome graph t command).graph
-    → ((slot obj place : ℕ) (name : Name) → command ≡ Pin slot obj → P (with_pin graph t slot (Some (record { name = name; place = place })))) → P (after_reply graph t command r)
+pub left_by : (P : Graph → Type 0) (graph : Graph) (t : ℕ) (command : Command) (answer : Reply) → P graph → P (outcome graph t command).graph
+    → ((slot obj place : ℕ) (name : Name) → command ≡ Pin slot obj → P (with_pin graph t slot (Some (record { name = name; place = place })))) → P (after_reply graph t command answer)
 left_by P graph t (Pin slot obj) (reply.At place) same left pinned = by_name (pinned_by graph t (Pin slot obj))
   where
     by_name : (reference : Reference) → P (with_pinned graph t slot reference place)
     by_name None = same
     by_name (Some name) = pinned slot obj place name refl
-left_by P graph t command r same left pinned = left
+left_by P graph t command answer same left pinned = left
 
-pub reply_counts : (graph : Graph) (t : ℕ) (command : Command) (r : Reply) (thread : ℕ) → (after_reply graph t command r).count thread ≤ (if thread == t then graph.count thread + 1 else graph.count thread)
-reply_counts graph t command r thread =
-    left_by (λ (h : Graph). h.count thread ≤ (if thread == t then graph.count thread + 1 else graph.count thread)) graph t command r (at_most (thread == t) (graph.count thread) (graph.count thread) refl) (outcome_counts graph t command thread) (λ slot obj place n is. at_most (thread == t) (graph.count thread) (graph.count thread) refl)
+pub reply_counts : (graph : Graph) (other_thread : ℕ) (command : Command) (answer : Reply) (thread : ℕ) → (after_reply graph other_thread command answer).count thread ≤ (if thread == other_thread then graph.count thread + 1 else graph.count thread)
+reply_counts graph other_thread command answer thread =
+    left_by (λ (other_graph : Graph). other_graph.count thread ≤ (if thread == other_thread then graph.count thread + 1 else graph.count thread)) graph other_thread command answer (at_most (thread == other_thread) (graph.count thread) (graph.count thread) refl) (outcome_counts graph other_thread command thread) (λ slot obj place n is. at_most (thread == other_thread) (graph.count thread) (graph.count thread) refl)
 
 entry_count : (full : Bool) (graph other_graph : Graph) (thread n : ℕ) (holds : Bool) → other_graph.count thread ≤ (if holds then n + 1 else n) → graph.count thread ≡ n → (if full then graph else other_graph).count thread ≤ (if holds then n + 1 else n)
-entry_count true graph other_graph thread n holds p e = at_most holds (graph.count thread) n e
-entry_count false graph other_graph thread n holds p e = p
+entry_count true graph other_graph thread n holds p same = at_most holds (graph.count thread) n same
+entry_count false graph other_graph thread n holds at_most same = at_most
 
 pub entry_counts : (graph : Graph) (entry : Entry) (thread : ℕ) → (after_entry graph entry).count thread ≤ (if thread == entry.thread then graph.count thread + 1 else graph.count thread)
 entry_counts graph entry thread = entry_count (is_full entry.reply) graph (after_reply graph entry.thread entry.command entry.reply) thread (graph.count thread) (thread == entry.thread) (reply_counts graph entry.thread entry.command entry.reply thread) refl
@@ -82,8 +82,8 @@ on_pins threads None graph f pins each = pins
 on_pins threads (Some v) graph f pins each = each v
 
 if_pins : (threads : ℕ) (holds : Bool) (x y : Outcome) → HasPinsOf threads x.graph → HasPinsOf threads y.graph → HasPinsOf threads (if holds then x else y).graph
-if_pins threads true x y p q = p
-if_pins threads false x y p q = q
+if_pins threads true x y has_pins_of q = has_pins_of
+if_pins threads false x y has_pins_of q = q
 
 named_pins : (threads : ℕ) (graph : Graph) (reference : Reference) (object : Object) → HasPinsOf threads graph → HasPinsOf threads (with_named graph reference object)
 named_pins threads graph None object pins = pins
@@ -98,12 +98,12 @@ empty_pins threads graph t slot pins u s held is = by_test ((u == t) && (s == sl
     by_test false e = pins u s held e
 
 full_pins : (threads : ℕ) (graph : Graph) (t slot : ℕ) (found : Option Pinned) → 1 ≤ t → t ≤ threads → slot < 4 → HasPinsOf threads graph → HasPinsOf threads (with_pin graph t slot found)
-full_pins threads graph t slot found low high few pins u s held is = by_test ((u == t) && (s == slot)) refl is
+full_pins threads graph t slot found low high below pins u s held is = by_test ((u == t) && (s == slot)) refl is
   where
     by_test : (holds : Bool) → ((u == t) && (s == slot)) ≡ holds → (if holds then found else graph.pin u s) ≡ Some held → (1 ≤ u) × (u ≤ threads) × (s < 4)
     by_test true same e =
         let both = (Decides-and (u == t) (s == slot) (Decides-eqb u t) (Decides-eqb s slot)).0 same in
-        (omega (arith, low, both.0), omega (arith, high, both.0), omega (arith, few, both.1))
+        (omega (arith, low, both.0), omega (arith, high, both.0), omega (arith, below, both.1))
     by_test false same e = pins u s held e
 
 outcome_pins : (threads : ℕ) (graph : Graph) (thread : ℕ) (command : Command) → HasPinsOf threads graph → HasPinsOf threads (outcome graph thread command).graph
@@ -125,13 +125,13 @@ outcome_pins threads graph thread (Unpin slot) pins = on_pins threads (graph.pin
 pin_slot : (command : Command) (slot obj : ℕ) → IsValid command → command ≡ Pin slot obj → slot < 4
 pin_slot command slot obj valid is = (subst IsValid is valid).0
 
-reply_pins : (threads : ℕ) (graph : Graph) (t : ℕ) (command : Command) (r : Reply) → 1 ≤ t → t ≤ threads → IsValid command → HasPinsOf threads graph → HasPinsOf threads (after_reply graph t command r)
-reply_pins threads graph t command r low high valid pins =
-    left_by (HasPinsOf threads) graph t command r pins (outcome_pins threads graph t command pins) (λ slot obj place n is. full_pins threads graph t slot (Some (record { name = n; place = place })) low high (pin_slot command slot obj valid is) pins)
+reply_pins : (threads : ℕ) (graph : Graph) (thread : ℕ) (command : Command) (answer : Reply) → 1 ≤ thread → thread ≤ threads → IsValid command → HasPinsOf threads graph → HasPinsOf threads (after_reply graph thread command answer)
+reply_pins threads graph thread command answer low high valid pins =
+    left_by (HasPinsOf threads) graph thread command answer pins (outcome_pins threads graph thread command pins) (λ slot obj place n is. full_pins threads graph thread slot (Some (record { name = n; place = place })) low high (pin_slot command slot obj valid is) pins)
 
 full_or_not : (threads : ℕ) (full : Bool) (graph other_graph : Graph) → HasPinsOf threads graph → HasPinsOf threads other_graph → HasPinsOf threads (if full then graph else other_graph)
-full_or_not threads true graph other_graph p q = p
-full_or_not threads false graph other_graph p q = q
+full_or_not threads true graph other_graph has_pins_of q = has_pins_of
+full_or_not threads false graph other_graph has_pins_of q = q
 
 pub entry_pins : (threads : ℕ) (graph : Graph) (entry : Entry) → 1 ≤ entry.thread → entry.thread ≤ threads → IsValid entry.command → HasPinsOf threads graph → HasPinsOf threads (after_entry graph entry)
 entry_pins threads graph entry low high valid pins = full_or_not threads (is_full entry.reply) graph (after_reply graph entry.thread entry.command entry.reply) pins (reply_pins threads graph entry.thread entry.command entry.reply low high valid pins)
@@ -144,5 +144,5 @@ opening_pins threads n t slot held is = absurd (none-some held is)
 -- an allocation may be answered Full
 pub full_is : (regions region_words : ℕ) (graph : Graph) (entry : Entry) → entry.reply ≡ reply.Full → IsNew entry.command → IsLegal regions region_words graph entry.thread entry.command entry.reply (after_entry graph entry) × (graph ≡ after_entry graph entry)
 full_is regions region_words graph entry full new =
-    let same : after_entry graph entry ≡ graph = ap (λ (r : Reply). if is_full r then graph else after_reply graph entry.thread entry.command r) full in
+    let same : after_entry graph entry ≡ graph = ap (λ (answer : Reply). if is_full answer then graph else after_reply graph entry.thread entry.command answer) full in
     (inr (inl (new, full, same)), sym same)

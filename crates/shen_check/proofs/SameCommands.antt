@@ -54,11 +54,11 @@ same_command (Unpin slot) _ = λ e. absurd cc
 -- the next command is there and is this one
 pub same_next : (next : Option Command) (command : Command) → MatchBool (option_eq eq-value.it next (Some command)) (next ≡ Some command) (next ≡ Some command → ⊥)
 same_next None command = λ e. absurd cc
-same_next (Some a) command = by_test (eq-value.it a command) (same_command a command)
+same_next (Some other_command) command = by_test (eq-value.it other_command command) (same_command other_command command)
   where
-    by_test : (holds : Bool) → MatchBool holds (a ≡ command) (a ≡ command → ⊥) → MatchBool holds (◌≡◌ {A = Option Command} (Some a) (Some command)) (◌≡◌ {A = Option Command} (Some a) (Some command) → ⊥)
+    by_test : (holds : Bool) → MatchBool holds (other_command ≡ command) (other_command ≡ command → ⊥) → MatchBool holds (◌≡◌ {A = Option Command} (Some other_command) (Some command)) (◌≡◌ {A = Option Command} (Some other_command) (Some command) → ⊥)
     by_test true same = ap Some same
-    by_test false other = λ (e : ◌≡◌ {A = Option Command} (Some a) (Some command)). other cc
+    by_test false other = λ (e : ◌≡◌ {A = Option Command} (Some other_command) (Some command)). other cc
 
 -- and the thread is there
 pub is_next_of : (result : Bool) (thread threads : ℕ) (next of : Option Command) (command : Command) → 1 ≤ thread → thread ≤ threads → next ≡ of → result ≡ option_eq eq-value.it next (Some command)

@@ -18,9 +18,9 @@ use Rattle.shen_check.specs.Judged.{CanBeJudged}
 -- the commands of lines in range are valid
 valid_lines : (version threads : ℕ) (lines : List TraceLine) (t : ℕ) → AllByRecursion (IsLine version threads) lines → AllByRecursion IsValid (grammar.commands_in lines t)
 valid_lines version threads [] t all = tt
-valid_lines version threads (l ∷ lines) t all = by_thread (eqb l.thread t) (valid_lines version threads lines t all.1)
+valid_lines version threads (trace_line ∷ lines) t all = by_thread (eqb trace_line.thread t) (valid_lines version threads lines t all.1)
   where
-    by_thread : (own : Bool) → AllByRecursion IsValid (grammar.commands_in lines t) → AllByRecursion IsValid (map (λ x. x.command) (cond own (l ∷ filter (λ x. eqb x.thread t) lines) (filter (λ x. eqb x.thread t) lines)))
+    by_thread : (own : Bool) → AllByRecursion IsValid (grammar.commands_in lines t) → AllByRecursion IsValid (map (λ x. x.command) (cond own (trace_line ∷ filter (λ x. eqb x.thread t) lines) (filter (λ x. eqb x.thread t) lines)))
     by_thread true others = (all.0.valid, others)
     by_thread false others = others
 
@@ -40,9 +40,9 @@ valid_scripts bytes version config scripts items reads = All-from_get_or (All Is
 -- a trace has fewer commands than there are numbers for names
 short_script : (lines : List TraceLine) (t : ℕ) → length (grammar.commands_in lines t) ≤ length lines
 short_script [] t = omega arith
-short_script (l ∷ lines) t = by_thread (eqb l.thread t) (short_script lines t)
+short_script (trace_line ∷ lines) t = by_thread (eqb trace_line.thread t) (short_script lines t)
   where
-    by_thread : (own : Bool) → length (grammar.commands_in lines t) ≤ length lines → length (map (λ x. x.command) (cond own (l ∷ filter (λ x. eqb x.thread t) lines) (filter (λ x. eqb x.thread t) lines))) ≤ length (l ∷ lines)
+    by_thread : (own : Bool) → length (grammar.commands_in lines t) ≤ length lines → length (map (λ x. x.command) (cond own (trace_line ∷ filter (λ x. eqb x.thread t) lines) (filter (λ x. eqb x.thread t) lines))) ≤ length (trace_line ∷ lines)
     by_thread true others = omega arith
     by_thread false others = omega arith
 

@@ -24,7 +24,7 @@ use Rattle.shen_graph.proofs.Parts.{progress_of-opened}
 use Rattle.shen_graph.proofs.Noted.{script_kept, replies_same, replies_other, script_stays}
 use Rattle.churn.proofs.Refusals.{after-append}
 use Rattle.shen_check.specs.Judged.{MayFollow}
-use Rattle.shen_check.specs.Judging.{words_beside, words_waiting, IsFullFor, HasPinsOf, MayAnswer, HasJudged}
+use Rattle.shen_check.specs.JudgeState.{words_beside, words_waiting, IsFullFor, HasPinsOf, MayAnswer, HasJudged}
 use Rattle.shen_check.proofs.LiveSums.{sum_more}
 use Rattle.shen_check.proofs.Outcomes.{entry_counts, entry_pins, opening_pins}
 
@@ -38,30 +38,30 @@ Scripts = List (List Command)
 
 -- a script with a command at some place is that of a thread
 pub next_thread : (scripts : Scripts) (t index : ℕ) (command : Command) → slice_get (script_of scripts t) index ≡ Some command → (1 ≤ t) × (t ≤ length scripts)
-next_thread scripts zero index command e = absurd (let no = slice_get_within [] index command e in omega (arith, no))
-next_thread scripts (suc m) index command e = elim (cases_lt m (length scripts)) [
+next_thread scripts zero index command found = absurd (let no = slice_get_within [] index command found in omega (arith, no))
+next_thread scripts (suc m) index command found = elim (cases_lt m (length scripts)) [
   | inl below ↦ (omega arith, omega (arith, below))
   | inr past ↦ absurd (
       let none : script_of scripts (suc m) ≡ [] = get_or_past scripts m [] past in
-      let within = slice_get_within (script_of scripts (suc m)) index command e in
+      let within = slice_get_within (script_of scripts (suc m)) index command found in
       omega (arith, within, ap length none))
 ]
 
 -- the next command of a mutator, as the work has it
 pub next_is : (scripts : Scripts) (before : List Entry) (graph : Plain) (work : Jobs) → HasJudged scripts before graph work → (index : ℕ) → index < length scripts
     → next_of work index ≡ slice_get (slice_index_or scripts index []) (length (of_thread before (index + 1)))
-next_is scripts before graph work h index below =
-    ap (λ (script : List Command). slice_get script (length (replies_of work index))) (h.script index below)
-    ∙ ap (slice_get (slice_index_or scripts index [])) (ap length (h.replies index below) ∙ length-map (of_thread before (index + 1)) (λ (entry : Entry). entry.reply))
+next_is scripts before graph work has_judged index below =
+    ap (λ (script : List Command). slice_get script (length (replies_of work index))) (has_judged.script index below)
+    ∙ ap (slice_get (slice_index_or scripts index [])) (ap length (has_judged.replies index below) ∙ length-map (of_thread before (index + 1)) (λ (entry : Entry). entry.reply))
 
 pub next_of_thread : (scripts : Scripts) (before : List Entry) (graph : Plain) (work : Jobs) → HasJudged scripts before graph work → (thread : ℕ) → 1 ≤ thread → thread ≤ length scripts
     → next_of work (thread - 1) ≡ slice_get (script_of scripts thread) (length (of_thread before thread))
-next_of_thread scripts before graph work h zero low high = absurd (omega (arith, low))
-next_of_thread scripts before graph work h (suc m) low high =
-    let same : suc m - 1 ≡ m = omega arith in
-    let next : m + 1 ≡ suc m = omega arith in
-    let below : m < length scripts = omega (arith, high) in
-    ap (next_of work) same ∙ next_is scripts before graph work h m below ∙ ap (λ (thread : ℕ). slice_get (slice_index_or scripts m []) (length (of_thread before thread))) next
+next_of_thread scripts before graph work has_judged zero low high = absurd (omega (arith, low))
+next_of_thread scripts before graph work has_judged (suc index) low high =
+    let same : suc index - 1 ≡ index = omega arith in
+    let next : index + 1 ≡ suc index = omega arith in
+    let below : index < length scripts = omega (arith, high) in
+    ap (next_of work) same ∙ next_is scripts before graph work has_judged index below ∙ ap (λ (thread : ℕ). slice_get (slice_index_or scripts index []) (length (of_thread before thread))) next
 
 script_few : (scripts : Scripts) (n : ℕ) → All (λ s. length s < n) scripts → (t : ℕ) → 1 ≤ t → t ≤ length scripts → length (script_of scripts t) < n
 script_few scripts n few zero low high = absurd (omega (arith, low))
@@ -74,66 +74,66 @@ script_valid scripts valid (suc m) low high = valid m [] (omega (arith, high))
 -- a thread with a command left has made fewer objects than its script is long
 pub count_few : (scripts : Scripts) (before : List Entry) (graph : Plain) (work : Jobs) (n thread : ℕ) (command : Command) → HasJudged scripts before graph work → All (λ s. length s < n) scripts
     → 1 ≤ thread → thread ≤ length scripts → slice_get (script_of scripts thread) (length (of_thread before thread)) ≡ Some command → (graph_of graph).count thread < n
-count_few scripts before graph work n thread command h few low high e =
-    let within = slice_get_within (script_of scripts thread) (length (of_thread before thread)) command e in
-    omega (arith, h.counts thread, within, script_few scripts n few thread low high)
+count_few scripts before graph work n thread command has_judged few low high found =
+    let within = slice_get_within (script_of scripts thread) (length (of_thread before thread)) command found in
+    omega (arith, has_judged.counts thread, within, script_few scripts n few thread low high)
 
 pub next_valid : (scripts : Scripts) (t index : ℕ) (command : Command) → All (λ s. All IsValid s) scripts → 1 ≤ t → t ≤ length scripts → slice_get (script_of scripts t) index ≡ Some command → IsValid command
-next_valid scripts t index command valid low high e =
-    let within = slice_get_within (script_of scripts t) index command e in
-    subst IsValid (get_or_from_slice_get (script_of scripts t) index command Gc e) (script_valid scripts valid t low high index Gc within)
+next_valid scripts t index command valid low high found =
+    let within = slice_get_within (script_of scripts t) index command found in
+    subst IsValid (get_or_from_slice_get (script_of scripts t) index command Gc found) (script_valid scripts valid t low high index Gc within)
 
 -- ---- crowding
 
 beside_is : (scripts : Scripts) (before : List Entry) (graph : Plain) (work : Jobs) → HasJudged scripts before graph work → (thread index : ℕ) → index < length scripts
     → words_beside work thread index ≡ (if index + 1 == thread then 0 else words_asked (next_command scripts before (index + 1)))
-beside_is scripts before graph work h thread index below =
+beside_is scripts before graph work has_judged thread index below =
     let back : index ≡ index + 1 - 1 = omega arith in
     ap (λ (found : Option Command). if index + 1 == thread then 0 else words_asked found)
-    (next_is scripts before graph work h index below ∙ ap (λ (k : ℕ). slice_get (slice_index_or scripts k []) (length (of_thread before (index + 1)))) back)
+    (next_is scripts before graph work has_judged index below ∙ ap (λ (k : ℕ). slice_get (slice_index_or scripts k []) (length (of_thread before (index + 1)))) back)
 
 waiting_up_to : (scripts : Scripts) (before : List Entry) (graph : Plain) (work : Jobs) → HasJudged scripts before graph work → (thread n : ℕ) → n ≤ length scripts
     → sum_by (words_beside work thread) (range_with_len 0 n) ≡ sum_by (λ t. if t == thread then 0 else words_asked (next_command scripts before t)) (range_with_len 1 n)
-waiting_up_to scripts before graph work h thread zero low = refl
-waiting_up_to scripts before graph work h thread (suc n) low =
+waiting_up_to scripts before graph work has_judged thread zero low = refl
+waiting_up_to scripts before graph work has_judged thread (suc index) low =
     let f = λ (t : ℕ). if t == thread then 0 else words_asked (next_command scripts before t) in
-    let next : n + 1 ≡ suc n = omega arith in
-    let first : 1 + n ≡ n + 1 = omega arith in
-    let below : n < length scripts = omega (arith, low) in
+    let next : index + 1 ≡ suc index = omega arith in
+    let first : 1 + index ≡ index + 1 = omega arith in
+    let below : index < length scripts = omega (arith, low) in
     ap (λ (k : ℕ). sum_by (words_beside work thread) (range_with_len 0 k)) (sym next)
-    ∙ sum_more (words_beside work thread) 0 n n (omega arith)
-    ∙ ap (λ (k : ℕ). k + words_beside work thread n) (waiting_up_to scripts before graph work h thread n (omega (arith, low)))
-    ∙ ap (λ (k : ℕ). sum_by f (range_with_len 1 n) + k) (beside_is scripts before graph work h thread n below)
-    ∙ sym (sum_more f 1 n (n + 1) first)
+    ∙ sum_more (words_beside work thread) 0 index index (omega arith)
+    ∙ ap (λ (k : ℕ). k + words_beside work thread index) (waiting_up_to scripts before graph work has_judged thread index (omega (arith, low)))
+    ∙ ap (λ (k : ℕ). sum_by f (range_with_len 1 index) + k) (beside_is scripts before graph work has_judged thread index below)
+    ∙ sym (sum_more f 1 index (index + 1) first)
     ∙ ap (λ (k : ℕ). sum_by f (range_with_len 1 k)) next
 
 pub waiting_is : (config : Config) (scripts : Scripts) (before : List Entry) (graph : Plain) (work : Jobs) → HasJudged scripts before graph work → length scripts ≡ config.mutators → (thread : ℕ)
     → words_waiting work config.mutators thread ≡ words_open scripts before thread
-waiting_is config scripts before graph work h count thread =
-    ap (λ (k : ℕ). words_waiting work k thread) (sym count) ∙ waiting_up_to scripts before graph work h thread (length scripts) (omega arith)
+waiting_is config scripts before graph work has_judged count thread =
+    ap (λ (k : ℕ). words_waiting work k thread) (sym count) ∙ waiting_up_to scripts before graph work has_judged thread (length scripts) (omega arith)
 
 pub crowded_is : (config : Config) (scripts : Scripts) (before : List Entry) (graph : Plain) (work : Jobs) (entry : Entry) → HasJudged scripts before graph work → length scripts ≡ config.mutators
     → IsFullFor config (graph_of graph) work entry.thread entry.command → IsCrowded config.regions config.region_words (opening (length scripts)) scripts before entry
-crowded_is config scripts before graph work entry h count full = (
+crowded_is config scripts before graph work entry has_judged count full = (
   full.0,
   full.1,
   full.2,
-  subst (λ (graph : Graph). Live graph full.0) h.graph_is full.3,
-  subst (λ (graph : Graph). Held graph full.1) h.graph_is full.4,
-  subst (λ (graph : Graph). PinnedRegions config.region_words graph full.2) h.graph_is full.5,
-  subst (λ (n : ℕ). (config.regions - full.2) * (config.region_words - words_asked (Some entry.command) + 1) ≤ full.0 - full.1 + n) (waiting_is config scripts before graph work h count entry.thread) full.6,
+  subst (λ (graph : Graph). Live graph full.0) has_judged.graph_is full.3,
+  subst (λ (graph : Graph). Held graph full.1) has_judged.graph_is full.4,
+  subst (λ (graph : Graph). PinnedRegions config.region_words graph full.2) has_judged.graph_is full.5,
+  subst (λ (n : ℕ). (config.regions - full.2) * (config.region_words - words_asked (Some entry.command) + 1) ≤ full.0 - full.1 + n) (waiting_is config scripts before graph work has_judged count entry.thread) full.6,
 )
 
 pub full_is_for : (config : Config) (scripts : Scripts) (before : List Entry) (graph : Plain) (work : Jobs) (entry : Entry) → HasJudged scripts before graph work → length scripts ≡ config.mutators
     → IsCrowded config.regions config.region_words (opening (length scripts)) scripts before entry → IsFullFor config (graph_of graph) work entry.thread entry.command
-full_is_for config scripts before graph work entry h count crowded = (
+full_is_for config scripts before graph work entry has_judged count crowded = (
   crowded.0,
   crowded.1,
   crowded.2,
-  subst (λ (graph : Graph). Live graph crowded.0) (sym h.graph_is) crowded.3,
-  subst (λ (graph : Graph). Held graph crowded.1) (sym h.graph_is) crowded.4,
-  subst (λ (graph : Graph). PinnedRegions config.region_words graph crowded.2) (sym h.graph_is) crowded.5,
-  subst (λ (n : ℕ). (config.regions - crowded.2) * (config.region_words - words_asked (Some entry.command) + 1) ≤ crowded.0 - crowded.1 + n) (sym (waiting_is config scripts before graph work h count entry.thread)) crowded.6,
+  subst (λ (graph : Graph). Live graph crowded.0) (sym has_judged.graph_is) crowded.3,
+  subst (λ (graph : Graph). Held graph crowded.1) (sym has_judged.graph_is) crowded.4,
+  subst (λ (graph : Graph). PinnedRegions config.region_words graph crowded.2) (sym has_judged.graph_is) crowded.5,
+  subst (λ (n : ℕ). (config.regions - crowded.2) * (config.region_words - words_asked (Some entry.command) + 1) ≤ crowded.0 - crowded.1 + n) (sym (waiting_is config scripts before graph work has_judged count entry.thread)) crowded.6,
 )
 
 -- ---- one entry more
@@ -150,55 +150,55 @@ of_other before entry thread other =
     ∙ append-nil (of_thread before thread)
 
 counted : (before : List Entry) (entry : Entry) (thread n m : ℕ) → n ≤ length (of_thread before thread) → m ≤ (if thread == entry.thread then n + 1 else n) → m ≤ length (of_thread (before ++ entry ∷ []) thread)
-counted before entry thread n m few more = elim (eqb_tells thread entry.thread) [
-  | inl w ↦ (let one = rw w.0 at more in let size = ap length (of_same before entry thread w.1) ∙ length-append (of_thread before thread) (entry ∷ []) in omega (arith, few, one, size))
-  | inr w ↦ (let same = rw w.0 at more in let size = ap length (of_other before entry thread w.1) in omega (arith, few, same, size))
+counted before entry thread n m at_most more = elim (eqb_tells thread entry.thread) [
+  | inl w ↦ (let one = rw w.0 at more in let size = ap length (of_same before entry thread w.1) ∙ length-append (of_thread before thread) (entry ∷ []) in omega (arith, at_most, one, size))
+  | inr w ↦ (let same = rw w.0 at more in let size = ap length (of_other before entry thread w.1) in omega (arith, at_most, same, size))
 ]
 
 pub one_more : (scripts : Scripts) (before : List Entry) (graph next : Plain) (work : Jobs) (entry : Entry) → HasJudged scripts before graph work
     → 1 ≤ entry.thread → entry.thread ≤ length scripts → IsValid entry.command → threads_of next ≡ threads_of graph → graph_of next ≡ after_entry (graph_of graph) entry
     → HasJudged scripts (before ++ entry ∷ []) next (with_reply work (entry.thread - 1) entry.reply)
-one_more scripts before graph next work entry h low high valid threads made =
-    let here : HasScript work (entry.thread - 1) = h.has (entry.thread - 1) (omega (arith, low, high)) in
+one_more scripts before graph next work entry has_judged low high valid threads made =
+    let here : HasScript work (entry.thread - 1) = has_judged.has (entry.thread - 1) (omega (arith, low, high)) in
     record {
-      graph_is = made ∙ ap (λ (graph : Graph). after_entry graph entry) h.graph_is ∙ sym (after-append (opening (length scripts)) before (entry ∷ []));
-      threads = threads ∙ h.threads;
-      has = λ index below. script_stays work (entry.thread - 1) entry.reply index here (h.has index below);
-      script = λ index below. script_kept work (entry.thread - 1) entry.reply index here ∙ h.script index below;
+      graph_is = made ∙ ap (λ (graph : Graph). after_entry graph entry) has_judged.graph_is ∙ sym (after-append (opening (length scripts)) before (entry ∷ []));
+      threads = threads ∙ has_judged.threads;
+      has = λ index below. script_stays work (entry.thread - 1) entry.reply index here (has_judged.has index below);
+      script = λ index below. script_kept work (entry.thread - 1) entry.reply index here ∙ has_judged.script index below;
       replies = λ index below. replied index below (cases_eq index (entry.thread - 1));
-      counts = λ t. counted before entry t ((graph_of graph).count t) ((graph_of next).count t) (h.counts t)
-          (subst (λ (g : Graph). g.count t ≤ (if t == entry.thread then (graph_of graph).count t + 1 else (graph_of graph).count t)) (sym made) (entry_counts (graph_of graph) entry t));
-      pins = subst (HasPinsOf (length scripts)) (sym made) (entry_pins (length scripts) (graph_of graph) entry low high valid h.pins);
+      counts = λ thread. counted before entry thread ((graph_of graph).count thread) ((graph_of next).count thread) (has_judged.counts thread)
+          (subst (λ (other_graph : Graph). other_graph.count thread ≤ (if thread == entry.thread then (graph_of graph).count thread + 1 else (graph_of graph).count thread)) (sym made) (entry_counts (graph_of graph) entry thread));
+      pins = subst (HasPinsOf (length scripts)) (sym made) (entry_pins (length scripts) (graph_of graph) entry low high valid has_judged.pins);
     }
   where
     replied : (index : ℕ) → index < length scripts → (index ≡ entry.thread - 1) ⊎ (index ≢ entry.thread - 1) → replies_of (with_reply work (entry.thread - 1) entry.reply) index ≡ history.replies_of (of_thread (before ++ entry ∷ []) (index + 1))
     replied index below (inl same) =
         let t : index + 1 ≡ entry.thread = omega (arith, same, low) in
-        let here : HasScript work index = h.has index below in
+        let here : HasScript work index = has_judged.has index below in
         ap (λ (k : ℕ). replies_of (with_reply work k entry.reply) index) (sym same)
         ∙ replies_same work index entry.reply here
-        ∙ ap (λ (replies : List Reply). replies ++ entry.reply ∷ []) (h.replies index below)
+        ∙ ap (λ (replies : List Reply). replies ++ entry.reply ∷ []) (has_judged.replies index below)
         ∙ sym (map-append (λ (entry : Entry). entry.reply) (of_thread before (index + 1)) (entry ∷ []))
         ∙ sym (ap history.replies_of (of_same before entry (index + 1) t))
     replied index below (inr other) =
         replies_other work (entry.thread - 1) entry.reply index other
-        ∙ h.replies index below
+        ∙ has_judged.replies index below
         ∙ sym (ap history.replies_of (of_other before entry (index + 1) (λ same. other (omega (arith, same)))))
 
 -- ---- before any entry
 
 pub first : (scripts : Scripts) (graph : Plain) (work : Jobs) → length scripts ≤ 8 → graph_of graph ≡ opening (length scripts) → threads_of graph ≡ length scripts → work ≡ opened scripts
     → HasJudged scripts [] graph work
-first scripts graph work few made threads is =
+first scripts graph work at_most made threads is =
     let there : (index : ℕ) → index < length scripts → progress_of work index ≡ Some (begun (slice_index_or scripts index [])) = λ index below.
-    ap (λ (w : Jobs). progress_of w index) is ∙ progress_of-opened scripts index few ∙ ap (option_map begun) (slice_get-get_or scripts index [] below) in
+    ap (λ (jobs : Jobs). progress_of jobs index) is ∙ progress_of-opened scripts index at_most ∙ ap (option_map begun) (slice_get-get_or scripts index [] below) in
     record {
       graph_is = made;
       threads = threads;
       has = λ index below. subst IsSome (sym (there index below)) refl;
       script = λ index below. ap (λ (found : Option Progress). (unwrap_or found (begun [])).script) (there index below);
       replies = λ index below. ap (λ (found : Option Progress). (unwrap_or found (begun [])).replies) (there index below);
-      counts = λ t. subst (λ (graph : Graph). graph.count t ≤ 0) (sym made) (omega arith);
+      counts = λ thread. subst (λ (graph : Graph). graph.count thread ≤ 0) (sym made) (omega arith);
       pins = subst (HasPinsOf (length scripts)) (sym made) (opening_pins (length scripts) (length scripts));
     }
 
@@ -206,26 +206,26 @@ first scripts graph work few made threads is =
 
 pub no_next : (config : Config) (scripts : Scripts) (before : List Entry) (graph : Plain) (work : Jobs) (entry : Entry) (n : ℕ) → HasJudged scripts before graph work → length scripts ≡ n
     → (1 ≤ entry.thread → entry.thread ≤ n → next_of work (entry.thread - 1) ≡ Some entry.command → ⊥) → MayFollow config scripts before entry → ⊥
-no_next config scripts before graph work entry n h count none follow =
+no_next config scripts before graph work entry n has_judged count none follow =
     let t = next_thread scripts entry.thread (length (of_thread before entry.thread)) entry.command follow.next in
-    none t.0 (omega (arith, t.1, count)) (next_of_thread scripts before graph work h entry.thread t.0 t.1 ∙ follow.next)
+    none t.0 (omega (arith, t.1, count)) (next_of_thread scripts before graph work has_judged entry.thread t.0 t.1 ∙ follow.next)
 
 pub may_answer : (config : Config) (scripts : Scripts) (before : List Entry) (graph : Plain) (work : Jobs) (entry : Entry) → HasJudged scripts before graph work → length scripts ≡ config.mutators
     → MayFollow config scripts before entry → MayAnswer config (graph_of graph) work entry
-may_answer config scripts before graph work entry h count follow = record {
-  legal = subst (λ (graph : Graph). IsLegal config.regions config.region_words graph entry.thread entry.command entry.reply (after_entry graph entry)) (sym h.graph_is) follow.legal;
-  full = λ full. full_is_for config scripts before graph work entry h count (follow.crowded full);
+may_answer config scripts before graph work entry has_judged count follow = record {
+  legal = subst (λ (graph : Graph). IsLegal config.regions config.region_words graph entry.thread entry.command entry.reply (after_entry graph entry)) (sym has_judged.graph_is) follow.legal;
+  full = λ full. full_is_for config scripts before graph work entry has_judged count (follow.crowded full);
 }
 
 pub may_follow : (config : Config) (scripts : Scripts) (before : List Entry) (graph : Plain) (work : Jobs) (entry : Entry) → HasJudged scripts before graph work → length scripts ≡ config.mutators
     → slice_get (script_of scripts entry.thread) (length (of_thread before entry.thread)) ≡ Some entry.command → MayAnswer config (graph_of graph) work entry → MayFollow config scripts before entry
-may_follow config scripts before graph work entry h count next may = record {
+may_follow config scripts before graph work entry has_judged count next may = record {
   next = next;
-  legal = subst (λ (graph : Graph). IsLegal config.regions config.region_words graph entry.thread entry.command entry.reply (after_entry graph entry)) h.graph_is may.legal;
-  crowded = λ full. crowded_is config scripts before graph work entry h count (may.full full);
+  legal = subst (λ (graph : Graph). IsLegal config.regions config.region_words graph entry.thread entry.command entry.reply (after_entry graph entry)) has_judged.graph_is may.legal;
+  crowded = λ full. crowded_is config scripts before graph work entry has_judged count (may.full full);
 }
 
 -- the entries up to the next, and it
-pub one_longer : (es : List Entry) (index : ℕ) (entry : Entry) → slice_get es index ≡ Some entry → take (index + 1) es ≡ take index es ++ entry ∷ []
-one_longer es index entry there =
-    take_more es index entry (slice_get_within es index entry there) ∙ ap (λ (entry : Entry). take index es ++ entry ∷ []) (get_or_from_slice_get es index entry entry there)
+pub one_longer : (entries : List Entry) (index : ℕ) (entry : Entry) → slice_get entries index ≡ Some entry → take (index + 1) entries ≡ take index entries ++ entry ∷ []
+one_longer entries index entry there =
+    take_more entries index entry (slice_get_within entries index entry there) ∙ ap (λ (entry : Entry). take index entries ++ entry ∷ []) (get_or_from_slice_get entries index entry entry there)

@@ -20,7 +20,7 @@ use Rattle.trace_text.specs.Answer.{IsAnswerText, answer_text}
 use Rattle.trace_text.proofs.AnswerLemmas.{answer_text_same}
 use Rattle.churn.proofs.OneReach.{one_reach}
 use Rattle.shen_check.specs.Judged.{graph_after, HasLeft, FollowUpTo, AllFollow, IsFirstLeft}
-use Rattle.shen_check.specs.Judging.{HasJudged}
+use Rattle.shen_check.specs.JudgeState.{HasJudged}
 use Rattle.shen_check.proofs.Taking.{next_of_thread}
 
 abbrev Scripts : Type 0
@@ -36,33 +36,33 @@ nothing = []
 
 told : (scripts : Scripts) (before : List Entry) (graph : Plain) (work : Jobs) → HasJudged scripts before graph work → (thread : ℕ) → 1 ≤ thread → thread ≤ length scripts
     → replies_of work (thread - 1) ≡ history.replies_of (of_thread before thread)
-told scripts before graph work h thread low high =
+told scripts before graph work has_judged thread low high =
     let same : thread - 1 + 1 ≡ thread = omega (arith, low) in
-    h.replies (thread - 1) (omega (arith, low, high)) ∙ ap (λ (u : ℕ). history.replies_of (of_thread before u)) same
+    has_judged.replies (thread - 1) (omega (arith, low, high)) ∙ ap (λ (u : ℕ). history.replies_of (of_thread before u)) same
 
 -- the answer that a version gives to a history
 abbrev answer_of : ℕ → Scripts → List Entry → List Name → List ℕ
 answer_of version scripts before names =
-    answer_text version (length scripts) (λ t. history.replies_of (of_thread before t)) (map (row_in (graph_after scripts before)) names) (graph_after scripts before).root (λ t slot. name_in ((graph_after scripts before).pin t slot))
+    answer_text version (length scripts) (λ t. history.replies_of (of_thread before t)) (map (row_in (graph_after scripts before)) names) (graph_after scripts before).root (λ thread slot. name_in ((graph_after scripts before).pin thread slot))
 
 text_is : (version : ℕ) (scripts : Scripts) (before : List Entry) (graph : Plain) (work : Jobs) (text : Text) → HasJudged scripts before graph work → IsTextOf (graph_after scripts before) (length scripts) text
     → answer_text version (length text.roots) (λ t. replies_of work (t - 1)) text.rows (root_of text) (pin_of text) ≡ answer_of version scripts before (names_of text)
-text_is version scripts before graph work text h is =
-    ap (λ (n : ℕ). answer_text version n (λ t. replies_of work (t - 1)) text.rows (root_of text) (pin_of text)) is.each
+text_is version scripts before graph work text has_judged is =
+    ap (λ (threads : ℕ). answer_text version threads (λ t. replies_of work (t - 1)) text.rows (root_of text) (pin_of text)) is.each
     ∙ ap (λ (rows : List Row). answer_text version (length scripts) (λ t. replies_of work (t - 1)) rows (root_of text) (pin_of text)) is.rows
     ∙ answer_text_same version (length scripts) (λ t. replies_of work (t - 1)) (λ t. history.replies_of (of_thread before t)) (map (row_in (graph_after scripts before)) (names_of text)) (root_of text) (graph_after scripts before).root
-    (pin_of text) (λ t slot. name_in ((graph_after scripts before).pin t slot))
-    (λ t low high. told scripts before graph work h t low high)
+    (pin_of text) (λ thread slot. name_in ((graph_after scripts before).pin thread slot))
+    (λ thread low high. told scripts before graph work has_judged thread low high)
     (λ t i low high small. is.roots t i low high)
     (λ t i low high small. is.pins t i low high)
 
-pub answered : (version : ℕ) (scripts : Scripts) (before : List Entry) (graph : Plain) (work : Jobs) (text : Text) (body out : List ℕ) (same : Bool) (n : ℕ) → HasJudged scripts before graph work → length scripts ≡ n
-    → IsTextOf (graph_of graph) n text
+pub answered : (version : ℕ) (scripts : Scripts) (before : List Entry) (graph : Plain) (work : Jobs) (text : Text) (body out : List ℕ) (same : Bool) (threads : ℕ) → HasJudged scripts before graph work → length scripts ≡ threads
+    → IsTextOf (graph_of graph) threads text
     → out ≡ answer_text version (length text.roots) (λ t. replies_of work (t - 1)) text.rows (root_of text) (pin_of text) → MatchBool same (body ≡ out) (body ≡ out → ⊥)
     → MatchBool same (IsAnswerText version (length scripts) before body) (IsAnswerText version (length scripts) before body → ⊥)
-answered version scripts before graph work text body out same n h count shows made compared =
-    let is : IsTextOf (graph_after scripts before) (length scripts) text = subst (λ (k : ℕ). IsTextOf (graph_after scripts before) k text) (sym count) (subst (λ (graph : Graph). IsTextOf graph n text) h.graph_is shows) in
-    let whole = made ∙ text_is version scripts before graph work text h is in
+answered version scripts before graph work text body out same threads has_judged count shows made compared =
+    let is : IsTextOf (graph_after scripts before) (length scripts) text = subst (λ (threads : ℕ). IsTextOf (graph_after scripts before) threads text) (sym count) (subst (λ (graph : Graph). IsTextOf graph threads text) has_judged.graph_is shows) in
+    let whole = made ∙ text_is version scripts before graph work text has_judged is in
     by_test same is whole compared
   where
     by_test : (holds : Bool) → IsTextOf (graph_after scripts before) (length scripts) text → out ≡ answer_of version scripts before (names_of text)
@@ -74,28 +74,28 @@ answered version scripts before graph work text body out same n h count shows ma
 
 -- ---- commands that are left
 
-some_left : (cs : List Command) (index : ℕ) → IsSome (slice_get cs index) → index < length cs
-some_left cs index some = elim (cases_lt index (length cs)) [ inl low ↦ low | inr past ↦ absurd (let none = subst (λ (found : Option Command). IsSome found) (slice_get_past cs index past) some in cc) ]
+some_left : (script : List Command) (index : ℕ) → IsSome (slice_get script index) → index < length script
+some_left script index some = elim (cases_lt index (length script)) [ inl low ↦ low | inr past ↦ absurd (let none = subst (λ (found : Option Command). IsSome found) (slice_get_past script index past) some in cc) ]
 
-none_left : (cs : List Command) (index : ℕ) → slice_get cs index ≡ None → index < length cs → ⊥
-none_left cs index none low = let some = slice_get-get_or cs index Gc low in let e = sym none ∙ some in cc
+none_left : (script : List Command) (index : ℕ) → slice_get script index ≡ None → index < length script → ⊥
+none_left script index none low = let some = slice_get-get_or script index Gc low in let e = sym none ∙ some in cc
 
 pub is_left : (scripts : Scripts) (before : List Entry) (graph : Plain) (work : Jobs) → HasJudged scripts before graph work → (thread : ℕ) → 1 ≤ thread → thread ≤ length scripts → IsSome (next_of work (thread - 1)) → HasLeft scripts before thread
-is_left scripts before graph work h thread low high some =
-    some_left (script_of scripts thread) (length (of_thread before thread)) (subst (λ (found : Option Command). IsSome found) (next_of_thread scripts before graph work h thread low high) some)
+is_left scripts before graph work has_judged thread low high some =
+    some_left (script_of scripts thread) (length (of_thread before thread)) (subst (λ (found : Option Command). IsSome found) (next_of_thread scripts before graph work has_judged thread low high) some)
 
 pub not_left : (scripts : Scripts) (before : List Entry) (graph : Plain) (work : Jobs) → HasJudged scripts before graph work → (n : ℕ) → ((m : ℕ) → m < n → next_of work m ≡ None) → (t : ℕ) → t ≤ n → HasLeft scripts before t → ⊥
-not_left scripts before graph work h n none zero low left = omega (arith, left)
-not_left scripts before graph work h n none (suc m) low left = elim (cases_lt m (length scripts)) [
+not_left scripts before graph work has_judged n none zero low left = omega (arith, left)
+not_left scripts before graph work has_judged n none (suc m) low left = elim (cases_lt m (length scripts)) [
   | inl below ↦ none_left (script_of scripts (suc m)) (length (of_thread before (suc m)))
-      (sym (next_of_thread scripts before graph work h (suc m) (omega arith) (omega (arith, below))) ∙ (let same : suc m - 1 ≡ m = omega arith in ap (next_of work) same) ∙ none m (omega (arith, low))) left
+      (sym (next_of_thread scripts before graph work has_judged (suc m) (omega arith) (omega (arith, below))) ∙ (let same : suc m - 1 ≡ m = omega arith in ap (next_of work) same) ∙ none m (omega (arith, low))) left
   | inr past ↦ (let size = ap length (get_or_past scripts m nothing past) in omega (arith, left, size))
 ]
 
 pub none_is_left : (scripts : Scripts) (before : List Entry) (graph : Plain) (work : Jobs) → HasJudged scripts before graph work → ((index : ℕ) → index < length scripts → next_of work index ≡ None) → (t : ℕ) → HasLeft scripts before t → ⊥
-none_is_left scripts before graph work h none t left = elim (cases_lt (length scripts) t) [
+none_is_left scripts before graph work has_judged none t left = elim (cases_lt (length scripts) t) [
   | inl beyond ↦ beyond_none t beyond left
-  | inr within ↦ not_left scripts before graph work h (length scripts) none t within left
+  | inr within ↦ not_left scripts before graph work has_judged (length scripts) none t within left
 ]
   where
     beyond_none : (u : ℕ) → length scripts < u → HasLeft scripts before u → ⊥
@@ -104,28 +104,28 @@ none_is_left scripts before graph work h none t left = elim (cases_lt (length sc
 
 -- ---- the end of a history
 
-pub ended : (config : Config) (scripts : Scripts) (es : List Entry) (graph : Plain) (work : Jobs) (k : ℕ) → length es ≡ k → HasJudged scripts (take k es) graph work → FollowUpTo config scripts es k
-    → HasJudged scripts es graph work × AllFollow config scripts es
-ended config scripts es graph work k end judged follow = (
-  subst (λ (entries : List Entry). HasJudged scripts entries graph work) (take_all k es (omega (arith, end))) judged,
-  subst (λ (n : ℕ). FollowUpTo config scripts es n) (sym end) follow,
+pub ended : (config : Config) (scripts : Scripts) (entries : List Entry) (graph : Plain) (work : Jobs) (k : ℕ) → length entries ≡ k → HasJudged scripts (take k entries) graph work → FollowUpTo config scripts entries k
+    → HasJudged scripts entries graph work × AllFollow config scripts entries
+ended config scripts other_entries graph work k end judged follow = (
+  subst (λ (entries : List Entry). HasJudged scripts entries graph work) (take_all k other_entries (omega (arith, end))) judged,
+  subst (λ (n : ℕ). FollowUpTo config scripts other_entries n) (sym end) follow,
 )
 
-pub first_left_is : (config : Config) (scripts : Scripts) (es : List Entry) (graph : Plain) (work : Jobs) (n t : ℕ) → HasJudged scripts es graph work → AllFollow config scripts es → length scripts ≡ n
-    → (1 ≤ t) × (t ≤ n) × IsSome (next_of work (t - 1)) × ((m : ℕ) → m < t - 1 → next_of work m ≡ None) → IsFirstLeft config scripts es t
-first_left_is config scripts es graph work n t judged follow count it = record {
+pub first_left_is : (config : Config) (scripts : Scripts) (entries : List Entry) (graph : Plain) (work : Jobs) (n thread : ℕ) → HasJudged scripts entries graph work → AllFollow config scripts entries → length scripts ≡ n
+    → (1 ≤ thread) × (thread ≤ n) × IsSome (next_of work (thread - 1)) × ((m : ℕ) → m < thread - 1 → next_of work m ≡ None) → IsFirstLeft config scripts entries thread
+first_left_is config scripts entries graph work n thread judged follow count it = record {
   follow = follow;
-  left = is_left scripts es graph work judged t it.0 (omega (arith, it.1, count)) it.2;
-  before = λ u low. not_left scripts es graph work judged (t - 1) it.3 u (omega (arith, low));
+  left = is_left scripts entries graph work judged thread it.0 (omega (arith, it.1, count)) it.2;
+  before = λ u low. not_left scripts entries graph work judged (thread - 1) it.3 u (omega (arith, low));
 }
 
-pub nothing_left : (scripts : Scripts) (es : List Entry) (graph : Plain) (work : Jobs) (n : ℕ) → HasJudged scripts es graph work → length scripts ≡ n → ((m : ℕ) → m < n → next_of work m ≡ None)
-    → (t : ℕ) → HasLeft scripts es t → ⊥
-nothing_left scripts es graph work n judged count none = none_is_left scripts es graph work judged (λ m low. none m (omega (arith, low, count)))
+pub nothing_left : (scripts : Scripts) (entries : List Entry) (graph : Plain) (work : Jobs) (n : ℕ) → HasJudged scripts entries graph work → length scripts ≡ n → ((m : ℕ) → m < n → next_of work m ≡ None)
+    → (t : ℕ) → HasLeft scripts entries t → ⊥
+nothing_left scripts entries graph work n judged count none = none_is_left scripts entries graph work judged (λ m low. none m (omega (arith, low, count)))
 
 pub map_ok : {E : Type 0} (r : Result Bool E) (P Q : Bool → Type 0) → ((holds : Bool) → P holds → Q holds) → IfOk r P → IfOk r Q
-map_ok (Ok holds) P Q f p = f holds p
-map_ok (Err e) P Q f p = tt
+map_ok (Ok holds) P Q f if_ok = f holds if_ok
+map_ok (Err e) P Q f if_ok = tt
 
-pub entry_there : (es : List Entry) (index : ℕ) → index < length es → (entry : Entry) × (slice_get es index ≡ Some entry)
-entry_there es index low = let none : Entry = record { thread = 0; command = Gc; reply = reply.Bad } in (get_or es index none, slice_get-get_or es index none low)
+pub entry_there : (entries : List Entry) (index : ℕ) → index < length entries → (entry : Entry) × (slice_get entries index ≡ Some entry)
+entry_there entries index low = let none : Entry = record { thread = 0; command = Gc; reply = reply.Bad } in (get_or entries index none, slice_get-get_or entries index none low)

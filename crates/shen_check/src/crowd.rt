@@ -4,7 +4,7 @@ ghost use Rattle.shen_graph.specs.Crowd.{words_asked};
 ghost use Rattle.shen_graph.specs.PlainGraph.{graph_of, threads_of};
 ghost use Rattle.shen_graph.specs.Reach.{Live};
 ghost use Rattle.shen_graph.specs.Work.{HasScript};
-ghost use Rattle.shen_check.specs.Judging.{words_beside, words_waiting, pins_held, names_held, words_held, regions_held, HasPinsOf, IsFullFor};
+ghost use Rattle.shen_check.specs.JudgeState.{words_beside, words_waiting, pins_held, names_held, words_held, regions_held, HasPinsOf, IsFullFor};
 
 use heap_words::Config;
 use shen_graph::{Command, Name, NoMemory, Pinned, PlainGraph, Work};

@@ -9,7 +9,7 @@ ghost use Rattle.shen_graph.specs.Work.{HasScript, next_of};
 ghost use Rattle.shen_graph.specs.declared.command.Command.{Command as Asked};
 ghost use Rattle.trace_text.specs.Answer.{IsAnswerText};
 ghost use Rattle.shen_check.specs.Judged.{MayFollow};
-ghost use Rattle.shen_check.specs.Judging.{HasJudged, HasPinsOf, IsFullFor, MayAnswer};
+ghost use Rattle.shen_check.specs.JudgeState.{HasJudged, HasPinsOf, IsFullFor, MayAnswer};
 
 use crate::crowd::{is_full_for, live_words};
 use crate::kept::is_text;

@@ -5,13 +5,13 @@ use Rattle.std.specs.Prelude.{slice_get, slice_set}
 use Rattle.std.specs.Option.{option_map}
 use Rattle.std.proofs.lemmas.Bool.{cases_eq, lt-ltb}
 use Rattle.std.proofs.lemmas.Option.{same_Some}
+use Rattle.heap_words.proofs.Lists.{slice_get-set_other, slice_get-set_same}
 use Rattle.heap_words.specs.declared.config.Config.{Config}
 use Rattle.heap_machines.proofs.Turns.{role_stays}
 use Rattle.heap_machines.proofs.OnScript.{script_step, script_done}
 use Rattle.heap_machines.proofs.Openings.{first_actor, first_role, first_on_script}
 use Rattle.heap_words.specs.Steps.{Stage, Event, act, go, moved}
 use Rattle.heap_words.proofs.Laws.{act_cases}
-use Rattle.heap_words.proofs.Places.{slice_get-set_same, slice_get-set_other}
 use Rattle.shen_graph.specs.declared.order.Order.{Order}
 use Rattle.step_core.specs.Actor.{Actor}
 use Rattle.step_core.specs.Machines.{took_of, kind}
@@ -26,39 +26,39 @@ use Rattle.shen_core.proofs.Keeps.{schedule_keeps}
 
 -- a machine makes its event under its own order
 own_turn : (t : ℕ) (found : Option Order) (e : Event Order) → option_map (λ order. event t order) found ≡ Some e → found ≡ Some e.order
-own_turn t None e h = absurd cc
-own_turn t (Some x) e h = ap (λ (y : Event Order). Some y.order) (same_Some _ e h)
+own_turn t None e found = absurd cc
+own_turn t (Some order) e found = ap (λ (y : Event Order). Some y.order) (same_Some _ e found)
 
 -- a turn keeps that the calls of a mutator are the first of its script
-turn_keeps : (config : Config) (scripts : Scripts) (t : ℕ) (stage : Stage Actor) (k : ℕ) (e : Event Order) → turn scripts stage k ≡ Some e → CallsScript scripts stage t → CallsScript scripts (act (kind pause_image config) stage e) t
+turn_keeps : (config : Config) (scripts : Scripts) (number : ℕ) (stage : Stage Actor) (k : ℕ) (e : Event Order) → turn scripts stage k ≡ Some e → CallsScript scripts stage number → CallsScript scripts (act (kind pause_image config) stage e) number
 unfolding kind
-turn_keeps config scripts t stage k e is before = act_cases (kind pause_image config) (λ x. CallsScript scripts x t) stage e before (λ actor here takes. by_number actor here (cases_eq t e.number))
+turn_keeps config scripts number stage k e is before = act_cases (kind pause_image config) (λ stage. CallsScript scripts stage number) stage e before (λ actor here takes. by_number actor here (cases_eq number e.number))
   where
-    other : (actor : Actor) → t ≢ e.number → CallsScript scripts (moved (kind pause_image config) stage e.number actor e.order) t
-    other actor differs = record { actor = before.actor; here = slice_get-set_other stage.machines e.number t _ differs ∙ before.here; role = before.role; calls = before.calls }
+    other : (actor : Actor) → number ≢ e.number → CallsScript scripts (moved (kind pause_image config) stage e.number actor e.order) number
+    other actor differs = record { actor = before.actor; here = slice_get-set_other stage.machines e.number number _ differs ∙ before.here; role = before.role; calls = before.calls }
 
-    own : (got : ℕ) (machines : List Actor) (words : List ℕ) (actor : Actor) → slice_get stage.machines e.number ≡ Some actor → actor ≡ before.actor → machines ≡ slice_set stage.machines e.number (took_of pause_image config actor e.order got actor.machine) → t ≡ e.number
-        → CallsScript scripts (record { words = words; machines = machines }) t
+    own : (got : ℕ) (machines : List Actor) (words : List ℕ) (actor : Actor) → slice_get stage.machines e.number ≡ Some actor → actor ≡ before.actor → machines ≡ slice_set stage.machines e.number (took_of pause_image config actor e.order got actor.machine) → number ≡ e.number
+        → CallsScript scripts (record { words = words; machines = machines }) number
     own got machines words actor here same_actor made same =
         let a = before.actor in
-        let order : order_for (slice_get (nth_script scripts t) (length a.calls)) a.machine ≡ Some e.order =
-        own_turn t (order_for (slice_get (nth_script scripts t) (length a.calls)) a.machine) e (sym (actor_turn scripts stage t a before.here) ∙ ap (turn scripts stage) (same ∙ turn_number scripts stage k e is) ∙ is) in
+        let order : order_for (slice_get (nth_script scripts number) (length a.calls)) a.machine ≡ Some e.order =
+        own_turn number (order_for (slice_get (nth_script scripts number) (length a.calls)) a.machine) e (sym (actor_turn scripts stage number a before.here) ∙ ap (turn scripts stage) (same ∙ turn_number scripts stage k e is) ∙ is) in
         record {
           actor = took_of pause_image config a e.order got a.machine;
           here = ap (slice_get machines) same ∙ ap (λ (ms : List Actor). slice_get ms e.number) made ∙ slice_get-set_same stage.machines e.number actor (took_of pause_image config actor e.order got actor.machine) here
               ∙ ap (λ (actor : Actor). Some (took_of pause_image config actor e.order got actor.machine)) same_actor;
           role = role_stays pause_image config e.order got a.machine ∙ before.role;
-          calls = script_step pause_image config (nth_script scripts t) a e.order got before.calls order;
+          calls = script_step pause_image config (nth_script scripts number) a e.order got before.calls order;
         }
 
-    by_number : (actor : Actor) → slice_get stage.machines e.number ≡ Some actor → ((t ≡ e.number) ⊎ (t ≢ e.number)) → CallsScript scripts (moved (kind pause_image config) stage e.number actor e.order) t
+    by_number : (actor : Actor) → slice_get stage.machines e.number ≡ Some actor → ((number ≡ e.number) ⊎ (number ≢ e.number)) → CallsScript scripts (moved (kind pause_image config) stage e.number actor e.order) number
     by_number actor here (inr differs) = other actor differs
     by_number actor here (inl same) =
         own _ (moved (kind pause_image config) stage e.number actor e.order).machines (moved (kind pause_image config) stage e.number actor e.order).words actor here (same_Some actor before.actor (sym here ∙ ap (slice_get stage.machines) (sym same) ∙ before.here)) refl same
 
 -- the events of a schedule keep it for each mutator
 pub all_call : (config : Config) (scripts : Scripts) (n : ℕ) (agenda : Agenda) (stage : Stage Actor) → AllCall config scripts stage → AllCall config scripts (go (kind pause_image config) stage (scheduled pause_image config scripts n agenda stage))
-all_call config scripts n agenda stage calls t below = schedule_keeps config scripts (λ x. CallsScript scripts x t) (turn_keeps config scripts t) n agenda stage (calls t below)
+all_call config scripts n agenda stage calls t below = schedule_keeps config scripts (λ stage. CallsScript scripts stage t) (turn_keeps config scripts t) n agenda stage (calls t below)
 
 -- in the opening there are no calls
 pub all_call_first : (config : Config) (scripts : Scripts) → AllCall config scripts (opening config)
@@ -70,15 +70,15 @@ all_call_first config scripts t below = record {
 }
 
 -- a mutator without a turn has called its whole script
-idle_has_called : (scripts : Scripts) (stage : Stage Actor) (t : ℕ) → CallsScript scripts stage t → turn scripts stage t ≡ None → HasCalled scripts stage t
-idle_has_called scripts stage t before idle = record {
+idle_has_called : (scripts : Scripts) (stage : Stage Actor) (number : ℕ) → CallsScript scripts stage number → turn scripts stage number ≡ None → HasCalled scripts stage number
+idle_has_called scripts stage number before idle = record {
   actor = before.actor;
   here = before.here;
-  called = script_done (nth_script scripts t) before.actor before.role before.calls
-      (nothing_of (order_for (slice_get (nth_script scripts t) (length before.actor.calls)) before.actor.machine) (sym (actor_turn scripts stage t before.actor before.here) ∙ idle));
+  called = script_done (nth_script scripts number) before.actor before.role before.calls
+      (nothing_of (order_for (slice_get (nth_script scripts number) (length before.actor.calls)) before.actor.machine) (sym (actor_turn scripts stage number before.actor before.here) ∙ idle));
 }
   where
-    nothing_of : (found : Option Order) → option_map (λ order. event t order) found ≡ None → found ≡ None
+    nothing_of : (found : Option Order) → option_map (λ order. event number order) found ≡ None → found ≡ None
     nothing_of None h = refl
     nothing_of (Some x) h = absurd cc
 

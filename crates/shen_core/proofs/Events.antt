@@ -63,16 +63,16 @@ module _ (config : Config) (words : List ℕ) (machines : List Machine) (number 
   unfolding kind
   shows_step stage shows here takes =
       let found = shown_event stage shows here takes in
-      subst (λ x. WordsShow stepped_words stepped_machines x) (sym (act-event (kind pause_image config) stage (event number order) found.0 found.1))
+      subst (λ stage. WordsShow stepped_words stepped_machines stage) (sym (act-event (kind pause_image config) stage (event number order) found.0 found.1))
       (subst (λ x. WordsShow stepped_words stepped_machines (moved (kind pause_image config) stage number (record { machine = x; command = found.0.command; calls = found.0.calls }) order)) (sym found.2)
       (moved_shows stage found.0.command found.0.calls shows))
 
   -- the step is one event
   pub one_event : slice_get machines number ≡ Some machine → takes_of machine order ≡ true → IsOneEvent config words machines stepped_words stepped_machines number order
   one_event here takes = record {
-    is_event = λ s shows. let found = shown_event s shows here takes in (found.0, found.1);
-    acts = λ s shows. shows_step s shows here takes;
+    is_event = λ stage shows. let found = shown_event stage shows here takes in (found.0, found.1);
+    acts = λ stage shows. shows_step stage shows here takes;
     goes_on = λ start events shows.
-        subst (λ x. WordsShow stepped_words stepped_machines x) (sym (go-step (kind pause_image config) start events (event number order)))
+        subst (λ stage. WordsShow stepped_words stepped_machines stage) (sym (go-step (kind pause_image config) start events (event number order)))
         (shows_step (go (kind pause_image config) start events) shows here takes);
   }

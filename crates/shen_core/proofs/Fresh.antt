@@ -22,8 +22,8 @@ use Rattle.shen_core.specs.Progress.{CanRun, Tells, IsRunnable}
 
 -- nothing was done of a script
 progress_first : (scripts : Scripts) (index : ℕ) → index < length scripts → length scripts ≤ 8 → work.progress_of (work.opened scripts) index ≡ Some (work.begun (nth_script scripts index))
-progress_first scripts index below few =
-    get_or-map-range_with_len (λ m. option_map work.begun (slice_get scripts m)) 0 8 index index None (omega arith) (omega arith)
+progress_first scripts index below at_most =
+    get_or-map-range_with_len (λ index. option_map work.begun (slice_get scripts index)) 0 8 index index None (omega arith) (omega arith)
     ∙ ap (option_map work.begun) (slice_get-get_or scripts index [] below)
 
 -- a machine is that of the opening
@@ -40,25 +40,25 @@ rests_first config machines mutator is below = ap is_resting (machine_first conf
 
 -- a heap that was just opened can run scripts of commands that can be given
 pub can_run_first : (plain : Plain) (scripts : Scripts) → Shows plain (opening (config_of plain)) → All (λ order. order ≡ Nothing) (orders_of plain) → (config_of plain).mutators ≡ length scripts → length scripts ≤ 8 → All IsRunnable scripts → CanRun plain (work.opened scripts)
-can_run_first plain scripts shows orders count few served = record {
+can_run_first plain scripts shows orders count at_most served = record {
   orders = orders;
-  jobs_are = λ t below. subst (λ o. IsSome o) (sym (progress_first scripts t (omega arith) few)) refl;
-  commands = λ t below. subst (λ o. All IsValid (unwrap_or o (work.begun [])).script) (sym (progress_first scripts t (omega arith) few)) (served t [] (omega arith)).0;
-  busy = λ t below busy. absurd (false≢true (sym busy ∙ rests_first (config_of plain) (machines_of plain) t shows.machines_are below));
+  jobs_are = λ index below. subst (λ o. IsSome o) (sym (progress_first scripts index (omega arith) at_most)) refl;
+  commands = λ index below. subst (λ o. All IsValid (unwrap_or o (work.begun [])).script) (sym (progress_first scripts index (omega arith) at_most)) (served index [] (omega arith)).0;
+  busy = λ mutator below busy. absurd (false≢true (sym busy ∙ rests_first (config_of plain) (machines_of plain) mutator shows.machines_are below));
   made = λ t below.
       let none = made_first (config_of plain) (machines_of plain) t shows.machines_are below in
       let few_commands : length (nth_script scripts t) < most_objects = (served t [] (omega arith)).1 in
-      let is : work.script_in (work.opened scripts) t ≡ nth_script scripts t = ap (λ o. (unwrap_or o (work.begun [])).script) (progress_first scripts t (omega arith) few) in
+      let is : work.script_in (work.opened scripts) t ≡ nth_script scripts t = ap (λ o. (unwrap_or o (work.begun [])).script) (progress_first scripts t (omega arith) at_most) in
       let long = ap length is in
       omega (arith, none, few_commands, long);
 }
 
 -- and the work tells the replies of its calls: there is none
 pub tells_first : (config : Config) (scripts : Scripts) → config.mutators ≡ length scripts → length scripts ≤ 8 → Tells config scripts (work.opened scripts) (opening config)
-tells_first config scripts count few = record {
-  scripts_are = λ t below. ap (λ o. (unwrap_or o (work.begun [])).script) (progress_first scripts t (omega arith) few);
+tells_first config scripts count at_most = record {
+  scripts_are = λ index below. ap (λ o. (unwrap_or o (work.begun [])).script) (progress_first scripts index (omega arith) at_most);
   replies = λ t a below here.
-      ap (λ o. (unwrap_or o (work.begun [])).replies) (progress_first scripts t (omega arith) few) ∙ ap (λ b. map (λ e. e.reply) b.calls) (first_is config t a here).1;
+      ap (λ o. (unwrap_or o (work.begun [])).replies) (progress_first scripts t (omega arith) at_most) ∙ ap (λ b. map (λ e. e.reply) b.calls) (first_is config t a here).1;
 }
 
 -- scripts that are put together one after the other

@@ -36,7 +36,7 @@ pub shown_from : (config : Config) (words counts held : List ℕ) (machines : Li
     → ∥ IsShownBySomeRun config held machines ∥₁
 shown_from config words counts held machines long shows some = ∥∥₁_map some (λ can. record {
   run = record { start = stage_from config words counts; graph = can.0; begins = begins_from config words counts long can.0 can.1; events = [] };
-  shows = subst (λ s. WordsShow held machines s) (sym (go-none (kind pause_image config) (stage_from config words counts))) shows;
+  shows = subst (λ stage. WordsShow held machines stage) (sym (go-none (kind pause_image config) (stage_from config words counts))) shows;
 })
 
 -- what is known of a heap of words and machines
@@ -49,8 +49,8 @@ opened_orders plain orders is none = subst (λ os. All (λ order. order ≡ Noth
 -- the first machine, where there is a mutator: it is one of a thread that has made so many objects
 pub first_from : (config : Config) (words counts : List ℕ) (machines : List actors.Machine) → map (λ a. a.machine) (stage_from config words counts).machines ≡ machines → 0 < config.mutators
     → slice_index_or machines 0 no_machine ≡ mutating (mutator_after 0 (slice_index counts 0))
-first_from config words counts machines is some =
+first_from config words counts machines is positive =
     let made = machine_from config counts (view config words) in
     ap (λ ms. slice_index_or ms 0 no_machine) (sym is ∙ stage_machines config words counts)
     ∙ get_or-map-range_with_len made 0 (seat_count config.mutators config.helpers) 0 0 no_machine (omega arith) refl
-    ∙ sym (mutator_is config counts (view config words) 0 some)
+    ∙ sym (mutator_is config counts (view config words) 0 positive)

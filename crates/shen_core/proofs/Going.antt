@@ -29,11 +29,11 @@ module _ (config : Config) (scripts : Scripts) where
 
   -- two parts follow each other
   unfoldable pub goes_then : (s t u : Stage Actor) (todo rest more : Agenda) (left later last : ℕ) → Goes config scripts s todo left t rest later → Goes config scripts t rest later u more last → Goes config scripts s todo left u more last
-  goes_then s t u todo rest more left later last one two = record {
+  goes_then stage other_stage u todo rest more left later last one two = record {
     done = one.done ++ two.done;
-    leads = go-append (kind pause_image config) s one.done two.done ∙ ap (λ x. go (kind pause_image config) x two.done) one.leads ∙ two.leads;
+    leads = go-append (kind pause_image config) stage one.done two.done ∙ ap (λ x. go (kind pause_image config) x two.done) one.leads ∙ two.leads;
     events = one.events ∙ ap (λ es. one.done ++ es) two.events ∙ sym (append_assoc one.done two.done (scheduled pause_image config scripts last more u));
-    count = (let a = one.count in let b = two.count in let d = length-append one.done two.done in omega arith);
+    count = (let count = one.count in let b = two.count in let d = length-append one.done two.done in omega arith);
   }
 
   -- where no event is left, it does not matter what is to be done
@@ -55,8 +55,8 @@ module _ (config : Config) (scripts : Scripts) where
   -- the next event
   pub goes_next : (stage : Stage Actor) (todo rest : Agenda) (event : Event Order) (left : ℕ) → 0 < left → next config scripts stage todo ≡ Some (record { event = event; agenda = rest }) → Goes config scripts stage todo left (act (kind pause_image config) stage event) rest (left - 1)
   unfolding scheduled
-  goes_next stage todo rest event zero some is = absurd (omega arith)
-  goes_next stage todo rest event (suc n) some is = record {
+  goes_next stage todo rest event zero positive is = absurd (omega arith)
+  goes_next stage todo rest event (suc n) positive is = record {
     done = event ∷ [];
     leads = go-first (kind pause_image config) stage event [] ∙ go-none (kind pause_image config) (act (kind pause_image config) stage event);
     events = ap (λ x. and_then x (λ y. scheduled pause_image config scripts n y.agenda (act (kind pause_image config) stage y.event))) is
@@ -72,13 +72,13 @@ module _ (config : Config) (scripts : Scripts) where
   -- an event of a task
   pub goes_task : (stage : Stage Actor) (task : Task) (more tasks : List Task) (from : ℕ) (event : Event Order) (left : ℕ) → 0 < left → move_of config scripts stage task ≡ Some (record { event = event; tasks = more })
       → Goes config scripts stage (agenda (task ∷ tasks) from) left (act (kind pause_image config) stage event) (agenda (more ++ tasks) from) (left - 1)
-  goes_task stage task more tasks from event left some is = goes_next stage (agenda (task ∷ tasks) from) (agenda (more ++ tasks) from) event left some
+  goes_task stage task more tasks from event left positive is = goes_next stage (agenda (task ∷ tasks) from) (agenda (more ++ tasks) from) event left positive
       (ap (λ m. after_move m tasks from (next_by config scripts stage tasks from)) is)
 
   -- the tasks by the turn of their machine
   pub steps_move : (stage : Stage Actor) (number wanted : ℕ) → 0 < wanted → move_of config scripts stage (steps number wanted) ≡ moves (turn scripts stage number) (steps number (wanted - 1) ∷ [])
-  steps_move stage number zero some = absurd (omega arith)
-  steps_move stage number (suc k) some = ap (λ n. moves (turn scripts stage number) (steps number n ∷ [])) (omega arith)
+  steps_move stage number zero positive = absurd (omega arith)
+  steps_move stage number (suc k) positive = ap (λ count. moves (turn scripts stage number) (steps number count ∷ [])) (omega arith)
 
   -- a task ends where its machine has come to the place
   pub until_there : (stage : Stage Actor) (number : ℕ) (place : Place) → is_at_place scripts stage number place ≡ true → move_of config scripts stage (until number place) ≡ None
@@ -114,17 +114,17 @@ runs_none plain jobs todo left scripts s shows tells = record { stage = s; goes 
 
 -- two parts of a run follow each other
 pub runs_then : (p q r : Plain) (jobs later last : Jobs) (todo rest more : Agenda) (left middle remaining : ℕ) → config_of q ≡ config_of p → Runs p jobs todo left q later rest middle → Runs q later rest middle r last more remaining → Runs p jobs todo left r last more remaining
-runs_then p q r jobs later last todo rest more left middle remaining same one two scripts s shows tells =
+runs_then plain other_plain r jobs later last todo rest more left middle remaining same one two scripts s shows tells =
     let went = one scripts s shows tells in
-    let on = subst (λ c. WentOn c scripts went.stage rest middle r last more remaining) same
-    (two scripts went.stage went.shows (subst (λ c. Tells c scripts later went.stage) (sym same) went.tells)) in
-    record { stage = on.stage; goes = goes_then (config_of p) scripts s went.stage on.stage todo rest more left middle remaining went.goes on.goes; shows = on.shows; tells = on.tells }
+    let on = subst (λ config. WentOn config scripts went.stage rest middle r last more remaining) same
+    (two scripts went.stage went.shows (subst (λ config. Tells config scripts later went.stage) (sym same) went.tells)) in
+    record { stage = on.stage; goes = goes_then (config_of plain) scripts s went.stage on.stage todo rest more left middle remaining went.goes on.goes; shows = on.shows; tells = on.tells }
 
 -- without events left
 pub runs_out : (plain : Plain) (jobs : Jobs) (todo rest : Agenda) (left : ℕ) → left ≡ 0 → Runs plain jobs todo left plain jobs rest left
 runs_out plain jobs todo rest left none scripts s shows tells = record {
   stage = s;
-  goes = subst (λ n. Goes (config_of plain) scripts s todo n s rest n) (sym none) (goes_out (config_of plain) scripts s todo rest);
+  goes = subst (λ later. Goes (config_of plain) scripts s todo later s rest later) (sym none) (goes_out (config_of plain) scripts s todo rest);
   shows = shows;
   tells = tells;
 }
@@ -149,11 +149,11 @@ task_idles plain other_plain jobs later number result task left turned idle none
 pub task_moves : (plain other_plain : Plain) (jobs later : Jobs) (number : ℕ) (result : Stepped) (task : Task) (more : List Task) (left : ℕ) → HasTurned plain jobs number other_plain later result → (result ≡ Idle → ⊥) → 0 < left
     → ((scripts : Scripts) (stage : Stage Actor) → Shows plain stage → Tells (config_of plain) scripts jobs stage → waits_then (config_of plain) stage (turn scripts stage number) ≡ waiting_of result → move_of (config_of plain) scripts stage task ≡ moves (turn scripts stage number) more)
     → (tasks : List Task) (from : ℕ) → Runs plain jobs (agenda (task ∷ tasks) from) left other_plain later (agenda (more ++ tasks) from) (left - 1)
-task_moves plain other_plain jobs later number result task more left turned busy some move tasks from scripts stage shows tells =
+task_moves plain other_plain jobs later number result task more left turned busy positive move tasks from scripts stage shows tells =
     let moved = moved_of (config_of plain) scripts stage number other_plain later result busy (turned scripts stage shows tells) in
     record {
       stage = act (kind pause_image (config_of plain)) stage moved.event;
-      goes = goes_task (config_of plain) scripts stage task more tasks from moved.event left some
+      goes = goes_task (config_of plain) scripts stage task more tasks from moved.event left positive
           (move scripts stage shows tells (ap (waits_then (config_of plain) stage) moved.is ∙ moved.waits_is) ∙ ap (λ e. moves e more) moved.is);
       shows = moved.shows;
       tells = moved.tells;

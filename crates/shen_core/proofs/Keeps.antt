@@ -13,8 +13,8 @@ use Rattle.step_core.specs.Schedule.{Scripts, turn, is_at_place, given, Task, st
 
 -- a move has the event that it is of
 moves_turn : (found : Option (Event Order)) (tasks : List Task) (m : ScheduledEvent) → moves found tasks ≡ Some m → found ≡ Some m.event
-moves_turn None tasks m e = absurd cc
-moves_turn (Some x) tasks m e = ap (λ (y : ScheduledEvent). Some y.event) (same_Some (record { event = x; tasks = tasks }) m e)
+moves_turn None tasks m found = absurd cc
+moves_turn (Some x) tasks m found = ap (λ (y : ScheduledEvent). Some y.event) (same_Some (record { event = x; tasks = tasks }) m found)
 
 -- the event is a machine's turn
 abbrev IsSomeTurn : Scripts → Stage Actor → Event Order → Type 0
@@ -27,11 +27,11 @@ by_test false found y e = e
 
 -- the event of a task is the turn of its machine
 task_turn : (config : Config) (scripts : Scripts) (stage : Stage Actor) (t : Task) (m : ScheduledEvent) → move_of config scripts stage t ≡ Some m → IsSomeTurn scripts stage m.event
-task_turn config scripts stage (steps number zero) m e = absurd cc
-task_turn config scripts stage (steps number (suc count)) m e = (number, moves_turn (turn scripts stage number) _ m e)
-task_turn config scripts stage (until number place) m e = (number, moves_turn (turn scripts stage number) _ m (by_test (is_at_place scripts stage number place) _ m e))
-task_turn config scripts stage (replies number count) m e = (number, moves_turn (turn scripts stage number) _ m (by_test (nat_le count (given stage number)) _ m e))
-task_turn config scripts stage control m e = (_, moves_turn _ [] m e)
+task_turn config scripts stage (steps number zero) m found = absurd cc
+task_turn config scripts stage (steps number (suc count)) m found = (number, moves_turn (turn scripts stage number) _ m found)
+task_turn config scripts stage (until number place) m found = (number, moves_turn (turn scripts stage number) _ m (by_test (is_at_place scripts stage number place) _ m found))
+task_turn config scripts stage (replies number count) m found = (number, moves_turn (turn scripts stage number) _ m (by_test (nat_le count (given stage number)) _ m found))
+task_turn config scripts stage control m found = (_, moves_turn _ [] m found)
 
 -- the event of a round is the turn of one of its machines
 round_turn : (scripts : Scripts) (stage : Stage Actor) (ks : List ℕ) (event : Event Order) → first_turn scripts stage ks ≡ Some event → IsSomeTurn scripts stage event
@@ -43,13 +43,13 @@ round_turn scripts stage (k ∷ ks) event is = by_first (turn scripts stage k) r
     by_first (Some x) here others is_next = (k, here ∙ is_next)
 
 -- so is the event that comes next where no task is left
-round_next : (scripts : Scripts) (stage : Stage Actor) (found : Option (Event Order)) (x : Next) → ((e : Event Order) → found ≡ Some e → IsSomeTurn scripts stage e) → round_of found ≡ Some x → IsSomeTurn scripts stage x.event
-round_next scripts stage None x each e = absurd cc
-round_next scripts stage (Some y) x each e = subst (λ (z : Next). IsSomeTurn scripts stage z.event) (same_Some _ x e) (each y refl)
+round_next : (scripts : Scripts) (stage : Stage Actor) (found : Option (Event Order)) (x : Next) → ((event : Event Order) → found ≡ Some event → IsSomeTurn scripts stage event) → round_of found ≡ Some x → IsSomeTurn scripts stage x.event
+round_next scripts stage None x each found = absurd cc
+round_next scripts stage (Some y) x each found = subst (λ (z : Next). IsSomeTurn scripts stage z.event) (same_Some _ x found) (each y refl)
 
 -- the next event of an agenda is a machine's turn
 next_turn : (config : Config) (scripts : Scripts) (stage : Stage Actor) (tasks : List Task) (from : ℕ) (x : Next) → next_by config scripts stage tasks from ≡ Some x → IsSomeTurn scripts stage x.event
-next_turn config scripts stage [] from x e = round_next scripts stage (first_turn scripts stage (numbers_from config from)) x (round_turn scripts stage (numbers_from config from)) e
+next_turn config scripts stage [] from x found = round_next scripts stage (first_turn scripts stage (numbers_from config from)) x (round_turn scripts stage (numbers_from config from)) found
 next_turn config scripts stage (t ∷ ts) from x e = by_move (move_of config scripts stage t) refl (next_turn config scripts stage ts from x) e
   where
     by_move : (found : Option ScheduledEvent) → move_of config scripts stage t ≡ found → (next_by config scripts stage ts from ≡ Some x → IsSomeTurn scripts stage x.event) → after_move found ts from (next_by config scripts stage ts from) ≡ Some x → IsSomeTurn scripts stage x.event

@@ -7,6 +7,7 @@ use Rattle.std.specs.List.{range_with_len}
 use Rattle.std.proofs.lemmas.Option.{slice_get-map, slice_get_read, slice_get_within, get_or_from_slice_get}
 use Rattle.std.proofs.lemmas.List.{set-get_or, map-set, length-map}
 use Rattle.std.proofs.lemmas.List.Elements.{All-set}
+use Rattle.heap_words.proofs.Lists.{slice_get-set_same}
 use Rattle.heap_words.specs.declared.config.Config.{Config}
 use Rattle.heap_words.specs.declared.access.Access.{Access}
 use Rattle.heap_words.specs.declared.access.Took.{Took}
@@ -28,7 +29,6 @@ use Rattle.step_core.specs.Machines.{takes_of, plan_of, place_in, answer_of, mac
 use Rattle.step_core.specs.Opening.{opening_words, opening_machine, opening}
 use Rattle.step_core.proofs.Theorem.FirstFacts.{opening_run}
 use Rattle.heap_words.specs.Steps.{accessed}
-use Rattle.heap_words.proofs.Places.{slice_get-set_same}
 use Rattle.heap_words.proofs.Runs.{go-none}
 use Rattle.shen_core.specs.Runs.{WordsShow, event, IsShownBySomeRun, IsOneEvent, machine_next}
 use Rattle.shen_core.proofs.Events.{one_event}
@@ -126,15 +126,15 @@ module _ (config : Config) (words new_words : List ℕ) (machines : List Machine
   -- the step is one event
   pub made_event : IsOneEvent config words (map shown machines) new_words (map shown (slice_set machines number other_machine)) number (order_of machine)
   made_event =
-      subst (λ c. IsOneEvent c words (map shown machines) new_words (map shown (slice_set machines number other_machine)) number (order_of machine)) made.heap
+      subst (λ config. IsOneEvent config words (map shown machines) new_words (map shown (slice_set machines number other_machine)) number (order_of machine)) made.heap
       (rw (new_machines_are, made.words_are)
       (one_event (config_of machine) words (map shown machines) number (shown machine) (order_of machine) (shown_here machines number machine made.here) made.takes))
 
   -- so memory shows a stage again
   pub made_shown : IsShownBySomeRun config words (map shown machines) → IsShownBySomeRun config new_words (map shown (slice_set machines number other_machine))
-  made_shown some = record {
-    run = record { start = some.run.start; graph = some.run.graph; begins = some.run.begins; events = some.run.events ++ event number (order_of machine) ∷ [] };
-    shows = made_event.goes_on some.run.start some.run.events some.shows;
+  made_shown shown_by_some_run = record {
+    run = record { start = shown_by_some_run.run.start; graph = shown_by_some_run.run.graph; begins = shown_by_some_run.run.begins; events = shown_by_some_run.run.events ++ event number (order_of machine) ∷ [] };
+    shows = made_event.goes_on shown_by_some_run.run.start shown_by_some_run.run.events shown_by_some_run.shows;
   }
 
   -- its order is done
@@ -200,7 +200,7 @@ shows_opening config words machines words_are machines_are = record { words_are 
 
 -- so no event led to it
 pub shown_by_none : (config : Config) (words : List ℕ) (machines : List actors.Machine) → WordsShow words machines (opening config) → IsShownBySomeRun config words machines
-shown_by_none config words machines shows = record { run = opening_run config []; shows = subst (λ s. WordsShow words machines s) (sym (go-none (kind pause_image config) (opening config))) shows }
+shown_by_none config words machines shows = record { run = opening_run config []; shows = subst (λ stage. WordsShow words machines stage) (sym (go-none (kind pause_image config) (opening config))) shows }
 
 -- there is a machine for each seat
 pub machines_count : (config : Config) (machines : List Machine) → map shown machines ≡ map (opening_machine config) (range_with_len 0 (seat_count config.mutators config.helpers)) → length machines ≡ seat_count config.mutators config.helpers

@@ -6,13 +6,13 @@ use Rattle.std.proofs.lemmas.List.{length-append, get_or-set_same, get_or-set_ot
 use Rattle.std.proofs.lemmas.List.Elements.{All-set}
 use Rattle.std.proofs.lemmas.Option.{same_Some, slice_get_within}
 use Rattle.std.proofs.lemmas.Bool.{false≢true, cases_eq, ltb-true, lt-ltb}
+use Rattle.heap_words.proofs.Lists.{slice_get-set_same}
 use Rattle.heap_words.specs.declared.config.Config.{Config}
 use Rattle.heap_words.specs.declared.access.Took.{Took}
 use Rattle.heap_words.specs.declared.access.Took.TheVariants as took
 use Rattle.heap_words.specs.Access.{table_index}
 use Rattle.heap_words.specs.Steps.{Stage, IsEvent, moved, act}
 use Rattle.heap_words.proofs.Laws.{act-event, machines_other}
-use Rattle.heap_words.proofs.Places.{slice_get-set_same}
 use Rattle.shen_graph.specs.declared.command.Reply.{Reply}
 use Rattle.shen_graph.specs.Work as work
 use Rattle.shen_graph.proofs.Noted.{script_kept, replies_same, replies_other, script_stays}
@@ -141,22 +141,22 @@ module _ (plain other_plain : Plain) (jobs later : Jobs) (number : ℕ) (next : 
     jobs_are = λ t below. after.has t (before.jobs_are t (subst (λ c. t < c.mutators) after.config below));
     commands = λ t below. subst (λ script. All IsValid script) (sym (after.script t))
         (before.commands t (subst (λ c. t < c.mutators) after.config below));
-    busy = λ t below busy. ⊎_elim
-        (λ (same : t ≡ number). subst (λ k. length (work.replies_of later k) < length (work.script_in later k)) (sym same)
-        (after.busy (subst (λ k. k < (config_of plain).mutators) same (subst (λ c. t < c.mutators) after.config below)) (ap is_resting (sym at_number) ∙ ap (λ k. is_resting (machine_at other_plain k)) (sym same) ∙ busy)))
-        (λ (other : t ≡ number → ⊥).
-        let replies = ap length (after.other t other) in
-        let script = ap length (after.script t) in
-        let before_now = before.busy t (subst (λ c. t < c.mutators) after.config below) (ap is_resting (sym (at_other t other)) ∙ busy) in
+    busy = λ index below busy. ⊎_elim
+        (λ (same : index ≡ number). subst (λ k. length (work.replies_of later k) < length (work.script_in later k)) (sym same)
+        (after.busy (subst (λ k. k < (config_of plain).mutators) same (subst (λ c. index < c.mutators) after.config below)) (ap is_resting (sym at_number) ∙ ap (λ k. is_resting (machine_at other_plain k)) (sym same) ∙ busy)))
+        (λ (other : index ≡ number → ⊥).
+        let replies = ap length (after.other index other) in
+        let script = ap length (after.script index) in
+        let before_now = before.busy index (subst (λ c. index < c.mutators) after.config below) (ap is_resting (sym (at_other index other)) ∙ busy) in
         omega arith)
-        (cases_eq t number);
-    made = λ t below. ⊎_elim
-        (λ (same : t ≡ number).
-        let is : machine_at other_plain t ≡ next = ap (machine_at other_plain) same ∙ at_number in
-        rw (is, same) (after.made (subst (λ k. k < (config_of plain).mutators) same (subst (λ c. t < c.mutators) after.config below))))
-        (λ (other : t ≡ number → ⊥).
-        rw (at_other t other, after.script t, after.other t other) (before.made t (subst (λ c. t < c.mutators) after.config below)))
-        (cases_eq t number);
+        (cases_eq index number);
+    made = λ index below. ⊎_elim
+        (λ (same : index ≡ number).
+        let is : machine_at other_plain index ≡ next = ap (machine_at other_plain) same ∙ at_number in
+        rw (is, same) (after.made (subst (λ k. k < (config_of plain).mutators) same (subst (λ c. index < c.mutators) after.config below))))
+        (λ (other : index ≡ number → ⊥).
+        rw (at_other index other, after.script index, after.other index other) (before.made index (subst (λ c. index < c.mutators) after.config below)))
+        (cases_eq index number);
   }
 
 -- A `Plain`, with the order for a machine, and after that machine's step, which said so.
@@ -176,7 +176,7 @@ pub record IsStepped (plain mid other_plain : Plain) (jobs : Jobs) (number : ℕ
   pub orders : orders_of other_plain ≡ slice_set (orders_of mid) number Nothing
   pub config : config_of other_plain ≡ config_of mid
 
-module _ (plain mid other_plain : Plain) (jobs : Jobs) (number : ℕ) (said : Stepped) (facts : IsStepped plain mid other_plain jobs number said) where
+module _ (plain mid next_plain : Plain) (jobs : Jobs) (number : ℕ) (said : Stepped) (facts : IsStepped plain mid next_plain jobs number said) where
   -- the order changes nothing of the machine
   same_machine : machine_at mid number ≡ machine_at plain number
   same_machine = ap (λ ms. get_or ms number no_machine) facts.mid_machines
@@ -195,10 +195,10 @@ module _ (plain mid other_plain : Plain) (jobs : Jobs) (number : ℕ) (said : St
   after_turn : (later : Jobs) → CanRun plain jobs → ((t : ℕ) → work.HasScript jobs t → work.HasScript later t) → ((t : ℕ) → work.script_in later t ≡ work.script_in jobs t) → ((t : ℕ) → t ≢ number → work.replies_of later t ≡ work.replies_of jobs t)
       → (number < (config_of plain).mutators → is_resting (next_machine mid number) ≡ false → length (work.replies_of later number) < length (work.script_in later number))
       → (number < (config_of plain).mutators → made_of_machine (next_machine mid number) + length (work.script_in later number) < most_objects + (length (work.replies_of later number) + at_hand_of (next_machine mid number)))
-      → IsAfter plain other_plain jobs later number (next_machine mid number)
+      → IsAfter plain next_plain jobs later number (next_machine mid number)
   after_turn later before has script other busy made = record {
     config = facts.config ∙ facts.mid_config;
-    orders = orders_after (orders_of plain) (orders_of mid) (orders_of other_plain) number (order_at mid number) facts.mid_orders facts.orders before.orders;
+    orders = orders_after (orders_of plain) (orders_of mid) (orders_of next_plain) number (order_at mid number) facts.mid_orders facts.orders before.orders;
     machines = facts.machines ∙ ap (λ ms. slice_set ms number (next_machine mid number)) facts.mid_machines;
     within = facts.within;
     made = made;
@@ -220,16 +220,16 @@ module _ (plain mid other_plain : Plain) (jobs : Jobs) (number : ℕ) (said : St
           slice_get_within (work.script_in jobs number) (length (work.replies_of jobs number)) begun.0 (ap (λ holds. if holds then work.next_of jobs number else None) (sym (lt-ltb number (config_of plain).mutators below)) ∙ begun.1)
 
   -- the work is as it was
-  pub can_run_on : reply_of_step (machine_at mid number) ≡ None → CanRun plain jobs → CanRun other_plain jobs
+  pub can_run_on : reply_of_step (machine_at mid number) ≡ None → CanRun plain jobs → CanRun next_plain jobs
   can_run_on none before =
-      can_run_after plain other_plain jobs jobs number (next_machine mid number)
+      can_run_after plain next_plain jobs jobs number (next_machine mid number)
       (after_turn jobs before (λ t h. h) (λ t. refl) (λ t other. refl) (more_now before)
       (λ below.
       names_on pause_image (config_of mid) (order_at mid number) got (machine_at mid number) (length (work.script_in jobs number)) (length (work.replies_of jobs number))
       (subst (λ machine. HasNames machine (length (work.script_in jobs number)) (length (work.replies_of jobs number))) (sym same_machine) (before.made number below)) none)) before
 
   -- the reply is noted
-  pub can_run_noted : (reply : Reply) → reply_of_step (machine_at mid number) ≡ Some reply → CanRun plain jobs → CanRun other_plain (work.with_reply jobs number reply)
+  pub can_run_noted : (reply : Reply) → reply_of_step (machine_at mid number) ≡ Some reply → CanRun plain jobs → CanRun next_plain (work.with_reply jobs number reply)
   can_run_noted reply gives before =
       let below_it = below_now reply gives in
       let has = before.jobs_are number below_it in
@@ -238,7 +238,7 @@ module _ (plain mid other_plain : Plain) (jobs : Jobs) (number : ℕ) (said : St
       let names = names_noted pause_image (config_of mid) (order_at mid number) got (machine_at mid number) (length (work.script_in jobs number)) (length (work.replies_of jobs number)) now reply gives in
       let script : length (work.script_in (work.with_reply jobs number reply) number) ≡ length (work.script_in jobs number) = ap length (script_kept jobs number reply number has) in
       let replies : length (work.replies_of (work.with_reply jobs number reply) number) ≡ length (work.replies_of jobs number) + 1 = ap length (replies_same jobs number reply has) ∙ length-append (work.replies_of jobs number) (reply ∷ []) in
-      can_run_after plain other_plain jobs (work.with_reply jobs number reply) number (next_machine mid number)
+      can_run_after plain next_plain jobs (work.with_reply jobs number reply) number (next_machine mid number)
       (after_turn (work.with_reply jobs number reply) before (λ t h. script_stays jobs number reply t has h) (λ t. script_kept jobs number reply t has) (λ t other. replies_other jobs number reply t other)
       (λ below busy. absurd (false≢true (sym busy ∙ step.rest)))
       (λ below. omega (arith, names, script, replies))) before
@@ -252,29 +252,29 @@ module _ (plain mid other_plain : Plain) (jobs : Jobs) (number : ℕ) (said : St
   here_mid = machine_within (machines_of mid) number (subst (λ ms. number < length ms) (sym facts.mid_machines) facts.within)
 
   -- what the step has done, where the work now tells the stage after it
-  pub has_turned : (later : Jobs) → ((scripts : Scripts) (stage : Stage Actor) → WordsShow (words_of mid) (machines_of mid) stage → Tells (config_of plain) scripts jobs stage → Tells (config_of plain) scripts later (act (kind pause_image (config_of plain)) stage (event number (order_at mid number)))) → HasTurned plain jobs number other_plain later said
+  pub has_turned : (later : Jobs) → ((scripts : Scripts) (stage : Stage Actor) → WordsShow (words_of mid) (machines_of mid) stage → Tells (config_of plain) scripts jobs stage → Tells (config_of plain) scripts later (act (kind pause_image (config_of plain)) stage (event number (order_at mid number)))) → HasTurned plain jobs number next_plain later said
   has_turned later tells_later scripts stage shows tells =
       let found = says_some (config_of mid) (machine_at mid number) (order_at mid number) got facts.has in
       let said_is : said ≡ stepped_of found.0 = facts.says ∙ ap stepped_by found.1 in
-      subst (λ x. Turned (config_of plain) scripts stage number other_plain later x) (sym said_is)
-      (turned_from (config_of plain) scripts stage number other_plain later found.0
+      subst (λ x. Turned (config_of plain) scripts stage number next_plain later x) (sym said_is)
+      (turned_from (config_of plain) scripts stage number next_plain later found.0
       (record {
         event = event number (order_at mid number);
         is = facts.turn scripts stage shows tells;
         waits_is = shown_waits (config_of plain) (words_of mid) (machines_of mid) number (machine_at mid number) (order_at mid number) stage (shows_mid stage shows) here_mid
             ∙ ap (λ c. again_by (answer_of c (order_at mid number) (machine_at mid number) (slice_index (words_of mid) (table_index (plan_of c (order_at mid number) (machine_at mid number)))))) (sym facts.mid_config)
             ∙ ap again_by found.1;
-        shows = subst (λ c. WordsShow (words_of other_plain) (machines_of other_plain) (act (kind pause_image c) stage (event number (order_at mid number)))) facts.mid_config (facts.event.acts stage (shows_mid stage shows));
+        shows = subst (λ c. WordsShow (words_of next_plain) (machines_of next_plain) (act (kind pause_image c) stage (event number (order_at mid number)))) facts.mid_config (facts.event.acts stage (shows_mid stage shows));
         tells = tells_later scripts stage (shows_mid stage shows) tells;
       }))
 
   -- no reply is given
-  pub turned_on : reply_of_step (machine_at mid number) ≡ None → HasTurned plain jobs number other_plain jobs said
+  pub turned_on : reply_of_step (machine_at mid number) ≡ None → HasTurned plain jobs number next_plain jobs said
   turned_on none = has_turned jobs (λ scripts s shows tells.
       tells_on (config_of plain) (words_of mid) (machines_of mid) jobs number (machine_at mid number) (order_at mid number) scripts s shows tells here_mid facts.has none)
 
   -- a reply is given, and noted
-  pub turned_noted : (reply : Reply) → reply_of_step (machine_at mid number) ≡ Some reply → work.HasScript jobs number → HasTurned plain jobs number other_plain (work.with_reply jobs number reply) said
+  pub turned_noted : (reply : Reply) → reply_of_step (machine_at mid number) ≡ Some reply → work.HasScript jobs number → HasTurned plain jobs number next_plain (work.with_reply jobs number reply) said
   turned_noted reply gives has = has_turned (work.with_reply jobs number reply) (λ scripts s shows tells.
       tells_noted (config_of plain) (words_of mid) (machines_of mid) jobs number (machine_at mid number) (order_at mid number) reply scripts s shows tells here_mid facts.has gives has)
 
@@ -287,13 +287,13 @@ module _ (plain mid other_plain : Plain) (jobs : Jobs) (number : ℕ) (said : St
   some_given done = done_gives (config_of mid) (order_at mid number) (machine_at mid number) got (done_of (answer_of (config_of mid) (order_at mid number) (machine_at mid number) got) (sym facts.says ∙ done))
 
   -- the machine after its step
-  now_next : machine_at other_plain number ≡ next_machine mid number
+  now_next : machine_at next_plain number ≡ next_machine mid number
   now_next =
       ap (λ ms. get_or ms number no_machine) facts.machines
       ∙ get_or-set_same (machines_of mid) number (next_machine mid number) no_machine (subst (λ ms. number < length ms) (sym facts.mid_machines) facts.within)
 
   -- after a step that ends a call memory has a reply
-  pub has_reply : said ≡ stepped.Done → reply_in (machine_at other_plain number) ≢ None
+  pub has_reply : said ≡ stepped.Done → reply_in (machine_at next_plain number) ≢ None
   has_reply done none =
       let found = some_given done in
       let given = given_after pause_image (config_of mid) (order_at mid number) got (machine_at mid number) found.0 found.1 in
@@ -301,7 +301,7 @@ module _ (plain mid other_plain : Plain) (jobs : Jobs) (number : ℕ) (said : St
       cc
 
   -- the reply that memory has after a step that ends a call is the one that the step gives
-  pub reply_given : (reply : Reply) → said ≡ stepped.Done → reply_in (machine_at other_plain number) ≡ Some reply → reply_of_step (machine_at mid number) ≡ Some reply
+  pub reply_given : (reply : Reply) → said ≡ stepped.Done → reply_in (machine_at next_plain number) ≡ Some reply → reply_of_step (machine_at mid number) ≡ Some reply
   reply_given reply done has =
       let found = some_given done in
       let given = given_after pause_image (config_of mid) (order_at mid number) got (machine_at mid number) found.0 found.1 in

@@ -34,10 +34,10 @@ use Rattle.shen_core.proofs.Settles.{history_both, history_one}
 -- Entries.
 
 -- some entries, and then others
-pub noted_both : (noting : Noting) (es fs : List Entry) → noted noting (es ++ fs) ≡ noted (noted noting es) fs
+pub noted_both : (noting : Noting) (entries other_entries : List Entry) → noted noting (entries ++ other_entries) ≡ noted (noted noting entries) other_entries
 unfolding noted
-noted_both noting [] fs = refl
-noted_both noting (e ∷ es) fs = noted_both (with_entry noting e) es fs
+noted_both noting [] entries = refl
+noted_both noting (entry ∷ other_entries) entries = noted_both (with_entry noting entry) other_entries entries
 
 pub noted_none : (noting : Noting) → noted noting [] ≡ noting
 unfolding noted
@@ -51,8 +51,8 @@ noted_one noting entry = refl
 abbrev noting : List Entry → ℕ → Noting
 noting list spare = record { list = list; spare = spare }
 
-made : (xs : List Entry) (i : ℕ) (ys : List Entry) (j : ℕ) → xs ≡ ys → i ≡ j → noting xs i ≡ noting ys j
-made xs i ys j lists spares = ap (λ zs. noting zs i) lists ∙ ap (λ k. noting ys k) spares
+made : (entries : List Entry) (i : ℕ) (other_entries : List Entry) (j : ℕ) → entries ≡ other_entries → i ≡ j → noting entries i ≡ noting other_entries j
+made entries i other_entries j lists spares = ap (λ zs. noting zs i) lists ∙ ap (λ k. noting other_entries k) spares
 
 -- a history that has got an entry
 pub noted_entry : (noting other_noting : Noting) (entry : Entry) → other_noting.list ≡ noting.list ++ entry ∷ [] → other_noting.spare + 1 ≡ noting.spare → other_noting ≡ noted noting (entry ∷ [])
@@ -62,24 +62,24 @@ noted_entry noting other_noting entry list spare =
     made other_noting.list other_noting.spare (noting.list ++ entry ∷ []) (noting.spare - 1) list (omega (arith, spare)) ∙ sym next ∙ sym (noted_one noting entry)
 
 -- without memory nothing is noted
-pub noted_out : (noting : Noting) (es : List Entry) → noting.spare ≡ 0 → noted noting es ≡ noting
+pub noted_out : (noting : Noting) (entries : List Entry) → noting.spare ≡ 0 → noted noting entries ≡ noting
 unfolding noted
 noted_out noting [] out = refl
-noted_out noting (e ∷ es) out =
-    let same : with_entry noting e ≡ noting = rw out refl in
-    ap (λ x. noted x es) same ∙ noted_out noting es out
+noted_out noting (entry ∷ entries) out =
+    let same : with_entry noting entry ≡ noting = rw out refl in
+    ap (λ x. noted x entries) same ∙ noted_out noting entries out
 
 -- with memory for all of them, all are
-pub record IsNoted (noting later : Noting) (es : List Entry) : Type 0 where
-  pub list : later.list ≡ noting.list ++ es
-  pub spare : later.spare + length es ≡ noting.spare
+pub record IsNoted (noting later : Noting) (entries : List Entry) : Type 0 where
+  pub list : later.list ≡ noting.list ++ entries
+  pub spare : later.spare + length entries ≡ noting.spare
 
 -- the stage after events of a run is one of a run
-pub ending_on : (config : Config) (stage other_stage : Stage Actor) (es : List (Event Order)) → go (kind pause_image config) stage es ≡ other_stage → IsEnding config stage → IsEnding config other_stage
-ending_on config stage other_stage es leads ends =
+pub ending_on : (config : Config) (stage other_stage : Stage Actor) (events : List (Event Order)) → go (kind pause_image config) stage events ≡ other_stage → IsEnding config stage → IsEnding config other_stage
+ending_on config stage other_stage events leads ends =
     let run = ends.0 in (
-      record { start = run.start; graph = run.graph; begins = run.begins; events = run.events ++ es },
-      go-append (kind pause_image config) run.start run.events es ∙ ap (λ x. go (kind pause_image config) x es) ends.1 ∙ leads,
+      record { start = run.start; graph = run.graph; begins = run.begins; events = run.events ++ events },
+      go-append (kind pause_image config) run.start run.events events ∙ ap (λ x. go (kind pause_image config) x events) ends.1 ∙ leads,
     )
 
 -- Parts of a run.
@@ -87,12 +87,12 @@ ending_on config stage other_stage es leads ends =
 -- what events settle that go on from others
 notes_then : (config : Config) (stage other_stage : Stage Actor) (one two : List (Event Order)) (n m k : Noting) → go (kind pause_image config) stage one ≡ other_stage
     → m ≡ noted n (history pause_image config stage one) → k ≡ noted m (history pause_image config other_stage two) → k ≡ noted n (history pause_image config stage (one ++ two))
-notes_then config stage other_stage one two n m k leads first second =
+notes_then config stage other_stage one two noting other_noting k leads first second =
     second
     ∙ ap (λ x. noted x (history pause_image config other_stage two)) first
-    ∙ ap (λ x. noted (noted n (history pause_image config stage one)) (history pause_image config x two)) (sym leads)
-    ∙ sym (noted_both n (history pause_image config stage one) (history pause_image config (go (kind pause_image config) stage one) two))
-    ∙ ap (noted n) (sym (history_both config stage one two))
+    ∙ ap (λ x. noted (noted noting (history pause_image config stage one)) (history pause_image config x two)) (sym leads)
+    ∙ sym (noted_both noting (history pause_image config stage one) (history pause_image config (go (kind pause_image config) stage one) two))
+    ∙ ap (noted noting) (sym (history_both config stage one two))
 
 -- no event settles nothing
 notes_none : (config : Config) (stage : Stage Actor) (noting : Noting) → noting ≡ noted noting (history pause_image config stage [])
@@ -100,23 +100,23 @@ unfolding history
 notes_none config stage noting = sym (noted_none noting)
 
 -- no event was made
-nil_of : (xs : List (Event Order)) → length xs ≡ 0 → xs ≡ []
+nil_of : (events : List (Event Order)) → length events ≡ 0 → events ≡ []
 nil_of [] none = refl
-nil_of (x ∷ xs) none = absurd (omega arith)
+nil_of (x ∷ events) none = absurd (omega arith)
 
 none_done : (config : Config) (scripts : Scripts) (stage other_stage : Stage Actor) (todo rest : Agenda) (left : ℕ) (goes : Goes config scripts stage todo left other_stage rest left) → goes.done ≡ []
 none_done config scripts stage other_stage todo rest left goes = let count = goes.count in nil_of goes.done (omega arith)
 
 -- one event was made, and it is the next one
 one_of : (xs ys zs : List (Event Order)) (y : Event Order) → length xs ≡ 1 → y ∷ ys ≡ xs ++ zs → xs ≡ y ∷ []
-one_of [] ys zs y one is = absurd (omega arith)
-one_of (x ∷ []) ys zs y one is = let same : y ≡ x = cc in ap (λ z. z ∷ []) (sym same)
-one_of (x ∷ w ∷ xs) ys zs y one is = absurd (omega arith)
+one_of [] events other_events y one is = absurd (omega arith)
+one_of (x ∷ []) events other_events y one is = let same : y ≡ x = cc in ap (λ z. z ∷ []) (sym same)
+one_of (x ∷ w ∷ xs) events other_events y one is = absurd (omega arith)
 
 one_done : (config : Config) (scripts : Scripts) (stage other_stage : Stage Actor) (todo rest : Agenda) (left : ℕ) (goes : Goes config scripts stage todo left other_stage rest (left - 1)) (x : Next) → 0 < left → next config scripts stage todo ≡ Some x → goes.done ≡ x.event ∷ []
 unfolding scheduled
-one_done config scripts stage other_stage todo rest zero goes x some is = absurd (omega arith)
-one_done config scripts stage other_stage todo rest (suc n) goes x some is =
+one_done config scripts stage other_stage todo rest zero goes x positive is = absurd (omega arith)
+one_done config scripts stage other_stage todo rest (suc n) goes x positive is =
     let count = goes.count in
     one_of goes.done (scheduled pause_image config scripts n x.agenda (act (kind pause_image config) stage x.event)) (scheduled pause_image config scripts (suc n - 1) rest other_stage) x.event (omega arith)
     (sym (ap (λ o. and_then o (λ y. scheduled pause_image config scripts n y.agenda (act (kind pause_image config) stage y.event))) is) ∙ goes.events)
@@ -128,11 +128,11 @@ quiet config scripts stage other_stage todo rest left goes noting other_noting s
 -- where one was, what it settles is noted
 told_so : (config : Config) (scripts : Scripts) (stage other_stage : Stage Actor) (todo rest : Agenda) (left number : ℕ) (goes : Goes config scripts stage todo left other_stage rest (left - 1)) (x : Next) (noting other_noting : Noting) → 0 < left → next config scripts stage todo ≡ Some x
     → turn scripts stage number ≡ Some x.event → other_noting ≡ noted noting (told_by config stage (turn scripts stage number)) → other_noting ≡ noted noting (history pause_image config stage goes.done)
-told_so config scripts stage other_stage todo rest left number goes x noting other_noting some is turns notes =
+told_so config scripts stage other_stage todo rest left number goes x noting other_noting positive is turns notes =
     notes
     ∙ ap (λ o. noted noting (told_by config stage o)) turns
     ∙ ap (noted noting) (sym (history_one config stage x.event))
-    ∙ ap (λ es. noted noting (history pause_image config stage es)) (sym (one_done config scripts stage other_stage todo rest left goes x some is))
+    ∙ ap (λ es. noted noting (history pause_image config stage es)) (sym (one_done config scripts stage other_stage todo rest left goes x positive is))
 
 -- Turns.
 
@@ -158,7 +158,7 @@ turn_none plain other_plain jobs number order turns same scripts s shows tells e
 
 -- what comes after a turn keeps what it has noted
 pub turn_kept : (p q r : Plain) (jobs : Jobs) (number : ℕ) → NotesTurn p jobs number q → notes_of r ≡ notes_of q → NotesTurn p jobs number r
-turn_kept p q r jobs number notes same scripts s shows tells ends = same ∙ notes scripts s shows tells ends
+turn_kept plain other_plain r jobs number notes same scripts s shows tells ends = same ∙ notes scripts s shows tells ends
 
 -- with no event memory stays
 pub runs_none : (plain : Plain) (jobs : Jobs) (todo : Agenda) (left : ℕ) → RunsNoted plain jobs todo left plain jobs todo left
@@ -175,15 +175,15 @@ runs_out plain jobs todo rest left none scripts s shows tells =
 -- two parts of a run follow each other
 pub runs_then : (p q r : Plain) (jobs later last : Jobs) (todo rest more : Agenda) (left middle remaining : ℕ) → config_of q ≡ config_of p → RunsNoted p jobs todo left q later rest middle → RunsNoted q later rest middle r last more remaining → RunsNoted p jobs todo left r last more remaining
 unfolding goes_then
-runs_then p q r jobs later last todo rest more left middle remaining same one two scripts s shows tells =
+runs_then plain other_plain r jobs later last todo rest more left middle remaining same one two scripts s shows tells =
     let first = one scripts s shows tells in
     let went = first.went in
-    let on = subst (λ c. HasGone c scripts went.stage rest middle q r last more remaining) same
-    (two scripts went.stage went.shows (subst (λ c. Tells c scripts later went.stage) (sym same) went.tells)) in
+    let on = subst (λ config. HasGone config scripts went.stage rest middle other_plain r last more remaining) same
+    (two scripts went.stage went.shows (subst (λ config. Tells config scripts later went.stage) (sym same) went.tells)) in
     record {
-      went = record { stage = on.went.stage; goes = goes_then (config_of p) scripts s went.stage on.went.stage todo rest more left middle remaining went.goes on.went.goes; shows = on.went.shows; tells = on.went.tells };
-      notes = λ ends. notes_then (config_of p) s went.stage went.goes.done on.went.goes.done (notes_of p) (notes_of q) (notes_of r) went.goes.leads (first.notes ends)
-          (on.notes (ending_on (config_of p) s went.stage went.goes.done went.goes.leads ends));
+      went = record { stage = on.went.stage; goes = goes_then (config_of plain) scripts s went.stage on.went.stage todo rest more left middle remaining went.goes on.went.goes; shows = on.went.shows; tells = on.went.tells };
+      notes = λ ends. notes_then (config_of plain) s went.stage went.goes.done on.went.goes.done (notes_of plain) (notes_of other_plain) (notes_of r) went.goes.leads (first.notes ends)
+          (on.notes (ending_on (config_of plain) s went.stage went.goes.done went.goes.leads ends));
     }
 
 -- a task that is done
@@ -213,15 +213,15 @@ task_idles plain other_plain jobs later number result task left notes turned idl
 pub task_moves : (plain other_plain : Plain) (jobs later : Jobs) (number : ℕ) (result : Stepped) (task : Task) (more : List Task) (left : ℕ) → NotesTurn plain jobs number other_plain → HasTurned plain jobs number other_plain later result → (result ≡ Idle → ⊥) → 0 < left
     → ((scripts : Scripts) (stage : Stage Actor) → Shows plain stage → Tells (config_of plain) scripts jobs stage → waits_then (config_of plain) stage (turn scripts stage number) ≡ waiting_of result → move_of (config_of plain) scripts stage task ≡ moves (turn scripts stage number) more)
     → (tasks : List Task) (from : ℕ) → RunsNoted plain jobs (agenda (task ∷ tasks) from) left other_plain later (agenda (more ++ tasks) from) (left - 1)
-task_moves plain other_plain jobs later number result task more left notes turned busy some move tasks from scripts stage shows tells =
+task_moves plain other_plain jobs later number result task more left notes turned busy positive move tasks from scripts stage shows tells =
     let moved = moved_of (config_of plain) scripts stage number other_plain later result busy (turned scripts stage shows tells) in
-    let went = going.task_moves plain other_plain jobs later number result task more left turned busy some move tasks from scripts stage shows tells in
+    let went = going.task_moves plain other_plain jobs later number result task more left turned busy positive move tasks from scripts stage shows tells in
     let is : next (config_of plain) scripts stage (agenda (task ∷ tasks) from) ≡ Some (record { event = moved.event; agenda = agenda (more ++ tasks) from }) =
     ap (λ m. after_move m tasks from (next_by (config_of plain) scripts stage tasks from))
     (move scripts stage shows tells (ap (waits_then (config_of plain) stage) moved.is ∙ moved.waits_is) ∙ ap (λ e. moves e more) moved.is) in
     record {
       went = went;
-      notes = λ ends. told_so (config_of plain) scripts stage went.stage (agenda (task ∷ tasks) from) (agenda (more ++ tasks) from) left number went.goes _ (notes_of plain) (notes_of other_plain) some is moved.is (notes scripts stage shows tells ends);
+      notes = λ ends. told_so (config_of plain) scripts stage went.stage (agenda (task ∷ tasks) from) (agenda (more ++ tasks) from) left number went.goes _ (notes_of plain) (notes_of other_plain) positive is moved.is (notes scripts stage shows tells ends);
     }
 
 -- Rounds.
@@ -239,12 +239,12 @@ round_idles plain other_plain jobs later seat result left below notes turned idl
 
 -- and of one that makes an event
 pub round_moves : (plain other_plain : Plain) (jobs later : Jobs) (seat : ℕ) (result : Stepped) (left : ℕ) → seat < seat_count (config_of plain).mutators (config_of plain).helpers → NotesTurn plain jobs seat other_plain → HasTurned plain jobs seat other_plain later result → (result ≡ Idle → ⊥) → 0 < left → RunsNoted plain jobs (agenda [] seat) left other_plain later (agenda [] (seat + 1)) (left - 1)
-round_moves plain other_plain jobs later seat result left below notes turned busy some scripts s shows tells =
+round_moves plain other_plain jobs later seat result left below notes turned busy positive scripts s shows tells =
     let moved = moved_of (config_of plain) scripts s seat other_plain later result busy (turned scripts s shows tells) in
-    let went = rounds.round_moves plain other_plain jobs later seat result left below turned busy some scripts s shows tells in
+    let went = rounds.round_moves plain other_plain jobs later seat result left below turned busy positive scripts s shows tells in
     record {
       went = went;
-      notes = λ ends. told_so (config_of plain) scripts s went.stage (agenda [] seat) (agenda [] (seat + 1)) left seat went.goes _ (notes_of plain) (notes_of other_plain) some
+      notes = λ ends. told_so (config_of plain) scripts s went.stage (agenda [] seat) (agenda [] (seat + 1)) left seat went.goes _ (notes_of plain) (notes_of other_plain) positive
           (round_move (config_of plain) scripts s seat moved.event below moved.is) moved.is (notes scripts s shows tells ends);
     }
 
@@ -278,18 +278,18 @@ ends_out plain jobs left out busy scripts s shows tells = record {
 
 -- a run that goes on to its end
 pub ends_then : (p q r : Plain) (jobs later last : Jobs) (todo rest : Agenda) (limit left : ℕ) (result : Ran) → config_of q ≡ config_of p → RunsNoted p jobs todo limit q later rest left → EndsNoted q later rest left r last result → EndsNoted p jobs todo limit r last result
-ends_then p q r jobs later last todo rest limit left result same runs ends scripts s shows tells =
-    let c = config_of p in
+ends_then plain other_plain r jobs later last todo rest limit left result same runs ends scripts s shows tells =
+    let c = config_of plain in
     let first = runs scripts s shows tells in
     let went = first.went in
-    let end : HasRunNoted c scripts went.stage rest left q r last result = subst (λ c. HasRunNoted c scripts went.stage rest left q r last result) same
-    (ends scripts went.stage went.shows (subst (λ c. Tells c scripts later went.stage) (sym same) went.tells)) in
+    let end : HasRunNoted c scripts went.stage rest left other_plain r last result = subst (λ config. HasRunNoted config scripts went.stage rest left other_plain r last result) same
+    (ends scripts went.stage went.shows (subst (λ config. Tells config scripts later went.stage) (sym same) went.tells)) in
     record {
-      ran = rounds.ends_then p q r jobs later last todo rest limit left result same (λ a b x y. (runs a b x y).went) (λ a b x y. (ends a b x y).ran) scripts s shows tells;
+      ran = rounds.ends_then plain other_plain r jobs later last todo rest limit left result same (λ a b x y. (runs a b x y).went) (λ a b x y. (ends a b x y).ran) scripts s shows tells;
       notes = λ is.
-          notes_then c s went.stage went.goes.done (scheduled pause_image c scripts left rest went.stage) (notes_of p) (notes_of q) (notes_of r) went.goes.leads (first.notes is)
+          notes_then c s went.stage went.goes.done (scheduled pause_image c scripts left rest went.stage) (notes_of plain) (notes_of other_plain) (notes_of r) went.goes.leads (first.notes is)
           (end.notes (ending_on c s went.stage went.goes.done went.goes.leads is))
-          ∙ ap (λ es. noted (notes_of p) (history pause_image c s es)) (sym went.goes.events);
+          ∙ ap (λ es. noted (notes_of plain) (history pause_image c s es)) (sym went.goes.events);
     }
 
 -- an item more

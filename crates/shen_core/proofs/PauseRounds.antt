@@ -1,8 +1,8 @@
 -- Rounds of a pause in which nobody moves but the control.
-use Rattle.std.proofs.Common.{◌≡◌, ◌<◌, ◌≤◌, inl, inr, ℕ, zero, suc, ◌+◌, ◌-◌, false, [], length, Option, Some, None, refl, sym, ap, ◌∙◌, subst, arith}
+use Rattle.std.proofs.Common.{◌≡◌, ◌<◌, ◌≤◌, inl, inr, ℕ, zero, suc, ◌+◌, ◌-◌, false, [], length, None, refl, sym, ap, ◌∙◌, subst, arith}
 use Rattle.std.specs.Prelude.{slice_index, is_some}
-use Rattle.std.proofs.lemmas.Bool.{false≢true}
 use Rattle.std.proofs.lemmas.List.{length-map}
+use Rattle.shen_graph.proofs.Options.{none_if_not_some}
 use Rattle.heap_words.specs.Ranges.{seat_count}
 use Rattle.heap_words.specs.Words.{Pause, word_at}
 use Rattle.heap_words.specs.Steps.{Stage}
@@ -27,7 +27,7 @@ module _ (plain other_plain : Plain) (number : ℕ) (config : config_of other_pl
     (others : (k : ℕ) → k < number → machine_at other_plain k ≡ machine_at plain k) where
   one_kept : (k : ℕ) → k < number → IsHalted plain k → IsHalted other_plain k
   one_kept k below held = record {
-    awaits = subst (λ c. Awaits c (machine_at other_plain k)) (sym config) (subst (Awaits (config_of plain)) (sym (others k below)) held.awaits);
+    awaits = subst (λ config. Awaits config (machine_at other_plain k)) (sym config) (subst (Awaits (config_of plain)) (sym (others k below)) held.awaits);
     wanted = λ none. held.wanted (sym pause ∙ none);
   }
 
@@ -37,22 +37,17 @@ module _ (plain other_plain : Plain) (number : ℕ) (config : config_of other_pl
   halted_kept (suc k) waiting below (inr are) = inr (λ next. ap (λ m. is_some (order_for next m)) (others k (omega arith)) ∙ are.0 next, halted_kept k waiting (omega arith) are.1)
 
 -- one machine more, which waits
-pub halted_more : (plain : Plain) (k waiting later : ℕ) → later ≡ waiting + 1 → IsHalted plain k → AreHalted plain k waiting → AreHalted plain (k + 1) later
-halted_more plain k waiting later is held are =
-    let at : suc k ≡ k + 1 = omega arith in
+pub halted_more : (plain : Plain) (number waiting later : ℕ) → later ≡ waiting + 1 → IsHalted plain number → AreHalted plain number waiting → AreHalted plain (number + 1) later
+halted_more plain number waiting later is held are =
+    let at : suc number ≡ number + 1 = omega arith in
     let before : waiting ≡ later - 1 = omega arith in
-    subst (λ n. AreHalted plain n later) at (inl (omega arith, held, subst (AreHalted plain k) before are))
+    subst (λ n. AreHalted plain n later) at (inl (omega arith, held, subst (AreHalted plain number) before are))
 
 -- or has ended
 pub ended_more : (plain : Plain) (k waiting later : ℕ) → later ≡ waiting → IsAtEnd plain k → AreHalted plain k waiting → AreHalted plain (k + 1) later
 ended_more plain k waiting later is ended are =
     let at : suc k ≡ k + 1 = omega arith in
     subst (λ n. AreHalted plain n later) at (inr (ended, subst (AreHalted plain k) (sym is) are))
-
--- where there is none, it is none
-none_there : {A : Type 0} (found : Option A) → is_some found ≡ false → found ≡ None
-none_there None is = refl
-none_there (Some x) is = absurd (false≢true (sym is))
 
 module _ (plain : Plain) (jobs : Jobs) (can : CanRun plain jobs) where
   abbrev seats : ℕ
@@ -65,38 +60,38 @@ module _ (plain : Plain) (jobs : Jobs) (can : CanRun plain jobs) where
   nothing k below = can.orders k Nothing (let count = length-map plain.machines.items order_of in let all = plain.all_machines in omega arith)
 
   -- a machine that has ended is passed over
-  ended_turn : (k : ℕ) → k < seats → IsAtEnd plain k → (scripts : Scripts) (stage : Stage Actor) → Shows plain stage → turn scripts stage k ≡ None
-  ended_turn k below ended scripts stage shows = none_there (turn scripts stage k) (some_turn plain k false (within k below) ended scripts stage shows)
+  ended_turn : (number : ℕ) → number < seats → IsAtEnd plain number → (scripts : Scripts) (stage : Stage Actor) → Shows plain stage → turn scripts stage number ≡ None
+  ended_turn number below ended scripts stage shows = none_if_not_some (turn scripts stage number) (some_turn plain number false (within number below) ended scripts stage shows)
 
-  ended_turned : (k : ℕ) → k < seats → IsAtEnd plain k → HasTurned plain jobs k plain jobs stepped.Idle
-  ended_turned k below ended scripts s shows tells = record { idle = ended_turn k below ended scripts s shows; shows = shows; tells = tells }
+  ended_turned : (number : ℕ) → number < seats → IsAtEnd plain number → HasTurned plain jobs number plain jobs stepped.Idle
+  ended_turned number below ended scripts s shows tells = record { idle = ended_turn number below ended scripts s shows; shows = shows; tells = tells }
 
-  ended_notes : (k : ℕ) → k < seats → IsAtEnd plain k → NotesTurn plain jobs k plain
-  ended_notes k below ended = turn_none plain plain jobs k Nothing (λ scripts s shows tells. ended_turn k below ended scripts s shows) refl
+  ended_notes : (number : ℕ) → number < seats → IsAtEnd plain number → NotesTurn plain jobs number plain
+  ended_notes number below ended = turn_none plain plain jobs number Nothing (λ scripts stage shows tells. ended_turn number below ended scripts stage shows) refl
 
   -- the machines up to a number have their turns, which change nothing
   pub passes : (k waiting left : ℕ) → k ≤ seats → waiting ≤ left → AreHalted plain k waiting → RunsNoted plain jobs (agenda [] 0) left plain jobs (agenda [] k) (left - waiting)
   passes zero waiting left below enough none =
       let same : left ≡ left - waiting = omega arith in
       subst (λ n. RunsNoted plain jobs (agenda [] 0) left plain jobs (agenda [] 0) n) same (runs_none plain jobs (agenda [] 0) left)
-  passes (suc k) waiting left below enough (inl are) =
-      let here : k < seats = omega arith in
+  passes (suc seat) waiting left below enough (inl are) =
+      let here : seat < seats = omega arith in
       let some : 0 < waiting = are.0 in
-      let at : k + 1 ≡ suc k = omega arith in
+      let at : seat + 1 ≡ suc seat = omega arith in
       let same : left - (waiting - 1) - 1 ≡ left - waiting = omega arith in
-      let before = passes k (waiting - 1) left (omega arith) (omega arith) are.2 in
+      let before = passes seat (waiting - 1) left (omega arith) (omega arith) are.2 in
       let more : 0 < left - (waiting - 1) = omega arith in
-      let one = round_moves plain plain jobs jobs k stepped.Again (left - (waiting - 1)) here (halted_notes plain jobs k (within k here) (nothing k here) are.1) (halted_turned plain jobs k (within k here) (nothing k here) are.1) (λ is. absurd cc) more in
+      let one = round_moves plain plain jobs jobs seat stepped.Again (left - (waiting - 1)) here (halted_notes plain jobs seat (within seat here) (nothing seat here) are.1) (halted_turned plain jobs seat (within seat here) (nothing seat here) are.1) (λ is. absurd cc) more in
       subst (λ n. RunsNoted plain jobs (agenda [] 0) left plain jobs (agenda [] n) (left - waiting)) at
-      (subst (λ n. RunsNoted plain jobs (agenda [] 0) left plain jobs (agenda [] (k + 1)) n) same
-      (runs_then plain plain plain jobs jobs jobs (agenda [] 0) (agenda [] k) (agenda [] (k + 1)) left (left - (waiting - 1)) (left - (waiting - 1) - 1) refl before one))
-  passes (suc k) waiting left below enough (inr are) =
-      let here : k < seats = omega arith in
-      let at : k + 1 ≡ suc k = omega arith in
-      let before = passes k waiting left (omega arith) enough are.1 in
-      let one = round_idles plain plain jobs jobs k stepped.Idle (left - waiting) here (ended_notes k here are.0) (ended_turned k here are.0) refl in
+      (subst (λ n. RunsNoted plain jobs (agenda [] 0) left plain jobs (agenda [] (seat + 1)) n) same
+      (runs_then plain plain plain jobs jobs jobs (agenda [] 0) (agenda [] seat) (agenda [] (seat + 1)) left (left - (waiting - 1)) (left - (waiting - 1) - 1) refl before one))
+  passes (suc seat) waiting left below enough (inr are) =
+      let here : seat < seats = omega arith in
+      let at : seat + 1 ≡ suc seat = omega arith in
+      let before = passes seat waiting left (omega arith) enough are.1 in
+      let one = round_idles plain plain jobs jobs seat stepped.Idle (left - waiting) here (ended_notes seat here are.0) (ended_turned seat here are.0) refl in
       subst (λ n. RunsNoted plain jobs (agenda [] 0) left plain jobs (agenda [] n) (left - waiting)) at
-      (runs_then plain plain plain jobs jobs jobs (agenda [] 0) (agenda [] k) (agenda [] (k + 1)) left (left - waiting) (left - waiting) refl before one)
+      (runs_then plain plain plain jobs jobs jobs (agenda [] 0) (agenda [] seat) (agenda [] (seat + 1)) left (left - waiting) (left - waiting) refl before one)
 
   -- and then the control has its own: a whole round
   pub pause_round : (q : Plain) (control waiting left : ℕ) → control + 1 ≡ seats → waiting < left → AreHalted plain control waiting → config_of q ≡ config_of plain → NotesTurn plain jobs control q → HasTurned plain jobs control q jobs stepped.More

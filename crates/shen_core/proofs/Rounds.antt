@@ -111,11 +111,11 @@ round_idles plain other_plain jobs later seat result left below turned idle scri
 
 -- and of one that makes an event
 pub round_moves : (plain other_plain : Plain) (jobs later : Jobs) (seat : ℕ) (result : Stepped) (left : ℕ) → seat < seat_count (config_of plain).mutators (config_of plain).helpers → HasTurned plain jobs seat other_plain later result → (result ≡ Idle → ⊥) → 0 < left → Runs plain jobs (agenda [] seat) left other_plain later (agenda [] (seat + 1)) (left - 1)
-round_moves plain other_plain jobs later seat result left below turned busy some scripts s shows tells =
+round_moves plain other_plain jobs later seat result left below turned busy positive scripts s shows tells =
     let moved = moved_of (config_of plain) scripts s seat other_plain later result busy (turned scripts s shows tells) in
     record {
       stage = act (kind pause_image (config_of plain)) s moved.event;
-      goes = goes_next (config_of plain) scripts s (agenda [] seat) (agenda [] (seat + 1)) moved.event left some (round_move (config_of plain) scripts s seat moved.event below moved.is);
+      goes = goes_next (config_of plain) scripts s (agenda [] seat) (agenda [] (seat + 1)) moved.event left positive (round_move (config_of plain) scripts s seat moved.event below moved.is);
       shows = moved.shows;
       tells = moved.tells;
     }
@@ -148,7 +148,7 @@ ends_idle plain jobs left idle scripts s shows tells =
     let same : go (kind pause_image (config_of plain)) s (scheduled pause_image (config_of plain) scripts left (agenda [] 0) s) ≡ s = ap (go (kind pause_image (config_of plain)) s) none ∙ go-none (kind pause_image (config_of plain)) s in
     has_run (config_of plain) scripts s (agenda [] 0) left plain jobs Finished
     (subst (λ x. Shows plain x) (sym same) shows)
-    (subst (λ x. Tells (config_of plain) scripts jobs x) (sym same) tells)
+    (subst (λ stage. Tells (config_of plain) scripts jobs stage) (sym same) tells)
     (subst (λ x. AreIdle (config_of plain) scripts x) (sym same) (idle scripts s shows tells))
 
 -- or no more steps are allowed
@@ -159,7 +159,7 @@ ends_out plain jobs left out busy scripts s shows tells =
     let same : go (kind pause_image (config_of plain)) s (scheduled pause_image (config_of plain) scripts left (agenda [] 0) s) ≡ s = ap (go (kind pause_image (config_of plain)) s) none ∙ go-none (kind pause_image (config_of plain)) s in
     has_run (config_of plain) scripts s (agenda [] 0) left plain jobs Unfinished
     (subst (λ x. Shows plain x) (sym same) shows)
-    (subst (λ x. Tells (config_of plain) scripts jobs x) (sym same) tells)
+    (subst (λ stage. Tells (config_of plain) scripts jobs stage) (sym same) tells)
     (λ idle. busy scripts s shows tells (subst (λ x. AreIdle (config_of plain) scripts x) same idle), ap length none ∙ sym out)
 
 -- an end after more events
@@ -169,17 +169,17 @@ ended_more config scripts stage other_stage done more left limit Unfinished same
 
 -- a run that goes on to its end
 pub ends_then : (p q r : Plain) (jobs later last : Jobs) (todo rest : Agenda) (limit left : ℕ) (result : Ran) → config_of q ≡ config_of p → Runs p jobs todo limit q later rest left → EndsRun q later rest left r last result → EndsRun p jobs todo limit r last result
-ends_then p q r jobs later last todo rest limit left result same runs ends scripts s shows tells =
+ends_then plain other_plain r jobs later last todo rest limit left result same runs ends scripts s shows tells =
     let went = runs scripts s shows tells in
-    let c = config_of p in
-    let end : HasRun c scripts went.stage rest left r last result = subst (λ c. HasRun c scripts went.stage rest left r last result) same
-    (ends scripts went.stage went.shows (subst (λ c. Tells c scripts later went.stage) (sym same) went.tells)) in
+    let c = config_of plain in
+    let end : HasRun c scripts went.stage rest left r last result = subst (λ config. HasRun config scripts went.stage rest left r last result) same
+    (ends scripts went.stage went.shows (subst (λ config. Tells config scripts later went.stage) (sym same) went.tells)) in
     let stages : go (kind pause_image c) s (scheduled pause_image c scripts limit todo s) ≡ go (kind pause_image c) went.stage (scheduled pause_image c scripts left rest went.stage) =
     ap (go (kind pause_image c) s) went.goes.events ∙ go-append (kind pause_image c) s went.goes.done _ ∙ ap (λ x. go (kind pause_image c) x (scheduled pause_image c scripts left rest went.stage)) went.goes.leads in
     let lengths : length (scheduled pause_image c scripts limit todo s) ≡ length went.goes.done + length (scheduled pause_image c scripts left rest went.stage) = ap length went.goes.events ∙ length-append went.goes.done _ in
     has_run c scripts s todo limit r last result
     (subst (λ x. Shows r x) (sym stages) end.shows)
-    (subst (λ x. Tells c scripts last x) (sym stages) end.tells)
+    (subst (λ stage. Tells c scripts last stage) (sym stages) end.tells)
     (subst (λ n. HasEnded c scripts (go (kind pause_image c) s (scheduled pause_image c scripts limit todo s)) n limit result) (sym lengths)
     (ended_more c scripts _ _ (length went.goes.done) _ left limit result stages went.goes.count end.ended))
 
@@ -189,7 +189,7 @@ pub idle_more : (plain other_plain : Plain) (jobs later : Jobs) (number : ℕ) (
     → (scripts : Scripts) (stage : Stage Actor) → Shows other_plain stage → Tells (config_of other_plain) scripts later stage → (k : ℕ) → k < number + 1 → turn scripts stage k ≡ None
 idle_more plain other_plain jobs later number result same work_is turned idle before scripts stage shows tells k below =
     let shows_before : Shows plain stage = record { words_are = shows.words_are ∙ same.words; machines_are = shows.machines_are ∙ same.machines } in
-    let tells_before : Tells (config_of plain) scripts jobs stage = subst (λ c. Tells c scripts jobs stage) same.config (subst (λ w. Tells (config_of other_plain) scripts w stage) work_is tells) in
+    let tells_before : Tells (config_of plain) scripts jobs stage = subst (λ config. Tells config scripts jobs stage) same.config (subst (λ jobs. Tells (config_of other_plain) scripts jobs stage) work_is tells) in
     let passed : IsPassed (config_of plain) scripts stage number other_plain later = subst (λ r. Turned (config_of plain) scripts stage number other_plain later r) idle (turned scripts stage shows_before tells_before) in
     ⊎_elim
     (λ (is : k ≡ number). ap (turn scripts stage) is ∙ passed.idle)

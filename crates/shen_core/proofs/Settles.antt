@@ -7,6 +7,7 @@ use Rattle.std.proofs.Math.Logic.{∥∥₁_elim}
 use Rattle.std.proofs.lemmas.Bool.{cases_eq, lt-ltb}
 use Rattle.std.proofs.lemmas.List.{length-append, append-nil}
 use Rattle.std.proofs.lemmas.Option.{same_Some, slice_get-map, get_or_from_slice_get}
+use Rattle.heap_words.proofs.Lists.{slice_get-set_other, slice_get-set_same}
 use Rattle.heap_words.specs.declared.config.Config.{Config}
 use Rattle.heap_words.specs.Access.{table_index}
 use Rattle.heap_words.specs.Words.{Word, Answer, Phase, Cset, IsWord, view, image_start, table_words}
@@ -14,7 +15,6 @@ use Rattle.heap_words.specs.Rows.{name_of}
 use Rattle.heap_words.proofs.Named.{are_named}
 use Rattle.heap_words.specs.Steps.{Stage, Event, act, go, moved}
 use Rattle.heap_words.proofs.Laws.{act_cases, machines_other}
-use Rattle.heap_words.proofs.Places.{slice_get-set_same, slice_get-set_other}
 use Rattle.heap_words.proofs.Runs.{go-none, go-first, go-step}
 use Rattle.shen_graph.specs.declared.command.Command.{Command}
 use Rattle.shen_graph.specs.declared.command.Reply.{Reply}
@@ -52,10 +52,10 @@ use Rattle.shen_core.proofs.Events.{shown_actor}
 use Rattle.shen_core.specs.Noting.{IsEnding}
 
 -- what settles a reply is in a call
-pub told_busy : (memory : Word → ℕ) (mutator : Mutating) (r : Reply) → told_of memory mutator ≡ Some r → is_between_calls mutator.spot ≡ false
-told_busy memory mutator r is = by_spot mutator.spot is
+pub told_busy : (memory : Word → ℕ) (mutator : Mutating) (answer : Reply) → told_of memory mutator ≡ Some answer → is_between_calls mutator.spot ≡ false
+told_busy memory mutator answer is = by_spot mutator.spot is
   where
-    by_spot : (spot : Spot) → told_at memory mutator.seat mutator.made mutator.kept spot ≡ Some r → is_between_calls spot ≡ false
+    by_spot : (spot : Spot) → told_at memory mutator.seat mutator.made mutator.kept spot ≡ Some answer → is_between_calls spot ≡ false
     by_spot Rest is = absurd cc
     by_spot (Ended q) is = absurd cc
     by_spot Gone is = absurd cc
@@ -135,13 +135,13 @@ act_keeps config stage e before = act_cases (kind pause_image config) AllKeep st
         let is = same_Some _ other_actor (sym (slice_get-set_same stage.machines e.number actor _ here) ∙ ap (slice_get (moved (kind pause_image config) stage e.number actor e.order).machines) (sym same) ∙ there) in
         subst (λ x. KeepsCommand x.command x.machine) is (keeps_took config actor e.order _ takes (before e.number actor here))
 
-go_keeps : (config : Config) (stage : Stage Actor) (es : List (Event Order)) → AllKeep stage → AllKeep (go (kind pause_image config) stage es)
+go_keeps : (config : Config) (stage : Stage Actor) (events : List (Event Order)) → AllKeep stage → AllKeep (go (kind pause_image config) stage events)
 go_keeps config stage [] before = subst AllKeep (sym (go-none (kind pause_image config) stage)) before
-go_keeps config stage (e ∷ es) before = subst AllKeep (sym (go-first (kind pause_image config) stage e es)) (go_keeps config (act (kind pause_image config) stage e) es (act_keeps config stage e before))
+go_keeps config stage (e ∷ events) before = subst AllKeep (sym (go-first (kind pause_image config) stage e events)) (go_keeps config (act (kind pause_image config) stage e) events (act_keeps config stage e before))
 
 -- a mutator that is idle may be given a command
 abbrev IsIdleAs : Machine → Type 0
-IsIdleAs (mutating n) = takes_commands n.spot ≡ true
+IsIdleAs (mutating mutator) = takes_commands mutator.spot ≡ true
 IsIdleAs _ = Unit {0}
 
 -- no call is in progress where a run begins
@@ -167,9 +167,9 @@ begins_keeps config run k a here m is busy =
 
 -- where no word is refused, nothing is told
 told_none : (machines : List Actor) (word : Word) (before after : ℕ) → refused_word word before after ≡ None → told_word machines word before after ≡ []
-told_none machines (Answer t) before after none = by_test ((before == 0) && (after == 1)) none
+told_none machines (Answer mutator) before after none = by_test ((before == 0) && (after == 1)) none
   where
-    by_test : (holds : Bool) → ◌≡◌ {A = Option ℕ} (if holds then Some t else None) None → entries_of t (command_at (slice_get machines t)) (if holds then Some reply.Full else None) ≡ []
+    by_test : (holds : Bool) → ◌≡◌ {A = Option ℕ} (if holds then Some mutator else None) None → entries_of mutator (command_at (slice_get machines mutator)) (if holds then Some reply.Full else None) ≡ []
     by_test true none = absurd cc
     by_test false none = refl
 told_none machines _ before after none = refl
@@ -179,29 +179,29 @@ pub record IsRefusal (machines : List Actor) (word : Word) (before after mutator
   pub word_is : word ≡ Answer mutator
   pub told_is : told_word machines word before after ≡ entries_of mutator (command_at (slice_get machines mutator)) (Some reply.Full)
 
-told_some : (machines : List Actor) (word : Word) (before after t : ℕ) → refused_word word before after ≡ Some t → IsRefusal machines word before after t
-told_some machines (Answer k) before after t some = by_test ((before == 0) && (after == 1)) refl some
+told_some : (machines : List Actor) (word : Word) (before after mutator : ℕ) → refused_word word before after ≡ Some mutator → IsRefusal machines word before after mutator
+told_some machines (Answer other_mutator) before after mutator found = by_test ((before == 0) && (after == 1)) refl found
   where
-    by_test : (holds : Bool) → ((before == 0) && (after == 1)) ≡ holds → ◌≡◌ {A = Option ℕ} (if holds then Some k else None) (Some t) → IsRefusal machines (Answer k) before after t
-    by_test true so some =
-        let same : k ≡ t = cc in
+    by_test : (holds : Bool) → ((before == 0) && (after == 1)) ≡ holds → ◌≡◌ {A = Option ℕ} (if holds then Some other_mutator else None) (Some mutator) → IsRefusal machines (Answer other_mutator) before after mutator
+    by_test true so found =
+        let same : other_mutator ≡ mutator = cc in
         record {
           word_is = ap Answer same;
-          told_is = ap (λ holds. entries_of k (command_at (slice_get machines k)) (if holds then Some reply.Full else None)) so
-              ∙ ap (λ j. entries_of j (command_at (slice_get machines j)) (Some reply.Full)) same;
+          told_is = ap (λ holds. entries_of other_mutator (command_at (slice_get machines other_mutator)) (if holds then Some reply.Full else None)) so
+              ∙ ap (λ index. entries_of index (command_at (slice_get machines index)) (Some reply.Full)) same;
         }
-    by_test false so some = absurd cc
-told_some machines _ before after t some = absurd cc
+    by_test false so found = absurd cc
+told_some machines _ before after mutator found = absurd cc
 
 -- Histories.
 
 -- events one after another
-pub history_both : (config : Config) (stage : Stage Actor) (es fs : List (Event Order)) → history pause_image config stage (es ++ fs) ≡ history pause_image config stage es ++ history pause_image config (go (kind pause_image config) stage es) fs
+pub history_both : (config : Config) (stage : Stage Actor) (events other_events : List (Event Order)) → history pause_image config stage (events ++ other_events) ≡ history pause_image config stage events ++ history pause_image config (go (kind pause_image config) stage events) other_events
 unfolding history go
-history_both config stage [] fs = refl
-history_both config stage (e ∷ es) fs =
-    ap (λ xs. told config stage e ++ xs) (history_both config (act (kind pause_image config) stage e) es fs)
-    ∙ sym (append_assoc (told config stage e) (history pause_image config (act (kind pause_image config) stage e) es) (history pause_image config (go (kind pause_image config) (act (kind pause_image config) stage e) es) fs))
+history_both config stage [] events = refl
+history_both config stage (e ∷ other_events) events =
+    ap (λ xs. told config stage e ++ xs) (history_both config (act (kind pause_image config) stage e) other_events events)
+    ∙ sym (append_assoc (told config stage e) (history pause_image config (act (kind pause_image config) stage e) other_events) (history pause_image config (go (kind pause_image config) (act (kind pause_image config) stage e) other_events) events))
 
 -- one event
 pub history_one : (config : Config) (stage : Stage Actor) (e : Event Order) → history pause_image config stage (e ∷ []) ≡ told config stage e
@@ -209,125 +209,125 @@ unfolding history
 history_one config stage e = append-nil (told config stage e)
 
 -- and one event more
-pub history_step : (config : Config) (stage : Stage Actor) (es : List (Event Order)) (e : Event Order) → history pause_image config stage (es ++ e ∷ []) ≡ history pause_image config stage es ++ told config (go (kind pause_image config) stage es) e
-history_step config stage es e = history_both config stage es (e ∷ []) ∙ ap (λ xs. history pause_image config stage es ++ xs) (history_one config (go (kind pause_image config) stage es) e)
+pub history_step : (config : Config) (stage : Stage Actor) (events : List (Event Order)) (e : Event Order) → history pause_image config stage (events ++ e ∷ []) ≡ history pause_image config stage events ++ told config (go (kind pause_image config) stage events) e
+history_step config stage events e = history_both config stage events (e ∷ []) ∙ ap (λ xs. history pause_image config stage events ++ xs) (history_one config (go (kind pause_image config) stage events) e)
 
 -- In a run.
 
 module _ (config : Config) (run : Run config) where
   -- the stage that it ends in
-  abbrev s : Stage Actor
-  s = ending pause_image config run
+  abbrev stage_then : Stage Actor
+  stage_then = ending pause_image config run
 
-  sound : IsSound config run.graph s (history_in pause_image config run)
+  sound : IsSound config run.graph stage_then (history_in pause_image config run)
   sound = run_sound pause_image heap_pauses config run
 
   -- the command of a call in progress is the one that memory keeps
-  commands_kept : (number : ℕ) (actor : Actor) (mutator : Mutating) → slice_get s.machines number ≡ Some actor → actor.machine ≡ mutating mutator → is_between_calls mutator.spot ≡ false → actor.command ≡ mutator.kept.command
+  commands_kept : (number : ℕ) (actor : Actor) (mutator : Mutating) → slice_get stage_then.machines number ≡ Some actor → actor.machine ≡ mutating mutator → is_between_calls mutator.spot ≡ false → actor.command ≡ mutator.kept.command
   commands_kept number actor mutator here is busy = go_keeps config run.start run.events (begins_keeps config run) number actor here mutator is busy
 
   -- while an image counts the control stores it
-  storing_pauses : (actor : Actor) (image : Counting) → slice_get s.machines (control_number config) ≡ Some actor → image_read actor.machine ≡ Some image → IsInPause config s
+  storing_pauses : (actor : Actor) (image : Counting) → slice_get stage_then.machines (control_number config) ≡ Some actor → image_read actor.machine ≡ Some image → IsInPause config stage_then
   storing_pauses actor image here holds = by_machine actor.machine refl holds
     where
-      by_spot : (control : Controlling) → actor.machine ≡ controlling control → (spot : ControlSpot) → control.spot ≡ spot → stored_image spot control.image ≡ Some image → IsInPause config s
+      by_spot : (control : Controlling) → actor.machine ≡ controlling control → (spot : ControlSpot) → control.spot ≡ spot → stored_image spot control.image ≡ Some image → IsInPause config stage_then
       by_spot control is (StoreWord index extent) at holds = record { actor = actor; control = control; here = here; is = is; pausing = ap (λ x. is_pausing (control_standing x)) at }
       by_spot control is _ at holds = absurd cc
 
-      by_machine : (machine : Machine) → actor.machine ≡ machine → image_read machine ≡ Some image → IsInPause config s
+      by_machine : (machine : Machine) → actor.machine ≡ machine → image_read machine ≡ Some image → IsInPause config stage_then
       by_machine (controlling control) is holds = by_spot control is control.spot refl holds
       by_machine (mutating m) is holds = absurd cc
       by_machine (helping h) is holds = absurd cc
 
   -- what a mutator's step settles by the words that count it settles by those of the table
-  told_counts : (number : ℕ) (actor : Actor) (mutator : Mutating) → IsMutator s number actor mutator → told_of (settled config s) mutator ≡ told_of (view config s.words) mutator
-  told_counts number actor mutator here = by_actor (slice_get s.machines (control_number config)) refl
+  told_counts : (number : ℕ) (actor : Actor) (mutator : Mutating) → IsMutator stage_then number actor mutator → told_of (settled config stage_then) mutator ≡ told_of (view config stage_then.words) mutator
+  told_counts number actor mutator here = by_actor (slice_get stage_then.machines (control_number config)) refl
     where
-      by_image : (other_actor : Actor) → slice_get s.machines (control_number config) ≡ Some other_actor → (o : Option Counting) → image_read other_actor.machine ≡ o → told_of (settled_by config s.words o) mutator ≡ told_of (view config s.words) mutator
+      by_image : (other_actor : Actor) → slice_get stage_then.machines (control_number config) ≡ Some other_actor → (o : Option Counting) → image_read other_actor.machine ≡ o → told_of (settled_by config stage_then.words o) mutator ≡ told_of (view config stage_then.words) mutator
       by_image other_actor there None holds = refl
       by_image other_actor there (Some image) holds =
           let empty = run_pauses pause_image heap_pauses config run.start run.graph run.begins run.events (storing_pauses other_actor image there holds) in
-          told_outside (settled_by config s.words (Some image)) (view config s.words) mutator (empty.nobody number actor mutator here)
+          told_outside (settled_by config stage_then.words (Some image)) (view config stage_then.words) mutator (empty.nobody number actor mutator here)
 
-      by_actor : (o : Option Actor) → slice_get s.machines (control_number config) ≡ o → told_of (settled_by config s.words (image_of o)) mutator ≡ told_of (view config s.words) mutator
+      by_actor : (o : Option Actor) → slice_get stage_then.machines (control_number config) ≡ o → told_of (settled_by config stage_then.words (image_of o)) mutator ≡ told_of (view config stage_then.words) mutator
       by_actor None there = refl
       by_actor (Some other_actor) there = by_image other_actor there (image_read other_actor.machine) refl
 
   -- the event of a mutator settles what memory sees
-  pub told_mutating : (number : ℕ) (order : Order) (actor : Actor) (mutator : Mutating) → slice_get s.machines number ≡ Some actor → actor.machine ≡ mutating mutator → takes_of (mutating mutator) order ≡ true
-      → told config s (event number order) ≡ entries_of number mutator.kept.command (told_of (view config s.words) mutator)
+  pub told_mutating : (number : ℕ) (order : Order) (actor : Actor) (mutator : Mutating) → slice_get stage_then.machines number ≡ Some actor → actor.machine ≡ mutating mutator → takes_of (mutating mutator) order ≡ true
+      → told config stage_then (event number order) ≡ entries_of number mutator.kept.command (told_of (view config stage_then.words) mutator)
   unfolding told
   told_mutating number order actor mutator here is takes =
       let seat : mutator.seat ≡ number = (sound.of_heap.numbers number actor mutator (record { here = here; is = is })).0 in
-      ap (λ found. told_of_machine config s (event number order) found) here
-      ∙ ap (λ machine. if takes_of machine order then told_by config s actor order machine else []) is
-      ∙ ap (λ b. if b then told_by config s actor order (mutating mutator) else []) takes
+      ap (λ found. told_of_machine config stage_then (event number order) found) here
+      ∙ ap (λ machine. if takes_of machine order then told_by config stage_then actor order machine else []) is
+      ∙ ap (λ b. if b then told_by config stage_then actor order (mutating mutator) else []) takes
       ∙ ap (entries_of mutator.seat (command_by order actor.command)) (told_counts number actor mutator (record { here = here; is = is }))
-      ∙ ap (λ n. entries_of n (command_by order actor.command) (told_of (view config s.words) mutator)) seat
-      ∙ by_told (told_of (view config s.words) mutator) refl
+      ∙ ap (λ n. entries_of n (command_by order actor.command) (told_of (view config stage_then.words) mutator)) seat
+      ∙ by_told (told_of (view config stage_then.words) mutator) refl
     where
-      by_told : (found : Option Reply) → told_of (view config s.words) mutator ≡ found → entries_of number (command_by order actor.command) found ≡ entries_of number mutator.kept.command found
+      by_told : (found : Option Reply) → told_of (view config stage_then.words) mutator ≡ found → entries_of number (command_by order actor.command) found ≡ entries_of number mutator.kept.command found
       by_told None none = refl
       by_told (Some r) some =
-          let busy = told_busy (view config s.words) mutator r some in
+          let busy = told_busy (view config stage_then.words) mutator r some in
           ap (λ k. entries_of number k (Some r))
           (ap (λ found. command_by found actor.command) (busy_order mutator.spot mutator.made order busy takes) ∙ commands_kept number actor mutator here is busy)
 
   -- that of a helper settles nothing
-  pub told_helping : (number : ℕ) (order : Order) (actor : Actor) (helper : Helping) → slice_get s.machines number ≡ Some actor → actor.machine ≡ helping helper → takes_of (helping helper) order ≡ true → told config s (event number order) ≡ []
+  pub told_helping : (number : ℕ) (order : Order) (actor : Actor) (helper : Helping) → slice_get stage_then.machines number ≡ Some actor → actor.machine ≡ helping helper → takes_of (helping helper) order ≡ true → told config stage_then (event number order) ≡ []
   unfolding told
   told_helping number order actor helper here is takes =
-      ap (λ o. told_of_machine config s (event number order) o) here
-      ∙ ap (λ machine. if takes_of machine order then told_by config s actor order machine else []) is
-      ∙ ap (λ b. if b then told_by config s actor order (helping helper) else []) takes
+      ap (λ o. told_of_machine config stage_then (event number order) o) here
+      ∙ ap (λ machine. if takes_of machine order then told_by config stage_then actor order machine else []) is
+      ∙ ap (λ b. if b then told_by config stage_then actor order (helping helper) else []) takes
 
   -- that of the control, what it stores
-  told_controlling : (number : ℕ) (order : Order) (actor : Actor) (control : Controlling) → slice_get s.machines number ≡ Some actor → actor.machine ≡ controlling control → takes_of (controlling control) order ≡ true
-      → told config s (event number order) ≡ told_storing config s control.spot control.image
+  told_controlling : (number : ℕ) (order : Order) (actor : Actor) (control : Controlling) → slice_get stage_then.machines number ≡ Some actor → actor.machine ≡ controlling control → takes_of (controlling control) order ≡ true
+      → told config stage_then (event number order) ≡ told_storing config stage_then control.spot control.image
   unfolding told
   told_controlling number order actor control here is takes =
-      ap (λ o. told_of_machine config s (event number order) o) here
-      ∙ ap (λ machine. if takes_of machine order then told_by config s actor order machine else []) is
-      ∙ ap (λ b. if b then told_by config s actor order (controlling control) else []) takes
+      ap (λ o. told_of_machine config stage_then (event number order) o) here
+      ∙ ap (λ machine. if takes_of machine order then told_by config stage_then actor order machine else []) is
+      ∙ ap (λ b. if b then told_by config stage_then actor order (controlling control) else []) takes
 
   -- it settles nothing where it refuses nobody
-  pub told_no_refusal : (number : ℕ) (order : Order) (actor : Actor) (control : Controlling) → slice_get s.machines number ≡ Some actor → actor.machine ≡ controlling control → takes_of (controlling control) order ≡ true
-      → refused_at config s.words control.spot control.image ≡ None → told config s (event number order) ≡ []
+  pub told_no_refusal : (number : ℕ) (order : Order) (actor : Actor) (control : Controlling) → slice_get stage_then.machines number ≡ Some actor → actor.machine ≡ controlling control → takes_of (controlling control) order ≡ true
+      → refused_at config stage_then.words control.spot control.image ≡ None → told config stage_then (event number order) ≡ []
   told_no_refusal number order actor control here is takes none = told_controlling number order actor control here is takes ∙ by_spot control.spot none
     where
-      by_spot : (spot : ControlSpot) → refused_at config s.words spot control.image ≡ None → told_storing config s spot control.image ≡ []
-      by_spot (StoreWord index extent) none = told_none s.machines (name_of config (image_start config + index)) (slice_index s.words (image_start config + index)) (slice_index control.image index) none
+      by_spot : (spot : ControlSpot) → refused_at config stage_then.words spot control.image ≡ None → told_storing config stage_then spot control.image ≡ []
+      by_spot (StoreWord index extent) none = told_none stage_then.machines (name_of config (image_start config + index)) (slice_index stage_then.words (image_start config + index)) (slice_index control.image index) none
       by_spot _ none = refl
 
   -- where it refuses a mutator, the entry is that of the mutator's call
-  refusal_told : (number : ℕ) (order : Order) (actor : Actor) (control : Controlling) (t : ℕ) → slice_get s.machines number ≡ Some actor → actor.machine ≡ controlling control → takes_of (controlling control) order ≡ true
-      → refused_at config s.words control.spot control.image ≡ Some t → told config s (event number order) ≡ entries_of t (command_at (slice_get s.machines t)) (Some reply.Full)
-  refusal_told number order actor control t here is takes some = told_controlling number order actor control here is takes ∙ by_spot control.spot some
+  refusal_told : (number : ℕ) (order : Order) (actor : Actor) (control : Controlling) (t : ℕ) → slice_get stage_then.machines number ≡ Some actor → actor.machine ≡ controlling control → takes_of (controlling control) order ≡ true
+      → refused_at config stage_then.words control.spot control.image ≡ Some t → told config stage_then (event number order) ≡ entries_of t (command_at (slice_get stage_then.machines t)) (Some reply.Full)
+  refusal_told number order actor control t here is takes found = told_controlling number order actor control here is takes ∙ by_spot control.spot found
     where
-      by_spot : (spot : ControlSpot) → refused_at config s.words spot control.image ≡ Some t → told_storing config s spot control.image ≡ entries_of t (command_at (slice_get s.machines t)) (Some reply.Full)
-      by_spot (StoreWord index extent) some = (told_some s.machines (name_of config (image_start config + index)) (slice_index s.words (image_start config + index)) (slice_index control.image index) t some).told_is
-      by_spot _ some = absurd cc
+      by_spot : (spot : ControlSpot) → refused_at config stage_then.words spot control.image ≡ Some t → told_storing config stage_then spot control.image ≡ entries_of t (command_at (slice_get stage_then.machines t)) (Some reply.Full)
+      by_spot (StoreWord index extent) found = (told_some stage_then.machines (name_of config (image_start config + index)) (slice_index stage_then.words (image_start config + index)) (slice_index control.image index) t found).told_is
+      by_spot _ found = absurd cc
 
   -- the run with an event more
   abbrev longer : Event Order → Run config
   longer e = record { start = run.start; graph = run.graph; begins = run.begins; events = run.events ++ e ∷ [] }
 
   -- a mutator whose own call is settled by another machine's event is in that call
-  settled_is_busy : (e : Event Order) (other_mutator : ℕ) (actor : Actor) (mutator : Mutating) (command : Command) (r : Reply) → other_mutator ≢ e.number → IsMutator s other_mutator actor mutator → told config s e ≡ entries_of other_mutator command (Some r) → is_between_calls mutator.spot ≡ false
-  settled_is_busy e other_mutator actor mutator command r other here told_is = by_rest (is_between_calls mutator.spot) refl
+  settled_is_busy : (e : Event Order) (other_mutator : ℕ) (actor : Actor) (mutator : Mutating) (command : Command) (answer : Reply) → other_mutator ≢ e.number → IsMutator stage_then other_mutator actor mutator → told config stage_then e ≡ entries_of other_mutator command (Some answer) → is_between_calls mutator.spot ≡ false
+  settled_is_busy e other_mutator actor mutator command answer other here told_is = by_rest (is_between_calls mutator.spot) refl
     where
       stays : slice_get (ending pause_image config (longer e)).machines other_mutator ≡ Some actor
-      stays = ap (λ (stage : Stage Actor). slice_get stage.machines other_mutator) (go-step (kind pause_image config) run.start run.events e) ∙ machines_other (kind pause_image config) s e other_mutator other ∙ here.here
+      stays = ap (λ (stage : Stage Actor). slice_get stage.machines other_mutator) (go-step (kind pause_image config) run.start run.events e) ∙ machines_other (kind pause_image config) stage_then e other_mutator other ∙ here.here
 
-      now : AreCalls (settled config s) (view config s.words (Answer other_mutator)) (of_thread (history_in pause_image config run) (other_mutator + 1)) other_mutator actor mutator
+      now : AreCalls (settled config stage_then) (view config stage_then.words (Answer other_mutator)) (of_thread (history_in pause_image config run) (other_mutator + 1)) other_mutator actor mutator
       now = sound.threads other_mutator actor mutator here
 
       after : IsSound config run.graph (ending pause_image config (longer e)) (history_in pause_image config (longer e))
       after = run_sound pause_image heap_pauses config (longer e)
 
-      entries : of_thread (history_in pause_image config (longer e)) (other_mutator + 1) ≡ of_thread (history_in pause_image config run) (other_mutator + 1) ++ entries_of other_mutator command (Some r)
+      entries : of_thread (history_in pause_image config (longer e)) (other_mutator + 1) ≡ of_thread (history_in pause_image config run) (other_mutator + 1) ++ entries_of other_mutator command (Some answer)
       entries = ap (λ es. of_thread es (other_mutator + 1)) (history_step config run.start run.events e ∙ ap (λ es. history_in pause_image config run ++ es) told_is)
-          ∙ own_more (history_in pause_image config run) other_mutator command (Some r)
+          ∙ own_more (history_in pause_image config run) other_mutator command (Some answer)
 
       by_rest : (holds : Bool) → is_between_calls mutator.spot ≡ holds → is_between_calls mutator.spot ≡ false
       by_rest false busy = busy
@@ -336,21 +336,21 @@ module _ (config : Config) (run : Run config) where
           let calls_now : of_thread (history_in pause_image config run) (other_mutator + 1) ≡ actor.calls ++ [] = now.entries_are ∙ ap (λ o. actor.calls ++ entries_of other_mutator actor.command o) (now.between_calls rest) in
           let calls_then : of_thread (history_in pause_image config (longer e)) (other_mutator + 1) ≡ actor.calls ++ [] = later.entries_are ∙ ap (λ o. actor.calls ++ entries_of other_mutator actor.command o) (later.between_calls rest) in
           absurd
-          (let one = ap length (sym calls_then ∙ entries ∙ ap (λ es. es ++ entries_of other_mutator command (Some r)) calls_now) in
-          let two = length-append (actor.calls ++ []) (entries_of other_mutator command (Some r)) in
+          (let one = ap length (sym calls_then ∙ entries ∙ ap (λ es. es ++ entries_of other_mutator command (Some answer)) calls_now) in
+          let two = length-append (actor.calls ++ []) (entries_of other_mutator command (Some answer)) in
           omega (arith, one, two))
 
   -- the machine of a mutator that is refused is in a call, and so the entry has the command that memory keeps
-  pub record IsRefused (number : ℕ) (order : Order) (t : ℕ) : Type 0 where
-    pub below : t < config.mutators
+  pub record IsRefused (number : ℕ) (order : Order) (other_number : ℕ) : Type 0 where
+    pub below : other_number < config.mutators
     pub actor : Actor
     pub mutator : Mutating
-    pub here : IsMutator s t actor mutator
+    pub here : IsMutator stage_then other_number actor mutator
     pub busy : is_between_calls mutator.spot ≡ false
-    pub told_is : told config s (event number order) ≡ entries_of t mutator.kept.command (Some reply.Full)
+    pub told_is : told config stage_then (event number order) ≡ entries_of other_number mutator.kept.command (Some reply.Full)
 
-  pub refusal : (number : ℕ) (order : Order) (actor : Actor) (k : Controlling) (mutator : ℕ) → slice_get s.machines number ≡ Some actor → actor.machine ≡ controlling k → takes_of (controlling k) order ≡ true
-      → refused_at config s.words k.spot k.image ≡ Some mutator → IsRefused number order mutator
+  pub refusal : (number : ℕ) (order : Order) (actor : Actor) (control : Controlling) (mutator : ℕ) → slice_get stage_then.machines number ≡ Some actor → actor.machine ≡ controlling control → takes_of (controlling control) order ≡ true
+      → refused_at config stage_then.words control.spot control.image ≡ Some mutator → IsRefused number order mutator
   refusal number order actor k mutator here is takes some =
       let control : number ≡ config.mutators + config.helpers = subst (λ machine. HasNumber config number machine) is (sound.of_heap.roles number actor here) in
       let inside : takes_of (controlling k) Nothing ≡ true → table_index (plan_of config Nothing (controlling k)) < table_words config =
@@ -359,7 +359,7 @@ module _ (config : Config) (run : Run config) where
       let found = sound.of_heap.mutators mutator below in
       let told_so = refusal_told number order actor k mutator here is takes some in
       let other : mutator ≢ number = (λ same. omega (arith, below, control, same)) in
-      let busy = settled_is_busy (event number order) mutator found.actor found.mutator (command_at (slice_get s.machines mutator)) reply.Full other found.here told_so in
+      let busy = settled_is_busy (event number order) mutator found.actor found.mutator (command_at (slice_get stage_then.machines mutator)) reply.Full other found.here told_so in
       record {
         below = below;
         actor = found.actor;
@@ -370,9 +370,9 @@ module _ (config : Config) (run : Run config) where
             (ap command_at found.here.here ∙ commands_kept mutator found.actor found.mutator found.here.here found.here.is busy);
       }
     where
-      by_spot : (spot : ControlSpot) → (takes_of (controlling (record k { spot = spot })) Nothing ≡ true → table_index (plan_of config Nothing (controlling (record k { spot = spot }))) < table_words config) → refused_at config s.words spot k.image ≡ Some mutator → mutator < config.mutators
+      by_spot : (spot : ControlSpot) → (takes_of (controlling (record k { spot = spot })) Nothing ≡ true → table_index (plan_of config Nothing (controlling (record k { spot = spot }))) < table_words config) → refused_at config stage_then.words spot k.image ≡ Some mutator → mutator < config.mutators
       by_spot (StoreWord index extent) inside some =
-          let named = (told_some s.machines (name_of config (image_start config + index)) (slice_index s.words (image_start config + index)) (slice_index k.image index) mutator some).word_is in
+          let named = (told_some stage_then.machines (name_of config (image_start config + index)) (slice_index stage_then.words (image_start config + index)) (slice_index k.image index) mutator some).word_is in
           subst (λ w. IsWord config w) named (are_named.is_word config (image_start config + index) (inside refl))
       by_spot _ inside some = absurd cc
 
@@ -384,40 +384,40 @@ module _ (config : Config) (words : List ℕ) (machines : List Machine) (number 
   e = event number order
 
   -- a mutator that settles the reply of its call
-  pub sees_reply : (machine : Machine) (command : Command) (r : Reply) → slice_get machines number ≡ Some machine → takes_of machine order ≡ true → reply_settled (view config words) machine ≡ Some r → command_in machine ≡ Some command
-      → (stage : Stage Actor) → WordsShow words machines stage → IsEnding config stage → told config stage e ≡ entries_of number command (Some r)
-  sees_reply (mutating m) command r here takes is keeps stage shows ends =
-      subst (λ x. WordsShow words machines x → told config x e ≡ entries_of number command (Some r)) ends.1
+  pub sees_reply : (machine : Machine) (command : Command) (answer : Reply) → slice_get machines number ≡ Some machine → takes_of machine order ≡ true → reply_settled (view config words) machine ≡ Some answer → command_in machine ≡ Some command
+      → (stage : Stage Actor) → WordsShow words machines stage → IsEnding config stage → told config stage e ≡ entries_of number command (Some answer)
+  sees_reply (mutating mutator) command answer here takes is keeps stage shows ends =
+      subst (λ stage. WordsShow words machines stage → told config stage e ≡ entries_of number command (Some answer)) ends.1
       (λ shown.
-      let found = shown_actor words machines (ending pause_image config ends.0) number (mutating m) shown here in
-      told_mutating config ends.0 number order found.0 m found.1 found.2 takes
-      ∙ ap (λ ws. entries_of number m.kept.command (told_of (view config ws) m)) shown.words_are
-      ∙ ap (entries_of number m.kept.command) is
-      ∙ ap (λ k. entries_of number k (Some r)) (same_Some m.kept.command command keeps))
+      let found = shown_actor words machines (ending pause_image config ends.0) number (mutating mutator) shown here in
+      told_mutating config ends.0 number order found.0 mutator found.1 found.2 takes
+      ∙ ap (λ ws. entries_of number mutator.kept.command (told_of (view config ws) mutator)) shown.words_are
+      ∙ ap (entries_of number mutator.kept.command) is
+      ∙ ap (λ k. entries_of number k (Some answer)) (same_Some mutator.kept.command command keeps))
       shows
-  sees_reply (helping h) command r here takes is keeps stage shows ends = absurd cc
-  sees_reply (controlling k) command r here takes is keeps stage shows ends = absurd cc
+  sees_reply (helping helper) command answer here takes is keeps stage shows ends = absurd cc
+  sees_reply (controlling control) command answer here takes is keeps stage shows ends = absurd cc
 
   -- a machine that settles nothing
   pub sees_nothing : (machine : Machine) → slice_get machines number ≡ Some machine → takes_of machine order ≡ true → reply_settled (view config words) machine ≡ None → refused_by config words machine ≡ None
       → (stage : Stage Actor) → WordsShow words machines stage → IsEnding config stage → told config stage e ≡ []
-  sees_nothing (mutating m) here takes none quiet stage shows ends =
-      subst (λ x. WordsShow words machines x → told config x e ≡ []) ends.1
+  sees_nothing (mutating mutator) here takes none quiet stage shows ends =
+      subst (λ stage. WordsShow words machines stage → told config stage e ≡ []) ends.1
       (λ shown.
-      let found = shown_actor words machines (ending pause_image config ends.0) number (mutating m) shown here in
-      told_mutating config ends.0 number order found.0 m found.1 found.2 takes
-      ∙ ap (λ ws. entries_of number m.kept.command (told_of (view config ws) m)) shown.words_are
-      ∙ ap (entries_of number m.kept.command) none)
+      let found = shown_actor words machines (ending pause_image config ends.0) number (mutating mutator) shown here in
+      told_mutating config ends.0 number order found.0 mutator found.1 found.2 takes
+      ∙ ap (λ ws. entries_of number mutator.kept.command (told_of (view config ws) mutator)) shown.words_are
+      ∙ ap (entries_of number mutator.kept.command) none)
       shows
-  sees_nothing (helping h) here takes none quiet stage shows ends =
-      subst (λ x. WordsShow words machines x → told config x e ≡ []) ends.1
-      (λ shown. let found = shown_actor words machines (ending pause_image config ends.0) number (helping h) shown here in told_helping config ends.0 number order found.0 h found.1 found.2 takes)
+  sees_nothing (helping helper) here takes none quiet stage shows ends =
+      subst (λ stage. WordsShow words machines stage → told config stage e ≡ []) ends.1
+      (λ shown. let found = shown_actor words machines (ending pause_image config ends.0) number (helping helper) shown here in told_helping config ends.0 number order found.0 helper found.1 found.2 takes)
       shows
-  sees_nothing (controlling k) here takes none quiet stage shows ends =
-      subst (λ x. WordsShow words machines x → told config x e ≡ []) ends.1
+  sees_nothing (controlling control) here takes none quiet stage shows ends =
+      subst (λ stage. WordsShow words machines stage → told config stage e ≡ []) ends.1
       (λ shown.
-      let found = shown_actor words machines (ending pause_image config ends.0) number (controlling k) shown here in
-      told_no_refusal config ends.0 number order found.0 k found.1 found.2 takes (ap (λ ws. refused_at config ws k.spot k.image) shown.words_are ∙ quiet))
+      let found = shown_actor words machines (ending pause_image config ends.0) number (controlling control) shown here in
+      told_no_refusal config ends.0 number order found.0 control found.1 found.2 takes (ap (λ ws. refused_at config ws control.spot control.image) shown.words_are ∙ quiet))
       shows
 
   -- the control, where it refuses an allocation
@@ -433,8 +433,8 @@ module _ (config : Config) (words : List ℕ) (machines : List Machine) (number 
       let kept : Some refused.mutator.kept.command ≡ Some command = sym (ap command_in same) ∙ keeps in
       refused.told_is ∙ ap (λ k. entries_of index k (Some reply.Full)) (same_Some refused.mutator.kept.command command kept))
       shows
-  sees_refusal (mutating m) other index command here takes some there keeps stage shows ends = absurd cc
-  sees_refusal (helping h) other index command here takes some there keeps stage shows ends = absurd cc
+  sees_refusal (mutating mutator) other index command here takes found there keeps stage shows ends = absurd cc
+  sees_refusal (helping helper) other index command here takes found there keeps stage shows ends = absurd cc
 
   -- the mutator that it refuses is there, in a call
   pub record IsWaiting (t : ℕ) : Type 0 where
@@ -443,22 +443,22 @@ module _ (config : Config) (words : List ℕ) (machines : List Machine) (number 
     pub busy : is_resting (slice_index_or machines t no_machine) ≡ false
 
   waiting_by : (machine : Machine) (index : ℕ) → slice_get machines number ≡ Some machine → takes_of machine order ≡ true → refused_by config words machine ≡ Some index → IsShownBySomeRun config words machines → IsWaiting index
-  waiting_by (controlling k) index here takes some shown =
+  waiting_by (controlling control) index here takes some shown =
       let run = shown.run in
-      let found = shown_actor words machines (ending pause_image config run) number (controlling k) shown.shows here in
-      let refused = refusal config run number order found.0 k index found.1 found.2 takes (ap (λ ws. refused_at config ws k.spot k.image) shown.shows.words_are ∙ some) in
+      let found = shown_actor words machines (ending pause_image config run) number (controlling control) shown.shows here in
+      let refused = refusal config run number order found.0 control index found.1 found.2 takes (ap (λ ws. refused_at config ws control.spot control.image) shown.shows.words_are ∙ some) in
       let there : slice_get machines index ≡ Some (mutating refused.mutator) =
       sym (ap (λ ms. slice_get ms index) shown.shows.machines_are) ∙ slice_get-map (λ (actor : Actor). actor.machine) (ending pause_image config run).machines index
       ∙ ap (option_map (λ (actor : Actor). actor.machine)) refused.here.here ∙ ap Some refused.here.is in
       let is : slice_index_or machines index no_machine ≡ mutating refused.mutator = get_or_from_slice_get machines index (mutating refused.mutator) no_machine there in
       record { is_mutator = lt-ltb index config.mutators refused.below; role = ap is_mutating is; busy = ap is_resting is ∙ refused.busy }
-  waiting_by (mutating m) index here takes some shown = absurd cc
-  waiting_by (helping h) index here takes some shown = absurd cc
+  waiting_by (mutating mutator) index here takes found shown = absurd cc
+  waiting_by (helping helper) index here takes found shown = absurd cc
 
-  pub waiting : (machine : Machine) (t : ℕ) → slice_get machines number ≡ Some machine → takes_of machine order ≡ true → refused_by config words machine ≡ Some t → ∥ IsShownBySomeRun config words machines ∥₁ → IsWaiting t
-  waiting machine t here takes some reached =
+  pub waiting : (machine : Machine) (index : ℕ) → slice_get machines number ≡ Some machine → takes_of machine order ≡ true → refused_by config words machine ≡ Some index → ∥ IsShownBySomeRun config words machines ∥₁ → IsWaiting index
+  waiting machine t here takes found reached =
       let prop : IsProp (IsWaiting t) = waiting_prop t in
-      ∥∥₁_elim reached prop (waiting_by machine t here takes some)
+      ∥∥₁_elim reached prop (waiting_by machine t here takes found)
     where
       waiting_prop : (t : ℕ) → IsProp (IsWaiting t)
       waiting_prop t = hlevel Bool-set

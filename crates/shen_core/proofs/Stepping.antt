@@ -84,8 +84,8 @@ settles_turn plain mid other_plain jobs number said entry facts settles scripts 
     ∙ settles s (record { words_are = shows.words_are ∙ sym facts.mid_words; machines_are = shows.machines_are ∙ sym facts.mid_machines }) (subst (λ c. IsEnding c s) (sym facts.mid_config) ends))
 
 -- and so of the walk's next event
-pub settles_next : (plain : Plain) (jobs : Jobs) (todo : Agenda) (w : Walk) (number : ℕ) (entry : Option Entry) → HasSameNext plain jobs todo (agenda_in w) → IsDueNext plain jobs w number → SettlesTurn plain jobs number entry → SettlesNext plain jobs todo entry
-settles_next plain jobs todo w number entry same due settles scripts s shows tells ends x is = by_turn (turn scripts s number) refl
+pub settles_next : (plain : Plain) (jobs : Jobs) (todo : Agenda) (walk : Walk) (number : ℕ) (entry : Option Entry) → HasSameNext plain jobs todo (agenda_in walk) → IsDueNext plain jobs walk number → SettlesTurn plain jobs number entry → SettlesNext plain jobs todo entry
+settles_next plain jobs todo walk number entry same due settles scripts s shows tells ends x is = by_turn (turn scripts s number) refl
   where
     by_turn : (found : Option (Event Order)) → turn scripts s number ≡ found → told (config_of plain) s x.event ≡ entries_in entry
     by_turn None none = let has = due.has scripts s shows in let no : false ≡ true = ap is_some (sym none) ∙ has in absurd cc

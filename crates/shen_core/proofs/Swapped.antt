@@ -47,8 +47,8 @@ module _ (plain other_plain : Plain) (same : IsSwapped plain other_plain) where
 -- a run between two exchanges
 pub ran_swapped : (plain one two other_plain : Plain) (jobs later : Jobs) (todo : Agenda) (limit : ℕ) (result : Ran) → IsSwapped plain one → IsSwapped two other_plain → EndsNoted one jobs todo limit two later result → EndsRun plain jobs todo limit other_plain later result
 ran_swapped plain one two other_plain jobs later todo limit result first second ends scripts s shows tells =
-    let ran = (ends scripts s (shows_swapped plain one first s shows) (subst (λ c. Tells c scripts jobs s) (sym first.config) tells)).ran in
-    let here : HasRun (config_of plain) scripts s todo limit two later result = subst (λ c. HasRun c scripts s todo limit two later result) first.config ran in
+    let ran = (ends scripts s (shows_swapped plain one first s shows) (subst (λ config. Tells config scripts jobs s) (sym first.config) tells)).ran in
+    let here : HasRun (config_of plain) scripts s todo limit two later result = subst (λ config. HasRun config scripts s todo limit two later result) first.config ran in
     record {
       shows = shows_swapped two other_plain second _ here.shows;
       tells = here.tells;
@@ -62,8 +62,8 @@ pub swapped_history : (plain one two : Plain) (jobs later : Jobs) (items : List 
     → CanRun two later → ((mutator : ℕ) → mutator < (config_of two).mutators → length (work.replies_of later mutator) ≤ length (work.script_in later mutator)) → EndsNoted one jobs (agenda_of items) limit two later result → NotesSchedule plain jobs items limit old new
 swapped_history plain one two jobs later items limit result old new first given got config enough can within ends scripts stage shows tells is =
     let c = config_of plain in
-    let here : HasRunNoted c scripts stage (agenda_of items) limit one two later result = subst (λ c. HasRunNoted c scripts stage (agenda_of items) limit one two later result) first.config
-    (ends scripts stage (shows_swapped plain one first stage shows) (subst (λ c. Tells c scripts jobs stage) (sym first.config) tells)) in
+    let here : HasRunNoted c scripts stage (agenda_of items) limit one two later result = subst (λ config. HasRunNoted config scripts stage (agenda_of items) limit one two later result) first.config
+    (ends scripts stage (shows_swapped plain one first stage shows) (subst (λ config. Tells config scripts jobs stage) (sym first.config) tells)) in
     by_run is.0 stage is.1 tells here is
   where
     by_run : (run : Run (config_of plain)) (stage : Stage Actor) → ending pause_image (config_of plain) run ≡ stage → Tells (config_of plain) scripts jobs stage → HasRunNoted (config_of plain) scripts stage (agenda_of items) limit one two later result → IsEnding (config_of plain) stage
@@ -73,7 +73,7 @@ swapped_history plain one two jobs later items limit result old new first given 
         let es = schedule_events pause_image c scripts items limit stage in
         let same : config_of two ≡ c = config ∙ first.config in
         let few : length (history pause_image c stage es) ≤ commands_in c jobs =
-        subst (λ x. Shows two (go (kind pause_image c) x es) → Tells c scripts jobs x → Tells c scripts later (go (kind pause_image c) x es) → length (history pause_image c x es) ≤ commands_in c jobs) at
+        subst (λ stage. Shows two (go (kind pause_image c) stage es) → Tells c scripts jobs stage → Tells c scripts later (go (kind pause_image c) stage es) → length (history pause_image c stage es) ≤ commands_in c jobs) at
         (λ a b d. settled_few c run es scripts two jobs later same a b d can (subst (λ k. (mutator : ℕ) → mutator < k.mutators → length (work.replies_of later mutator) ≤ length (work.script_in later mutator)) same within))
         here.ran.shows tells here.ran.tells in
         let notes : new ≡ noted old (history pause_image c stage es) = got ∙ here.notes is ∙ ap (λ n. noted n (history pause_image c stage es)) given in

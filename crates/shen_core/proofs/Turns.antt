@@ -91,7 +91,7 @@ order_now plain jobs number role scripts stage tells actor here = by_role (nat_l
     by_role true is =
         let below : number < (config_of plain).mutators = ltb-true number (config_of plain).mutators is in
         ap (λ script. order_for (slice_get script (length actor.calls)) (machine_at plain number)) (sym (tells.scripts_are number below))
-        ∙ ap (λ k. order_for (slice_get (work.script_in jobs number) k) (machine_at plain number)) (sym (ap length (tells.replies number actor below here) ∙ length-map actor.calls (λ e. e.reply)))
+        ∙ ap (λ index. order_for (slice_get (work.script_in jobs number) index) (machine_at plain number)) (sym (ap length (tells.replies number actor below here) ∙ length-map actor.calls (λ e. e.reply)))
         ∙ ap (λ holds. order_for (if holds then work.next_of jobs number else None) (machine_at plain number)) (sym is)
     by_role false is = order_alike (machine_at plain number) _ _ (role ∙ is)
 

@@ -59,7 +59,7 @@ pub counts_ended : (plain other_plain : Plain) (jobs later : Jobs) (todo rest : 
 counts_ended plain other_plain jobs later todo rest limit left same runs none scripts stage shows tells =
     let went = runs scripts stage shows tells in
     let empty : scheduled pause_image (config_of plain) scripts left rest went.stage ≡ [] = scheduled_none (config_of plain) scripts went.stage rest left
-    (ap (λ c. next c scripts went.stage rest) (sym same) ∙ none scripts went.stage went.shows (subst (λ c. Tells c scripts later went.stage) (sym same) went.tells)) in
+    (ap (λ c. next c scripts went.stage rest) (sym same) ∙ none scripts went.stage went.shows (subst (λ config. Tells config scripts later went.stage) (sym same) went.tells)) in
     let all : length (scheduled pause_image (config_of plain) scripts limit todo stage) ≡ length went.goes.done = ap length (went.goes.events ∙ ap (λ es. went.goes.done ++ es) empty ∙ append-nil went.goes.done) in
     let count = went.goes.count in
     omega arith

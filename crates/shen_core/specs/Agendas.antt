@@ -38,11 +38,11 @@ tasks_of (Some item) = task_of item ∷ []
 
 -- the items that have not begun
 abbrev pub later_in : Walk → List Task
-later_in w = map task_of (drop w.begun w.schedule)
+later_in walk = map task_of (drop walk.begun walk.schedule)
 
 -- what is to be done: the control's step if it is due, what is left of the item at work, the items after it, and then rounds
 abbrev pub agenda_in : Walk → Agenda
-agenda_in w = record { tasks = control_after w.control_due ++ (tasks_of w.present ++ later_in w); from = w.from }
+agenda_in walk = record { tasks = control_after walk.control_due ++ (tasks_of walk.present ++ later_in walk); from = walk.from }
 
 -- what is to be done after the next event: of the control if its step is due, else of the item at work, else of the rounds
 abbrev pub after_by : Bool → Option Item → List Task → ℕ → ℕ → Bool → Agenda
@@ -51,7 +51,7 @@ after_by false (Some item) later from number waiting = record { tasks = tasks_af
 after_by false None later from number waiting = record { tasks = []; from = number + 1 }
 
 abbrev pub agenda_after : Walk → ℕ → Bool → Agenda
-agenda_after w number waiting = after_by w.control_due w.present (later_in w) w.from number waiting
+agenda_after walk number waiting = after_by walk.control_due walk.present (later_in walk) walk.from number waiting
 
 -- what is left of the items: one for that at work, two for each that has not begun
 abbrev pub weight_of : Option Item → ℕ
@@ -59,16 +59,16 @@ weight_of None = 0
 weight_of (Some item) = 1
 
 abbrev pub weight_in : Walk → ℕ
-weight_in w = 2 * (length w.schedule - w.begun) + weight_of w.present
+weight_in walk = 2 * (length walk.schedule - walk.begun) + weight_of walk.present
 
 -- the machines of a walk are those of the heap
-pub record IsWalkOf (config : Config) (w : Walk) : Type 0 where
-  pub items : All (IsInSeats config) w.schedule
-  pub present : IfSome w.present (IsInSeats config)
-  pub from : w.from ≤ seat_count config.mutators config.helpers
+pub record IsWalkOf (config : Config) (walk : Walk) : Type 0 where
+  pub items : All (IsInSeats config) walk.schedule
+  pub present : IfSome walk.present (IsInSeats config)
+  pub from : walk.from ≤ seat_count config.mutators config.helpers
 
 -- only rounds are left
-pub record HasNoItem (w : Walk) : Type 0 where
-  pub control : w.control_due ≡ false
-  pub present : w.present ≡ None
-  pub later : drop w.begun w.schedule ≡ []
+pub record HasNoItem (walk : Walk) : Type 0 where
+  pub control : walk.control_due ≡ false
+  pub present : walk.present ≡ None
+  pub later : drop walk.begun walk.schedule ≡ []

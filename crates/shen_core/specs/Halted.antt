@@ -13,7 +13,7 @@ IsAtEnd plain number = (next : Option Command) → is_some (order_for next (mach
 -- of the machines below a number so many wait for the end of a pause that goes on, and all others make no step
 abbrev pub AreHalted : Plain → ℕ → ℕ → Type 0
 AreHalted plain zero waiting = waiting ≡ 0
-AreHalted plain (suc k) waiting = ((0 < waiting) × IsHalted plain k × AreHalted plain k (waiting - 1)) ⊎ (IsAtEnd plain k × AreHalted plain k waiting)
+AreHalted plain (suc number) waiting = ((0 < waiting) × IsHalted plain number × AreHalted plain number (waiting - 1)) ⊎ (IsAtEnd plain number × AreHalted plain number waiting)
 
 -- how many steps the machine makes from a word of the image to the next one, one after the other
 abbrev pub words_left : Plain → ℕ → ℕ

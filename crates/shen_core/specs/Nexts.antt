@@ -46,12 +46,12 @@ abbrev pub HasNoNext : Plain → Jobs → Agenda → Type 0
 HasNoNext plain jobs todo = (scripts : Scripts) (stage : Stage Actor) → Shows plain stage → Tells (config_of plain) scripts jobs stage → next (config_of plain) scripts stage todo ≡ None
 
 -- The machine has a turn, and its event is the next one of the walk; what is to be done then is what the walk notes.
-pub record IsDueNext (plain : Plain) (jobs : Jobs) (w : Walk) (number : ℕ) : Type 0 where
+pub record IsDueNext (plain : Plain) (jobs : Jobs) (walk : Walk) (number : ℕ) : Type 0 where
   pub within : number < seats_of plain
   pub has : HasNext plain number true
-  pub rounds : w.control_due ≡ false → w.present ≡ None → drop w.begun w.schedule ≡ []
+  pub rounds : walk.control_due ≡ false → walk.present ≡ None → drop walk.begun walk.schedule ≡ []
   pub next_is : (scripts : Scripts) (stage : Stage Actor) → Shows plain stage → Tells (config_of plain) scripts jobs stage → (event : Event Order) → turn scripts stage number ≡ Some event
-      → next (config_of plain) scripts stage (agenda_in w) ≡ Some (record { event = event; agenda = agenda_after w number (waits (config_of plain) stage event) })
+      → next (config_of plain) scripts stage (agenda_in walk) ≡ Some (record { event = event; agenda = agenda_after walk number (waits (config_of plain) stage event) })
 
 -- the next event was made, memory shows the stage after it, and the rest is to be done
 pub record IsMade (config : Config) (scripts : Scripts) (stage : Stage Actor) (todo : Agenda) (plain : Plain) (later : Jobs) (rest : Agenda) (seen : Seen) : Type 0 where

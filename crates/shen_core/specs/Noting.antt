@@ -28,7 +28,7 @@ with_entry noting entry = if noting.spare == 0 then noting else record { list = 
 -- and with these entries, as far as there is
 unfoldable pub noted : Noting → List Entry → Noting
 noted noting [] = noting
-noted noting (e ∷ es) = noted (with_entry noting e) es
+noted noting (entry ∷ entries) = noted (with_entry noting entry) entries
 
 -- some run ends in the stage
 abbrev pub IsEnding : Config → Stage Actor → Type 0

@@ -37,7 +37,7 @@ seats_of plain = seat_count plain.config.mutators plain.config.helpers
 
 -- the stage has its words and machines
 abbrev pub Shows : Plain → Stage actors.Actor → Type 0
-Shows plain s = runs.WordsShow (words_of plain) (machines_of plain) s
+Shows plain stage = runs.WordsShow (words_of plain) (machines_of plain) stage
 
 -- one machine, and the order that it was given
 abbrev pub machine_at : Plain → ℕ → actors.Machine

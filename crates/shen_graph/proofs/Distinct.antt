@@ -20,16 +20,16 @@ before_apart name other_name before = at (same_name name other_name) refl
 
 -- the order goes on
 pub before_join : (a b c : Name) → IsBefore a b → IsBefore b c → IsBefore a c
-before_join a b c ab bc =
+before_join name other_name c ab bc =
     elim ab [
       | inl x ↦ elim bc [ inl y ↦ inl (omega (arith, x, y)) | inr y ↦ inl (omega (arith, x, y.0)) ]
       | inr x ↦ elim bc [ inl y ↦ inl (omega (arith, x.0, y)) | inr y ↦ inr (x.0 ∙ y.0, omega (arith, x.1, y.1)) ]
     ]
 
 -- what is before the first is none of them
-pub before_all : (name : Name) (ns : List Name) → ((other_name : Name) (ms : List Name) → ns ≡ other_name ∷ ms → IsBefore name other_name) → InOrder ns → AllByRecursion (λ y. same_name name y ≡ false) ns
+pub before_all : (name : Name) (names : List Name) → ((other_name : Name) (other_names : List Name) → names ≡ other_name ∷ other_names → IsBefore name other_name) → InOrder names → AllByRecursion (λ y. same_name name y ≡ false) names
 before_all name [] first order = tt
-before_all name (n ∷ []) first order = (before_apart name n (first n [] refl), tt)
+before_all name (other_name ∷ []) first order = (before_apart name other_name (first other_name [] refl), tt)
 before_all name (n ∷ m ∷ ns) first order =
     let here = first n (m ∷ ns) refl in
     (before_apart name n here, before_all name (m ∷ ns) (λ other_name ms is. let same : m ≡ other_name = cc in subst (IsBefore name) same (before_join name n m here order.0)) order.1)
@@ -39,18 +39,18 @@ unfolding IsDistinct
 none_distinct = tt
 
 -- so no name is there twice
-pub distinct : (ns : List Name) → InOrder ns → IsDistinct same_name ns
+pub distinct : (names : List Name) → InOrder names → IsDistinct same_name names
 distinct [] order = none_distinct
-distinct (n ∷ []) order = IsDistinct-cons same_name n [] tt none_distinct
+distinct (name ∷ []) order = IsDistinct-cons same_name name [] tt none_distinct
 distinct (n ∷ m ∷ ns) order =
     IsDistinct-cons same_name n (m ∷ ns) (before_all n (m ∷ ns) (λ b ms is. let same : m ≡ b = cc in subst (IsBefore n) same order.0) order.1) (distinct (m ∷ ns) order.1)
 
 -- a list in order without its first
-pub order_rest : (name : Name) (ns : List Name) → InOrder (name ∷ ns) → InOrder ns
+pub order_rest : (name : Name) (names : List Name) → InOrder (name ∷ names) → InOrder names
 order_rest name [] order = tt
-order_rest name (m ∷ ns) order = order.1
+order_rest name (other_name ∷ names) order = order.1
 
 -- the first is none of the others
-pub order_first : (name : Name) (ns : List Name) → InOrder (name ∷ ns) → AllByRecursion (λ y. same_name name y ≡ false) ns
+pub order_first : (name : Name) (names : List Name) → InOrder (name ∷ names) → AllByRecursion (λ y. same_name name y ≡ false) names
 order_first name [] order = tt
-order_first name (m ∷ ns) order = before_all name (m ∷ ns) (λ b ms is. let same : m ≡ b = cc in subst (IsBefore name) same order.0) order.1
+order_first name (other_name ∷ names) order = before_all name (other_name ∷ names) (λ b ms is. let same : other_name ≡ b = cc in subst (IsBefore name) same order.0) order.1

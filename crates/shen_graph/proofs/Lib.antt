@@ -9,3 +9,7 @@ pub mod RowLemmas
 pub mod Distinct
 pub mod PinLemmas
 pub mod Outcomes
+pub mod Lists
+pub mod Numbers
+pub mod Bools
+pub mod Options

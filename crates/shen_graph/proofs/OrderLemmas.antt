@@ -30,9 +30,9 @@ same_name-flip name other_name =
 pub IsBefore-from_sorted : (name other_name : Name) → is_lt (name_cmp other_name name) ≡ false → same_name name other_name ≡ false → IsBefore name other_name
 IsBefore-from_sorted name other_name sorted apart = grind (arith, nat_tests)
 
-pub InOrder-from_adjacent : (xs : List Name) → ((index : ℕ) (name : Name) → index + 1 < length xs → IsBefore (get_or xs index name) (get_or xs (index + 1) name)) → InOrder xs
+pub InOrder-from_adjacent : (names : List Name) → ((index : ℕ) (name : Name) → index + 1 < length names → IsBefore (get_or names index name) (get_or names (index + 1) name)) → InOrder names
 InOrder-from_adjacent [] h = tt
-InOrder-from_adjacent (n ∷ []) h = tt
+InOrder-from_adjacent (name ∷ []) h = tt
 InOrder-from_adjacent (n ∷ m ∷ ns) h =
     (h 0 n (omega arith), InOrder-from_adjacent (m ∷ ns) (λ index name below. let next : suc index + 1 ≡ suc (index + 1) = omega arith in rw next at (h (suc index) name (omega arith))))
 
@@ -48,5 +48,5 @@ InOrder-from_sorted key (x ∷ xs) sorted distinct =
     rw (first, second) (IsBefore-from_sorted (key (get_or (x ∷ xs) k x)) (key (get_or (x ∷ xs) (k + 1) x)) (sorted k x (omega arith) inside) (rw (first, second) at apart)))
 
 -- names that differ, in another order
-pub IsDistinct-permutation : (xs ys : List Name) → IsPermutation xs ys → IsDistinct same_name xs → IsDistinct same_name ys
-IsDistinct-permutation xs ys moved distinct = IsDistinct-IsPermutation same_name same_name-flip xs ys moved distinct
+pub IsDistinct-permutation : (names other_names : List Name) → IsPermutation names other_names → IsDistinct same_name names → IsDistinct same_name other_names
+IsDistinct-permutation names other_names moved distinct = IsDistinct-IsPermutation same_name same_name-flip names other_names moved distinct

@@ -27,27 +27,27 @@ pins_none graph t Gc never = refl
 pins_none graph t (Unpin slot) never = refl
 pins_none graph t (Pin slot obj) never = absurd (never tt)
 
-pub leaves_outcome : (graph : Graph) (t : ℕ) (command : Command) (r : Reply) → (IsPin command → ⊥) → after_reply graph t command r ≡ (outcome graph t command).graph
-leaves_outcome graph t (New dst refs nums) r never = refl
-leaves_outcome graph t (Get dst src field) r never = refl
-leaves_outcome graph t (Set obj field val) r never = refl
-leaves_outcome graph t (Cas obj field expect val) r never = refl
-leaves_outcome graph t (Xchg dst obj field val) r never = refl
-leaves_outcome graph t (Rd obj index) r never = refl
-leaves_outcome graph t (Wr obj index value) r never = refl
-leaves_outcome graph t (Copy dst src) r never = refl
-leaves_outcome graph t (Drop dst) r never = refl
-leaves_outcome graph t (Same a b) r never = refl
-leaves_outcome graph t Gc r never = refl
-leaves_outcome graph t (Unpin slot) r never = refl
-leaves_outcome graph t (Pin slot obj) r never = absurd (never tt)
+pub leaves_outcome : (graph : Graph) (t : ℕ) (command : Command) (answer : Reply) → (IsPin command → ⊥) → after_reply graph t command answer ≡ (outcome graph t command).graph
+leaves_outcome graph t (New dst refs nums) answer never = refl
+leaves_outcome graph t (Get dst src field) answer never = refl
+leaves_outcome graph t (Set obj field val) answer never = refl
+leaves_outcome graph t (Cas obj field expect val) answer never = refl
+leaves_outcome graph t (Xchg dst obj field val) answer never = refl
+leaves_outcome graph t (Rd obj index) answer never = refl
+leaves_outcome graph t (Wr obj index value) answer never = refl
+leaves_outcome graph t (Copy dst src) answer never = refl
+leaves_outcome graph t (Drop dst) answer never = refl
+leaves_outcome graph t (Same a b) answer never = refl
+leaves_outcome graph t Gc answer never = refl
+leaves_outcome graph t (Unpin slot) answer never = refl
+leaves_outcome graph t (Pin slot obj) answer never = absurd (never tt)
 
 -- and it has its answer, or is refused
-pub legal_plain : (regions region_words : ℕ) (graph : Graph) (t : ℕ) (command : Command) (r : Reply) (other_graph : Graph) → (IsPin command → ⊥) → IsLegal regions region_words graph t command r other_graph
-    → (answers r other_graph ≡ outcome graph t command) ⊎ (IsNew command × (r ≡ reply.Full) × (other_graph ≡ graph))
-legal_plain regions region_words graph t command r other_graph never (inl step) = inl step.1
-legal_plain regions region_words graph t command r other_graph never (inr (inl full)) = inr full
-legal_plain regions region_words graph t command r other_graph never (inr (inr pinning)) = absurd (none-some pinning.name (sym (pins_none graph t command never) ∙ pinning.pins))
+pub legal_plain : (regions region_words : ℕ) (graph : Graph) (t : ℕ) (command : Command) (answer : Reply) (other_graph : Graph) → (IsPin command → ⊥) → IsLegal regions region_words graph t command answer other_graph
+    → (answers answer other_graph ≡ outcome graph t command) ⊎ (IsNew command × (answer ≡ reply.Full) × (other_graph ≡ graph))
+legal_plain regions region_words graph t command answer other_graph never (inl step) = inl step.1
+legal_plain regions region_words graph t command answer other_graph never (inr (inl full)) = inr full
+legal_plain regions region_words graph t command answer other_graph never (inr (inr pinning)) = absurd (none-some pinning.name (sym (pins_none graph t command never) ∙ pinning.pins))
 
 -- an outcome is never Full
 
@@ -75,7 +75,7 @@ outcome_given graph thread (Rd obj index) = on_given (number_at graph thread obj
 outcome_given graph thread (Wr obj index value) = on_given (number_at graph thread obj index) graph (λ _. answers reply.Ok (with_number graph thread obj index value)) (λ _. refl)
 outcome_given graph thread (Copy dst src) = refl
 outcome_given graph thread (Drop dst) = refl
-outcome_given graph thread (Same a b) = either_given (same_reference (graph.root thread a) (graph.root thread b))
+outcome_given graph thread (Same index other_index) = either_given (same_reference (graph.root thread index) (graph.root thread other_index))
 outcome_given graph thread Gc = refl
 outcome_given graph thread (Pin slot obj) = refl
 outcome_given graph thread (Unpin slot) = on_given (graph.pin thread slot) graph (λ _. answers reply.Ok (with_pin graph thread slot None)) (λ _. refl)

@@ -12,12 +12,12 @@ abbrev Jobs : Type 0
 Jobs = List (Option Progress)
 
 -- two works with the same in each place
-pub same_work : (a b : Jobs) → length a ≡ 8 → length b ≡ 8 → ((t : ℕ) → progress_of a t ≡ progress_of b t) → a ≡ b
-same_work a b long other_long same = ext_get_or None a b (long ∙ sym other_long) (λ t within. same t)
+pub same_work : (jobs other_jobs : Jobs) → length jobs ≡ 8 → length other_jobs ≡ 8 → ((t : ℕ) → progress_of jobs t ≡ progress_of other_jobs t) → jobs ≡ other_jobs
+same_work jobs other_jobs long other_long same = ext_get_or None jobs other_jobs (long ∙ sym other_long) (λ t within. same t)
 
 -- no script lies past the eight places
-none_past : (a : Jobs) (t : ℕ) → length a ≡ 8 → 8 ≤ t → progress_of a t ≡ None
-none_past a t long past = get_or_past a t None (omega arith)
+none_past : (jobs : Jobs) (t : ℕ) → length jobs ≡ 8 → 8 ≤ t → progress_of jobs t ≡ None
+none_past jobs t long past = get_or_past jobs t None (omega arith)
 
 either : (holds : Bool) → ◌≡◌ {A = Option Progress} (if holds then None else None) None
 either true = refl
@@ -44,7 +44,7 @@ progress_of-left_over workers part work t long = progress_of-picked (λ mutator.
 
 -- in work of which nothing was done
 pub progress_of-opened : (scripts : List (List Command)) (index : ℕ) → length scripts ≤ 8 → progress_of (opened scripts) index ≡ option_map begun (slice_get scripts index)
-progress_of-opened scripts index few = ⊎_elim
+progress_of-opened scripts index at_most = ⊎_elim
     (λ (below : index < 8). get_or-map-range_with_len (λ mutator. option_map begun (slice_get scripts mutator)) 0 8 index index None below (omega arith))
     (λ (past : 8 ≤ index). none_past (opened scripts) index refl past ∙ sym (ap (option_map begun) (slice_get_past scripts index (omega arith))))
     (cases_lt index 8)
@@ -54,9 +54,9 @@ below : (workers part : ℕ) (work : Jobs) (t : ℕ) → length work ≡ 8 → p
 below workers part = progress_of-picked (λ mutator. nat_lt (mutator % workers) part)
 
 pub all_below : (workers : ℕ) (work : Jobs) → 0 < workers → length work ≡ 8 → parted_below workers workers work ≡ work
-all_below workers work some long = same_work _ work refl long (λ t.
+all_below workers work positive long = same_work _ work refl long (λ t.
     below workers workers work t long
-    ∙ ap (λ b. if b then progress_of work t else None) (lt-ltb (t % workers) workers (mod-lt t some)))
+    ∙ ap (λ b. if b then progress_of work t else None) (lt-ltb (t % workers) workers (mod-lt t positive)))
 
 -- what the loops of `part` and `join` have at their end
 pub all_picked : (test : ℕ → Bool) (work now : Jobs) → length now ≡ 8 → ((t : ℕ) → t < 8 → progress_of now t ≡ (if test t then progress_of work t else None)) → now ≡ picked test work

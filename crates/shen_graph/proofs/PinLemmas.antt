@@ -23,7 +23,7 @@ agrees name place held same = by_tests (same_name held.name name) (held.place ==
     by_tests true false n p h = absurd (false≢true (sym h))
     by_tests false true n p h = absurd (false≢true (sym h))
     by_tests false false n p h = (
-      λ is. absurd (false≢true (sym n ∙ ap (λ (m : Name). same_name m name) is ∙ same_name-itself name)),
+      λ is. absurd (false≢true (sym n ∙ ap (λ (other_name : Name). same_name other_name name) is ∙ same_name-itself name)),
       λ is. absurd (false≢true (sym p ∙ (Decides-eqb held.place place).1 is)),
     )
 
@@ -35,15 +35,15 @@ disagrees name place held apart to_place to_name = by_tests (same_name held.name
     by_tests true false n p h = false≢true (sym p ∙ (Decides-eqb held.place place).1 (to_place (same_name-true held.name name n)))
     by_tests false true n p h =
         let is = to_name ((Decides-eqb held.place place).0 p) in
-        false≢true (sym n ∙ ap (λ (m : Name). same_name m name) is ∙ same_name-itself name)
+        false≢true (sym n ∙ ap (λ (other_name : Name). same_name other_name name) is ∙ same_name-itself name)
     by_tests false false n p h = false≢true h
 
 -- an element that passes a test, by its place
 index_of_any : {X : Type 0} (p : X → Bool) (xs : List X) (d : X) → list_any p xs ≡ true → (index : ℕ) × (index < length xs) × (p (get_or xs index d) ≡ true)
-index_of_any p [] d e = absurd (false≢true e)
-index_of_any {X} p (x ∷ xs) d e = by (p x) refl (index_of_any p xs d)
+index_of_any p [] d same = absurd (false≢true same)
+index_of_any {X} p (x ∷ xs) same e = by (p x) refl (index_of_any p xs same)
   where
-    by : (holds : Bool) → p x ≡ holds → (list_any p xs ≡ true → (index : ℕ) × (index < length xs) × (p (get_or xs index d) ≡ true)) → (index : ℕ) × (index < length (x ∷ xs)) × (p (get_or (x ∷ xs) index d) ≡ true)
+    by : (holds : Bool) → p x ≡ holds → (list_any p xs ≡ true → (index : ℕ) × (index < length xs) × (p (get_or xs index same) ≡ true)) → (index : ℕ) × (index < length (x ∷ xs)) × (p (get_or (x ∷ xs) index same) ≡ true)
     by true is rest = (0, omega arith, is)
     by false is rest =
         let later : list_any p xs ≡ true = rw is at e in
@@ -63,16 +63,16 @@ slot_within pins other_index index held is =
 
 -- where no slot differs, each agrees; and where one does, there is one
 pub slots_agree : (plain : Plain) (name : Name) (place : ℕ) → list_any (list_any (differs name place)) plain.pins ≡ false
-    → (thread s : ℕ) (held : Pinned) → (graph_of plain).pin thread s ≡ Some held → differs name place (Some held) ≡ false
-slots_agree plain name place none thread s held is = by (differs name place (Some held)) refl
+    → (thread slot : ℕ) (held : Pinned) → (graph_of plain).pin thread slot ≡ Some held → differs name place (Some held) ≡ false
+slots_agree plain name place none thread slot held is = by (differs name place (Some held)) refl
   where
     by : (holds : Bool) → differs name place (Some held) ≡ holds → holds ≡ false
     by false e = refl
     by true e =
-        let here : pin_in plain.pins thread s ≡ Some held = sym (pin-graph_of plain thread s) ∙ is in
-        let within = slot_within plain.pins thread s held here in
+        let here : pin_in plain.pins thread slot ≡ Some held = sym (pin-graph_of plain thread slot) ∙ is in
+        let within = slot_within plain.pins thread slot held here in
         let row : list_any (differs name place) (get_or plain.pins thread []) ≡ true =
-        list_any_at (differs name place) (get_or plain.pins thread []) s None within.1 (ap (differs name place) here ∙ e) in
+        list_any_at (differs name place) (get_or plain.pins thread []) slot None within.1 (ap (differs name place) here ∙ e) in
         absurd (false≢true (sym none ∙ list_any_at (list_any (differs name place)) plain.pins thread [] within.0 row))
 
 pub record Differing (plain : Plain) (name : Name) (place : ℕ) : Type 0 where

@@ -47,34 +47,34 @@ IsFirst-position rows name k h =
     record { within = found.0; same = found.1; others = found.2 }
 
 IsFirst-rest : (row : Row) (rows : List Row) (name : Name) (k : ℕ) → IsFirst (row ∷ rows) name (suc k) → IsFirst rows name k
-IsFirst-rest row rows name k h = record { within = omega (arith, h.within); same = h.same; others = λ j below. h.others (suc j) (omega arith) }
+IsFirst-rest row rows name k first = record { within = omega (arith, first.within); same = first.same; others = λ j below. first.others (suc j) (omega arith) }
 
 -- the first row with the name has the object
 pub object_in-first : (rows : List Row) (name : Name) (index : ℕ) → IsFirst rows name index → object_in rows name ≡ Some (object_of (get_or rows index nobody))
-object_in-first [] name index h = absurd (omega (arith, h.within))
-object_in-first (r ∷ rows) name zero h = rw h.same refl
-object_in-first (r ∷ rows) name (suc index) h =
-    let head : same_name name r.name ≡ false = h.others 0 (omega arith) in
-    rw head (object_in-first rows name index (IsFirst-rest r rows name index h))
+object_in-first [] name index first = absurd (omega (arith, first.within))
+object_in-first (row ∷ rows) name zero first = rw first.same refl
+object_in-first (row ∷ rows) name (suc index) first =
+    let head : same_name name row.name ≡ false = first.others 0 (omega arith) in
+    rw head (object_in-first rows name index (IsFirst-rest row rows name index first))
 
 pub object_in-none : (rows : List Row) (name : Name) (i : ℕ) → position_from (λ r. same_name name r.name) i rows ≡ None → object_in rows name ≡ None
-object_in-none [] name i h = refl
-object_in-none (r ∷ rows) name i h =
-    elim (same_name name r.name) as (λ b. cond b (Some i) (position_from (λ (row : Row). same_name name row.name) (i + 1) rows) ≡ None → (if b then Some (object_of r) else object_in rows name) ≡ None)
-    [ true ↦ λ no. cc | false ↦ λ rest. object_in-none rows name (i + 1) rest ] h
+object_in-none [] name i none = refl
+object_in-none (other_row ∷ rows) name i none =
+    elim (same_name name other_row.name) as (λ b. cond b (Some i) (position_from (λ (row : Row). same_name name row.name) (i + 1) rows) ≡ None → (if b then Some (object_of other_row) else object_in rows name) ≡ None)
+    [ true ↦ λ no. cc | false ↦ λ rest. object_in-none rows name (i + 1) rest ] none
 
 -- the row has another object
 pub object_in-set : (rows : List Row) (name : Name) (index : ℕ) (object : Object) (other_name : Name) → IsFirst rows name index
     → object_in (set rows index (record { name = (get_or rows index nobody).name; refs = object.refs; nums = object.nums })) other_name ≡ (if same_name other_name name then Some object else object_in rows other_name)
-object_in-set [] name index object other_name h = absurd (omega (arith, h.within))
-object_in-set (r ∷ rows) name zero object other_name h =
-    let here : name ≡ r.name = same_name-true name r.name h.same in
-    rw here (elim (same_name other_name r.name) as (λ b. (if b then Some object else object_in rows other_name) ≡ (if b then Some object else (if b then Some (object_of r) else object_in rows other_name))) [ true ↦ refl | false ↦ refl ])
-object_in-set (r ∷ rows) name (suc index) object other_name h =
-    let head : same_name name r.name ≡ false = h.others 0 (omega arith) in
-    let rest = object_in-set rows name index object other_name (IsFirst-rest r rows name index h) in
-    let apart : same_name other_name r.name ≡ true → same_name other_name name ≡ false = λ is. rw (same_name-true other_name r.name is, same_name-flip r.name name) head in
-    elim (same_name other_name r.name) as (λ b. (b ≡ true → same_name other_name name ≡ false) → (if b then Some (object_of r) else object_in (set rows index (record { name = (get_or rows index nobody).name; refs = object.refs; nums = object.nums })) other_name) ≡ (if same_name other_name name then Some object else (if b then Some (object_of r) else object_in rows other_name)))
+object_in-set [] name index object other_name first = absurd (omega (arith, first.within))
+object_in-set (row ∷ rows) name zero object other_name first =
+    let here : name ≡ row.name = same_name-true name row.name first.same in
+    rw here (elim (same_name other_name row.name) as (λ b. (if b then Some object else object_in rows other_name) ≡ (if b then Some object else (if b then Some (object_of row) else object_in rows other_name))) [ true ↦ refl | false ↦ refl ])
+object_in-set (row ∷ rows) name (suc index) object other_name first =
+    let head : same_name name row.name ≡ false = first.others 0 (omega arith) in
+    let rest = object_in-set rows name index object other_name (IsFirst-rest row rows name index first) in
+    let apart : same_name other_name row.name ≡ true → same_name other_name name ≡ false = λ is. rw (same_name-true other_name row.name is, same_name-flip row.name name) head in
+    elim (same_name other_name row.name) as (λ b. (b ≡ true → same_name other_name name ≡ false) → (if b then Some (object_of row) else object_in (set rows index (record { name = (get_or rows index nobody).name; refs = object.refs; nums = object.nums })) other_name) ≡ (if same_name other_name name then Some object else (if b then Some (object_of row) else object_in rows other_name)))
     [ true ↦ λ apart. rw (apart refl) refl | false ↦ λ _. rest ] apart
 
 pub get_or-set : {A : Type 0} (xs : List A) (index other_index : ℕ) (v d : A) → index < length xs → get_or (set xs index v) other_index d ≡ cond (eqb other_index index) v (get_or xs other_index d)
@@ -111,13 +111,13 @@ named-place plain name = by_place (position (λ (row : Row). same_name name row.
 
 -- the object of a name, by the place of its row
 
-pub object-placed : (plain : Plain) (name : Name) (k : ℕ) (row : Row) → position (λ (row : Row). same_name name row.name) plain.rows ≡ Some k → row ≡ get_or plain.rows k nobody
+pub object-placed : (plain : Plain) (name : Name) (index : ℕ) (row : Row) → position (λ (row : Row). same_name name row.name) plain.rows ≡ Some index → row ≡ get_or plain.rows index nobody
     → ((graph_of plain).object name ≡ Some (object_of row)) × (row.name ≡ name)
 unfolding graph_of
-object-placed plain name k row place is =
-    let first = IsFirst-position plain.rows name k place in (
-      object_in-first plain.rows name k first ∙ ap (λ (row : Row). Some (object_of row)) (sym is),
-      ap (λ (row : Row). row.name) is ∙ sym (same_name-true name (get_or plain.rows k nobody).name first.same),
+object-placed plain name index row place is =
+    let first = IsFirst-position plain.rows name index place in (
+      object_in-first plain.rows name index first ∙ ap (λ (row : Row). Some (object_of row)) (sym is),
+      ap (λ (row : Row). row.name) is ∙ sym (same_name-true name (get_or plain.rows index nobody).name first.same),
     )
 
 pub object-nowhere : (plain : Plain) (name : Name) → position (λ (row : Row). same_name name row.name) plain.rows ≡ None → (graph_of plain).object name ≡ None
@@ -128,7 +128,7 @@ pub named-object : (graph : Graph) (name : Name) (object : Object) → graph.obj
 named-object graph name object e = ap (λ (found : Option Object). unwrap_or found (record { refs = []; nums = [] })) e
 
 pub named-nothing : (graph : Graph) (name : Name) → graph.object name ≡ None → named graph (Some name) ≡ record { refs = []; nums = [] }
-named-nothing graph name e = ap (λ (found : Option Object). unwrap_or found (record { refs = []; nums = [] })) e
+named-nothing graph name none = ap (λ (found : Option Object). unwrap_or found (record { refs = []; nums = [] })) none
 
 -- the row of a name that has an object, and of one that has none
 
@@ -184,16 +184,16 @@ graph_of-with_pin plain thread slot held row in_threads is in_slots =
         ])
 
 -- the object that a root names is another
-pub graph_of-with_object : (plain : Plain) (thread root k : ℕ) (object : Object) → place_of plain thread root ≡ Some k
-    → graph_of (record plain { rows = set plain.rows k (record { name = (get_or plain.rows k nobody).name; refs = object.refs; nums = object.nums }) }) ≡ with_named (graph_of plain) ((graph_of plain).root thread root) object
+pub graph_of-with_object : (plain : Plain) (thread root index : ℕ) (object : Object) → place_of plain thread root ≡ Some index
+    → graph_of (record plain { rows = set plain.rows index (record { name = (get_or plain.rows index nobody).name; refs = object.refs; nums = object.nums }) }) ≡ with_named (graph_of plain) ((graph_of plain).root thread root) object
 unfolding graph_of
-graph_of-with_object plain thread root k object =
-    elim (root_in plain.roots thread root) as (λ r. option_and_then (λ n. position (λ (row : Row). same_name n row.name) plain.rows) r ≡ Some k
-    → graph_of (record plain { rows = set plain.rows k (record { name = (get_or plain.rows k nobody).name; refs = object.refs; nums = object.nums }) }) ≡ with_named (graph_of plain) r object) [
+graph_of-with_object plain thread root index object =
+    elim (root_in plain.roots thread root) as (λ r. option_and_then (λ n. position (λ (row : Row). same_name n row.name) plain.rows) r ≡ Some index
+    → graph_of (record plain { rows = set plain.rows index (record { name = (get_or plain.rows index nobody).name; refs = object.refs; nums = object.nums }) }) ≡ with_named (graph_of plain) r object) [
       | None ↦ λ none. cc
       | Some n ↦ λ found. λ i. record {
-        object = fun_ext (object_in (set plain.rows k (record { name = (get_or plain.rows k nobody).name; refs = object.refs; nums = object.nums }))) (λ q. if same_name q n then Some object else object_in plain.rows q)
-            (λ q. object_in-set plain.rows n k object q (IsFirst-position plain.rows n k found)) i;
+        object = fun_ext (object_in (set plain.rows index (record { name = (get_or plain.rows index nobody).name; refs = object.refs; nums = object.nums }))) (λ q. if same_name q n then Some object else object_in plain.rows q)
+            (λ q. object_in-set plain.rows n index object q (IsFirst-position plain.rows n index found)) i;
         root = root_in plain.roots;
         count = slice_index plain.counts;
         pin = pin_in plain.pins;
@@ -229,13 +229,13 @@ place_of-within plain thread root index =
       | Some n ↦ λ found. (IsFirst-position plain.rows n index (sym found)).within
     ]
 
-within_some : {A : Type 0} (xs : List A) (k : ℕ) → IsSome (slice_get xs k) → k < length xs
-within_some {A} xs k some =
-    by_cases (slice_get xs k) refl some
+within_some : {A : Type 0} (xs : List A) (index : ℕ) → IsSome (slice_get xs index) → index < length xs
+within_some {A} xs index some =
+    by_cases (slice_get xs index) refl some
   where
-    by_cases : (found : Option A) → slice_get xs k ≡ found → IsSome found → k < length xs
+    by_cases : (found : Option A) → slice_get xs index ≡ found → IsSome found → index < length xs
     by_cases None is some = absurd (false≢true some)
-    by_cases (Some x) is some = slice_get_within xs k x is
+    by_cases (Some x) is some = slice_get_within xs index x is
 
 -- a field that is there is one of the row
 pub field_at-within : (plain : Plain) (thread root field k : ℕ) → Some k ≡ place_of plain thread root → IsSome (field_at (graph_of plain) thread root field) → field < length (get_or plain.rows k nobody).refs
@@ -253,20 +253,20 @@ pub number_at-nowhere : (plain : Plain) (thread root index : ℕ) → None ≡ p
 number_at-nowhere plain thread root index place some = false≢true (rw (number_at-graph_of, ← place) at some)
 
 -- one reference, or one number, of the object that a root names is another
-pub graph_of-with_field : (plain : Plain) (thread root field k : ℕ) (value : Reference) → Some k ≡ place_of plain thread root
-    → graph_of (record plain { rows = set plain.rows k (record (get_or plain.rows k nobody) { refs = set (get_or plain.rows k nobody).refs field value }) }) ≡ with_field (graph_of plain) thread root field value
-graph_of-with_field plain thread root field k value place =
-    let o : Object = record { refs = set (get_or plain.rows k nobody).refs field value; nums = (get_or plain.rows k nobody).nums } in
+pub graph_of-with_field : (plain : Plain) (thread root field index : ℕ) (value : Reference) → Some index ≡ place_of plain thread root
+    → graph_of (record plain { rows = set plain.rows index (record (get_or plain.rows index nobody) { refs = set (get_or plain.rows index nobody).refs field value }) }) ≡ with_field (graph_of plain) thread root field value
+graph_of-with_field plain thread root field index value place =
+    let other_object : Object = record { refs = set (get_or plain.rows index nobody).refs field value; nums = (get_or plain.rows index nobody).nums } in
     let here = named-graph_of plain thread root ∙ ap (object_at plain) (sym place) in
-    graph_of-with_object plain thread root k o (sym place)
+    graph_of-with_object plain thread root index other_object (sym place)
     ∙ ap (λ (object : Object). with_named (graph_of plain) ((graph_of plain).root thread root) (record { refs = set object.refs field value; nums = object.nums })) (sym here)
 
-pub graph_of-with_number : (plain : Plain) (thread root index k value : ℕ) → Some k ≡ place_of plain thread root
-    → graph_of (record plain { rows = set plain.rows k (record (get_or plain.rows k nobody) { nums = set (get_or plain.rows k nobody).nums index value }) }) ≡ with_number (graph_of plain) thread root index value
-graph_of-with_number plain thread root index k value place =
-    let o : Object = record { refs = (get_or plain.rows k nobody).refs; nums = set (get_or plain.rows k nobody).nums index value } in
+pub graph_of-with_number : (plain : Plain) (thread root index other_index value : ℕ) → Some other_index ≡ place_of plain thread root
+    → graph_of (record plain { rows = set plain.rows other_index (record (get_or plain.rows other_index nobody) { nums = set (get_or plain.rows other_index nobody).nums index value }) }) ≡ with_number (graph_of plain) thread root index value
+graph_of-with_number plain thread root index other_index value place =
+    let other_object : Object = record { refs = (get_or plain.rows other_index nobody).refs; nums = set (get_or plain.rows other_index nobody).nums index value } in
     let here = named-graph_of plain thread root ∙ ap (object_at plain) (sym place) in
-    graph_of-with_object plain thread root k o (sym place)
+    graph_of-with_object plain thread root other_index other_object (sym place)
     ∙ ap (λ (object : Object). with_named (graph_of plain) ((graph_of plain).root thread root) (record { refs = object.refs; nums = set object.nums index value })) (sym here)
 
 -- how the threads begin
@@ -289,9 +289,9 @@ unfolding graph_of
 graph_of-opening threads =
     λ i. record {
       object = (opening threads).object;
-      root = fun_ext (root_in (replicate 16 None ∷ replicate threads first_roots)) (opening threads).root (λ t. fun_ext (root_in (replicate 16 None ∷ replicate threads first_roots) t) ((opening threads).root t) (λ index. at t index)) i;
-      count = fun_ext (slice_index (replicate (threads + 1) 0)) (λ _. 0) (λ t. null_at (threads + 1) t 0) i;
-      pin = fun_ext (pin_in (replicate (threads + 1) no_pins)) (opening threads).pin (λ t. fun_ext (pin_in (replicate (threads + 1) no_pins) t) ((opening threads).pin t) (λ s. empty_at t s)) i;
+      root = fun_ext (root_in (replicate 16 None ∷ replicate threads first_roots)) (opening threads).root (λ thread. fun_ext (root_in (replicate 16 None ∷ replicate threads first_roots) thread) ((opening threads).root thread) (λ index. at thread index)) i;
+      count = fun_ext (slice_index (replicate (threads + 1) 0)) (λ _. 0) (λ index. null_at (threads + 1) index 0) i;
+      pin = fun_ext (pin_in (replicate (threads + 1) no_pins)) (opening threads).pin (λ thread. fun_ext (pin_in (replicate (threads + 1) no_pins) thread) ((opening threads).pin thread) (λ s. empty_at thread s)) i;
     }
   where
     empty_at : (t s : ℕ) → pin_in (replicate (threads + 1) no_pins) t s ≡ None

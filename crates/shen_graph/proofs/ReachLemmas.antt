@@ -9,7 +9,8 @@ use Rattle.std.proofs.lemmas.List.Elements.{Contains-append_left, Contains-appen
 use Rattle.std.proofs.lemmas.Map.Keys.{IsDistinct-push}
 use Rattle.std.proofs.lemmas.Map.Made.{length-le_from_is_member}
 use Rattle.std.proofs.lemmas.Map.Views.{Contains-from_any, list_any-from_Contains}
-use Rattle.std.proofs.lemmas.Option.{slice_get_within, slice_get-get_or, get_or_from_slice_get, none-some}
+use Rattle.std.proofs.lemmas.Option.{slice_get_within, get_or_from_slice_get, none-some}
+use Rattle.shen_graph.proofs.Lists.{slice_get-from_Contains}
 use Rattle.shen_graph.specs.declared.name.Name.{Name}
 use Rattle.shen_graph.specs.declared.pin.Pinned.{Pinned}
 use Rattle.shen_graph.specs.Graph.{Reference, same_name, named}
@@ -26,18 +27,18 @@ pub same_name-laws : IsEquivalence same_name
 same_name-laws = record {
   refl = same_name-itself;
   symm = same_name-flip;
-  congr = λ x y z same. ap (λ n. same_name n z) (same_name-true x y same);
+  congr = λ name y z same. ap (λ n. same_name n z) (same_name-true name y same);
 }
 
 -- the test of a name against those that were found
-any_flip : (name : Name) (xs : List Name) → list_any (λ m. same_name m name) xs ≡ list_any (same_name name) xs
+any_flip : (name : Name) (names : List Name) → list_any (λ m. same_name m name) names ≡ list_any (same_name name) names
 any_flip name [] = refl
-any_flip name (x ∷ xs) = rw (same_name-flip x name, any_flip name xs) refl
+any_flip name (other_name ∷ names) = rw (same_name-flip other_name name, any_flip name names) refl
 
 pub Contains-cons_cases : {A : Type 0} (x : A) (xs : List A) (y : A) → Contains (x ∷ xs) y → (x ≡ y) ⊎ Contains xs y
-Contains-cons_cases {A} x xs y there = at there.0 there.1 there.2
+Contains-cons_cases {A} x xs contains there = at there.0 there.1 there.2
   where
-    at : (index : ℕ) → index < length (x ∷ xs) → get_or (x ∷ xs) index y ≡ y → (x ≡ y) ⊎ Contains xs y
+    at : (index : ℕ) → index < length (x ∷ xs) → get_or (x ∷ xs) index contains ≡ contains → (x ≡ contains) ⊎ Contains xs contains
     at zero within is = inl is
     at (suc index) within is = inr (index, omega arith, is)
 
@@ -61,9 +62,6 @@ Contains-from_flat_map f (x ∷ xs) d y there =
 pub Contains-from_slice_get : {A : Type 0} (xs : List A) (index : ℕ) (x : A) → slice_get xs index ≡ Some x → Contains xs x
 Contains-from_slice_get xs index x is = (index, slice_get_within xs index x is, get_or_from_slice_get xs index x x is)
 
-pub slice_get-from_Contains : {A : Type 0} (xs : List A) (x : A) → Contains xs x → (index : ℕ) × (slice_get xs index ≡ Some x)
-slice_get-from_Contains xs x there = (there.0, slice_get-get_or xs there.0 x there.1 ∙ ap Some there.2)
-
 -- the names that references hold
 abbrev pub names_held : List Reference → List Name
 names_held refs = filter_map (λ r. r) refs
@@ -80,71 +78,71 @@ Contains-names_held (Some m ∷ refs) name there =
 
 -- Names are only added, at the end.
 
-with_name-longer : (xs : List Name) (reference : Reference) → (ys : List Name) × (with_name xs reference ≡ xs ++ ys)
-with_name-longer xs None = ([], sym (append-nil xs))
-with_name-longer xs (Some n) =
-    elim (list_any (λ m. same_name m n) xs) as (λ b. (ys : List Name) × ((if b then xs else xs ++ n ∷ []) ≡ xs ++ ys))
-    [ true ↦ ([], sym (append-nil xs)) | false ↦ (n ∷ [], refl) ]
+with_name-longer : (names : List Name) (reference : Reference) → (other_names : List Name) × (with_name names reference ≡ names ++ other_names)
+with_name-longer names None = ([], sym (append-nil names))
+with_name-longer names (Some n) =
+    elim (list_any (λ m. same_name m n) names) as (λ b. (ys : List Name) × ((if b then names else names ++ n ∷ []) ≡ names ++ ys))
+    [ true ↦ ([], sym (append-nil names)) | false ↦ (n ∷ [], refl) ]
 
-pub with_names-longer : (xs : List Name) (refs : List Reference) → (ys : List Name) × (with_names xs refs ≡ xs ++ ys)
-with_names-longer xs [] = ([], sym (append-nil xs))
-with_names-longer xs (r ∷ refs) =
-    let one = with_name-longer xs r in
-    let others = with_names-longer (with_name xs r) refs in
-    (one.0 ++ others.0, others.1 ∙ ap (λ l. l ++ others.0) one.1 ∙ append_assoc xs one.0 others.0)
+pub with_names-longer : (names : List Name) (refs : List Reference) → (other_names : List Name) × (with_names names refs ≡ names ++ other_names)
+with_names-longer names [] = ([], sym (append-nil names))
+with_names-longer names (reference ∷ refs) =
+    let one = with_name-longer names reference in
+    let others = with_names-longer (with_name names reference) refs in
+    (one.0 ++ others.0, others.1 ∙ ap (λ l. l ++ others.0) one.1 ∙ append_assoc names one.0 others.0)
 
-pub with_names-keeps : (xs : List Name) (refs : List Reference) (name : Name) → Contains xs name → Contains (with_names xs refs) name
-with_names-keeps xs refs name there =
-    let longer = with_names-longer xs refs in
-    rw longer.1 (Contains-append_left xs longer.0 name there)
+pub with_names-keeps : (names : List Name) (refs : List Reference) (name : Name) → Contains names name → Contains (with_names names refs) name
+with_names-keeps names refs name there =
+    let longer = with_names-longer names refs in
+    rw longer.1 (Contains-append_left names longer.0 name there)
 
-with_name-has : (xs : List Name) (name : Name) → Contains (with_name xs (Some name)) name
-with_name-has xs name = at (list_any (λ m. same_name m name) xs) refl
+with_name-has : (names : List Name) (name : Name) → Contains (with_name names (Some name)) name
+with_name-has names name = at (list_any (λ m. same_name m name) names) refl
   where
-    at : (holds : Bool) → list_any (λ m. same_name m name) xs ≡ holds → Contains (if holds then xs else xs ++ name ∷ []) name
-    at true is = Contains-from_any same_name-true name xs (sym (any_flip name xs) ∙ is)
-    at false is = Contains-push xs name
+    at : (holds : Bool) → list_any (λ m. same_name m name) names ≡ holds → Contains (if holds then names else names ++ name ∷ []) name
+    at true is = Contains-from_any same_name-true name names (sym (any_flip name names) ∙ is)
+    at false is = Contains-push names name
 
-pub with_names-has : (xs : List Name) (refs : List Reference) (name : Name) → Contains refs (Some name) → Contains (with_names xs refs) name
-with_names-has xs [] name there = absurd (Contains-nil (Some name) there)
-with_names-has xs (r ∷ refs) name there =
-    elim (Contains-cons_cases r refs (Some name) there) [
-      | inl here ↦ with_names-keeps (with_name xs r) refs name (rw here (with_name-has xs name))
-      | inr later ↦ with_names-has (with_name xs r) refs name later
+pub with_names-has : (names : List Name) (refs : List Reference) (name : Name) → Contains refs (Some name) → Contains (with_names names refs) name
+with_names-has names [] name there = absurd (Contains-nil (Some name) there)
+with_names-has names (reference ∷ refs) name there =
+    elim (Contains-cons_cases reference refs (Some name) there) [
+      | inl here ↦ with_names-keeps (with_name names reference) refs name (rw here (with_name-has names name))
+      | inr later ↦ with_names-has (with_name names reference) refs name later
     ]
 
-with_name-only : (xs : List Name) (reference : Reference) (name : Name) → Contains (with_name xs reference) name → Contains xs name ⊎ (reference ≡ Some name)
-with_name-only xs None name there = inl there
-with_name-only xs (Some m) name there =
-    elim (list_any (λ k. same_name k m) xs) as (λ b. Contains (if b then xs else xs ++ m ∷ []) name → Contains xs name ⊎ (Some m ≡ Some name)) [
+with_name-only : (names : List Name) (reference : Reference) (name : Name) → Contains (with_name names reference) name → Contains names name ⊎ (reference ≡ Some name)
+with_name-only names None name there = inl there
+with_name-only names (Some m) name there =
+    elim (list_any (λ k. same_name k m) names) as (λ b. Contains (if b then names else names ++ m ∷ []) name → Contains names name ⊎ (Some m ≡ Some name)) [
       | true ↦ λ before. inl before
-      | false ↦ λ either. elim (Contains-push_cases xs m name either) [ inl before ↦ inl before | inr is ↦ inr (ap Some is) ]
+      | false ↦ λ either. elim (Contains-push_cases names m name either) [ inl before ↦ inl before | inr is ↦ inr (ap Some is) ]
     ] there
 
-pub with_names-only : (xs : List Name) (refs : List Reference) (name : Name) → Contains (with_names xs refs) name → Contains xs name ⊎ Contains refs (Some name)
-with_names-only xs [] name there = inl there
-with_names-only xs (r ∷ refs) name there =
-    elim (with_names-only (with_name xs r) refs name there) [
-      | inl before ↦ elim (with_name-only xs r name before) [ inl first ↦ inl first | inr is ↦ inr (0, omega arith, is) ]
-      | inr later ↦ inr (Contains-append_right (r ∷ []) refs (Some name) later)
+pub with_names-only : (names : List Name) (refs : List Reference) (name : Name) → Contains (with_names names refs) name → Contains names name ⊎ Contains refs (Some name)
+with_names-only names [] name there = inl there
+with_names-only names (reference ∷ refs) name there =
+    elim (with_names-only (with_name names reference) refs name there) [
+      | inl before ↦ elim (with_name-only names reference name before) [ inl first ↦ inl first | inr is ↦ inr (0, omega arith, is) ]
+      | inr later ↦ inr (Contains-append_right (reference ∷ []) refs (Some name) later)
     ]
 
-with_name-distinct : (xs : List Name) (reference : Reference) → IsDistinct same_name xs → IsDistinct same_name (with_name xs reference)
-with_name-distinct xs None distinct = distinct
-with_name-distinct xs (Some n) distinct = at (list_any (λ m. same_name m n) xs) refl
+with_name-distinct : (names : List Name) (reference : Reference) → IsDistinct same_name names → IsDistinct same_name (with_name names reference)
+with_name-distinct names None distinct = distinct
+with_name-distinct names (Some name) distinct = at (list_any (λ m. same_name m name) names) refl
   where
-    at : (holds : Bool) → list_any (λ m. same_name m n) xs ≡ holds → IsDistinct same_name (if holds then xs else xs ++ n ∷ [])
+    at : (holds : Bool) → list_any (λ m. same_name m name) names ≡ holds → IsDistinct same_name (if holds then names else names ++ name ∷ [])
     at true is = distinct
-    at false is = IsDistinct-push same_name-laws xs n distinct (sym (any_flip n xs) ∙ is)
+    at false is = IsDistinct-push same_name-laws names name distinct (sym (any_flip name names) ∙ is)
 
-pub with_names-distinct : (xs : List Name) (refs : List Reference) → IsDistinct same_name xs → IsDistinct same_name (with_names xs refs)
-with_names-distinct xs [] distinct = distinct
-with_names-distinct xs (r ∷ refs) distinct = with_names-distinct (with_name xs r) refs (with_name-distinct xs r distinct)
+pub with_names-distinct : (names : List Name) (refs : List Reference) → IsDistinct same_name names → IsDistinct same_name (with_names names refs)
+with_names-distinct names [] distinct = distinct
+with_names-distinct names (reference ∷ refs) distinct = with_names-distinct (with_name names reference) refs (with_name-distinct names reference distinct)
 
 -- names are added in one go or in two
-pub with_names-append : (xs : List Name) (refs more : List Reference) → with_names (with_names xs refs) more ≡ with_names xs (refs ++ more)
-with_names-append xs [] more = refl
-with_names-append xs (r ∷ refs) more = with_names-append (with_name xs r) refs more
+pub with_names-append : (names : List Name) (refs more : List Reference) → with_names (with_names names refs) more ≡ with_names names (refs ++ more)
+with_names-append names [] more = refl
+with_names-append names (reference ∷ refs) more = with_names-append (with_name names reference) refs more
 
 -- where a search begins: with roots and what pin slots hold
 abbrev pub held_in_slots : Plain → List (Option Pinned)
@@ -178,10 +176,10 @@ object-graph_of plain name = refl
 -- what an object refers to is among the references of all objects
 object_in-refs : (rows : List Row) (name : Name) (reference : Reference) → Contains (unwrap_or (object_in rows name) (record { refs = []; nums = [] })).refs reference → Contains (flat_map (λ (row : Row). row.refs) rows) reference
 object_in-refs [] name reference there = absurd (Contains-nil reference there)
-object_in-refs (x ∷ rows) name reference there =
-    elim (same_name name x.name) as (λ b. Contains (unwrap_or (if b then Some (record { refs = x.refs; nums = x.nums }) else object_in rows name) (record { refs = []; nums = [] })).refs reference → Contains (flat_map (λ (row : Row). row.refs) (x ∷ rows)) reference) [
-      | true ↦ λ here. Contains-append_left x.refs (flat_map (λ (row : Row). row.refs) rows) reference here
-      | false ↦ λ later. Contains-append_right x.refs (flat_map (λ (row : Row). row.refs) rows) reference (object_in-refs rows name reference later)
+object_in-refs (other_row ∷ rows) name reference there =
+    elim (same_name name other_row.name) as (λ b. Contains (unwrap_or (if b then Some (record { refs = other_row.refs; nums = other_row.nums }) else object_in rows name) (record { refs = []; nums = [] })).refs reference → Contains (flat_map (λ (row : Row). row.refs) (other_row ∷ rows)) reference) [
+      | true ↦ λ here. Contains-append_left other_row.refs (flat_map (λ (row : Row). row.refs) rows) reference here
+      | false ↦ λ later. Contains-append_right other_row.refs (flat_map (λ (row : Row). row.refs) rows) reference (object_in-refs rows name reference later)
     ] there
 
 named-refs : (plain : Plain) (name other_name : Name) → Contains (named (graph_of plain) (Some name)).refs (Some other_name) → Contains (names_of plain) other_name
@@ -248,9 +246,9 @@ none_distinct = tt
 -- the search begins with the roots and what pin slots hold
 pub IsSearched-starts : (plain : Plain) → IsSearched plain (with_names [] (starts_of plain)) 0
 IsSearched-starts plain = record {
-  reached = λ n there. elim (with_names-only [] (starts_of plain) n there) [
-    | inl never ↦ absurd (Contains-nil n never)
-    | inr held ↦ starts-reached plain n held
+  reached = λ name there. elim (with_names-only [] (starts_of plain) name there) [
+    | inl never ↦ absurd (Contains-nil name never)
+    | inr held ↦ starts-reached plain name held
   ];
   roots = λ thread root n is. with_names-has [] (starts_of plain) n
       (Contains-append_left (flat_map (λ row. row) plain.roots) (map name_in (held_in_slots plain)) (Some n) (placed-Contains plain.roots thread root n (sym (root-graph_of plain thread root) ∙ is)));
@@ -259,56 +257,56 @@ IsSearched-starts plain = record {
       (Contains-names_in (held_in_slots plain) held (placed-Contains plain.pins thread slot held (sym (pin-graph_of plain thread slot) ∙ is))));
   fields = λ k m below at field n is. absurd (omega arith);
   distinct = with_names-distinct [] (starts_of plain) none_distinct;
-  known = λ n there. elim (with_names-only [] (starts_of plain) n there) [
-    | inl never ↦ absurd (Contains-nil n never)
-    | inr held ↦ Contains-names_held (references_of plain) n (Contains-append_left (starts_of plain) (flat_map (λ (row : Row). row.refs) plain.rows) (Some n) held)
+  known = λ name there. elim (with_names-only [] (starts_of plain) name there) [
+    | inl never ↦ absurd (Contains-nil name never)
+    | inr held ↦ Contains-names_held (references_of plain) name (Contains-append_left (starts_of plain) (flat_map (λ (row : Row). row.refs) plain.rows) (Some name) held)
   ];
   within = omega arith;
 }
 
 -- one name more was followed
-pub IsSearched-more : (plain : Plain) (found : List Name) (next : ℕ) (m : Name) → IsSearched plain found next → next < length found → m ≡ get_or found next m
-    → IsSearched plain (with_names found (named (graph_of plain) (Some m)).refs) (next + 1)
-IsSearched-more plain found next m s within is =
-    let refs = (named (graph_of plain) (Some m)).refs in
+pub IsSearched-more : (plain : Plain) (found : List Name) (next : ℕ) (name : Name) → IsSearched plain found next → next < length found → name ≡ get_or found next name
+    → IsSearched plain (with_names found (named (graph_of plain) (Some name)).refs) (next + 1)
+IsSearched-more plain found next other_name searched within is =
+    let refs = (named (graph_of plain) (Some other_name)).refs in
     let longer = with_names-longer found refs in
     record {
-      reached = λ n there. elim (with_names-only found refs n there) [
-        | inl before ↦ s.reached n before
-        | inr held ↦ let f = slice_get-from_Contains refs (Some n) held in from_field m n f.0 (s.reached m (next, within, sym is)) f.1
+      reached = λ name there. elim (with_names-only found refs name there) [
+        | inl before ↦ searched.reached name before
+        | inr held ↦ let f = slice_get-from_Contains refs (Some name) held in from_field other_name name f.0 (searched.reached other_name (next, within, sym is)) f.1
       ];
-      roots = λ thread root n h. with_names-keeps found refs n (s.roots thread root n h);
-      pins = λ thread slot held h. with_names-keeps found refs held.name (s.pins thread slot held h);
+      roots = λ thread root name h. with_names-keeps found refs name (searched.roots thread root name h);
+      pins = λ thread slot held h. with_names-keeps found refs held.name (searched.pins thread slot held h);
       fields = fields;
-      distinct = with_names-distinct found refs s.distinct;
-      known = λ n there. elim (with_names-only found refs n there) [ inl before ↦ s.known n before | inr held ↦ named-refs plain m n held ];
+      distinct = with_names-distinct found refs searched.distinct;
+      known = λ name there. elim (with_names-only found refs name there) [ inl before ↦ searched.known name before | inr held ↦ named-refs plain other_name name held ];
       within = rw longer.1 (omega (arith, length-append found longer.0));
     }
   where
-    fields : (index : ℕ) (q : Name) → index < next + 1 → get_or (with_names found (named (graph_of plain) (Some m)).refs) index q ≡ q → (field : ℕ) (n : Name)
-        → slice_get (named (graph_of plain) (Some q)).refs field ≡ Some (Some n) → Contains (with_names found (named (graph_of plain) (Some m)).refs) n
+    fields : (index : ℕ) (q : Name) → index < next + 1 → get_or (with_names found (named (graph_of plain) (Some other_name)).refs) index q ≡ q → (field : ℕ) (n : Name)
+        → slice_get (named (graph_of plain) (Some q)).refs field ≡ Some (Some n) → Contains (with_names found (named (graph_of plain) (Some other_name)).refs) n
     fields index q below there field n holds =
-        let refs = (named (graph_of plain) (Some m)).refs in
+        let refs = (named (graph_of plain) (Some other_name)).refs in
         let longer = with_names-longer found refs in
         let same : get_or (with_names found refs) index q ≡ get_or found index q = rw longer.1 (get_or_append_left found longer.0 q index (omega arith)) in
         elim (cases_lt index next) [
-          | inl before ↦ with_names-keeps found refs n (s.fields index q before (sym same ∙ there) field n holds)
+          | inl before ↦ with_names-keeps found refs n (searched.fields index q before (sym same ∙ there) field n holds)
           | inr last ↦
               let k_is : index ≡ next = omega arith in
-              let q_is : q ≡ m = sym there ∙ same ∙ ap (λ j. get_or found j q) k_is ∙ get_or_default found next q m within ∙ sym is in
+              let q_is : q ≡ other_name = sym there ∙ same ∙ ap (λ index. get_or found index q) k_is ∙ get_or_default found next q other_name within ∙ sym is in
               with_names-has found refs n (Contains-from_slice_get refs field (Some n) (ap (λ (name : Name). slice_get (named (graph_of plain) (Some name)).refs field) (sym q_is) ∙ holds))
         ]
 
 -- the search ends: there are not more names
 pub IsSearched-bound : (plain : Plain) (found : List Name) (next : ℕ) → IsSearched plain found next → length found ≤ length (names_of plain)
-IsSearched-bound plain found next s =
-    length-le_from_is_member same_name-laws found (names_of plain) s.distinct
-    (λ q there. list_any-from_Contains same_name-laws q (names_of plain) (s.known q (Contains-from_any same_name-true q found there)))
+IsSearched-bound plain found next searched =
+    length-le_from_is_member same_name-laws found (names_of plain) searched.distinct
+    (λ q there. list_any-from_Contains same_name-laws q (names_of plain) (searched.known q (Contains-from_any same_name-true q found there)))
 
 -- where all names were followed, those that can be reached were found
 pub IsSearched-all : (plain : Plain) (found : List Name) (next : ℕ) → IsSearched plain found next → length found ≤ next → (name : Name) → IsReachable (graph_of plain) name → Contains found name
-IsSearched-all plain found next s done _ (from_root thread root name is) = s.roots thread root name is
-IsSearched-all plain found next s done _ (from_pin thread slot held is) = s.pins thread slot held is
-IsSearched-all plain found next s done _ (from_field m name field reached is) =
-    let there = IsSearched-all plain found next s done m reached in
-    s.fields there.0 m (omega (arith, there.1)) there.2 field name is
+IsSearched-all plain found next searched done _ (from_root thread root name is) = searched.roots thread root name is
+IsSearched-all plain found next searched done _ (from_pin thread slot held is) = searched.pins thread slot held is
+IsSearched-all plain found next searched done _ (from_field other_name name field reached is) =
+    let there = IsSearched-all plain found next searched done other_name reached in
+    searched.fields there.0 other_name (omega (arith, there.1)) there.2 field name is

@@ -17,9 +17,9 @@ change_last-push f [] x = refl
 change_last-push f (y ∷ []) x = refl
 change_last-push f (y ∷ z ∷ xs) x = ap (λ ys. y ∷ ys) (change_last-push f (z ∷ xs) x)
 
-pub with_references-push : (text : Text) (rs : List Reference) (reference : Reference) → with_references text (rs ++ reference ∷ []) ≡ with_reference (with_references text rs) reference
+pub with_references-push : (text : Text) (references : List Reference) (reference : Reference) → with_references text (references ++ reference ∷ []) ≡ with_reference (with_references text references) reference
 with_references-push text [] reference = refl
-with_references-push text (q ∷ rs) reference = with_references-push (with_reference text q) rs reference
+with_references-push text (other_reference ∷ references) reference = with_references-push (with_reference text other_reference) references reference
 
 pub with_numbers-push : (text : Text) (xs : List ℕ) (x : ℕ) → with_numbers text (xs ++ x ∷ []) ≡ with_number (with_numbers text xs) x
 with_numbers-push text [] x = refl
@@ -35,18 +35,18 @@ all a = omega arith
 less : (a n : ℕ) → a - 1 - n ≡ a - suc n
 less a n = omega arith
 
-with_references-ending : (rs : List Reference) (rows : List Row) (roots pins : List (List Reference)) (room spare : ℕ) (row : Row)
-    → with_references (ending rows roots pins room spare row) rs
-    ≡ ending rows roots pins room (spare - length rs) (record row { refs = row.refs ++ rs })
+with_references-ending : (references : List Reference) (rows : List Row) (roots pins : List (List Reference)) (room spare : ℕ) (row : Row)
+    → with_references (ending rows roots pins room spare row) references
+    ≡ ending rows roots pins room (spare - length references) (record row { refs = row.refs ++ references })
 with_references-ending [] rows roots pins room spare row =
     ap (λ qs. ending rows roots pins room spare (record row { refs = qs })) (sym (append-nil row.refs))
     ∙ ap (λ n. ending rows roots pins room n (record row { refs = row.refs ++ [] })) (all spare)
-with_references-ending (q ∷ rs) rows roots pins room spare row =
-    ap (λ us. with_references (record { rows = us; roots = roots; pins = pins; spare = spare - 1; room = room }) rs)
-    (change_last-push (add_reference q) rows row)
-    ∙ with_references-ending rs rows roots pins room (spare - 1) (add_reference q row)
-    ∙ ap (λ n. ending rows roots pins room n (record row { refs = row.refs ++ q ∷ [] ++ rs })) (less spare (length rs))
-    ∙ ap (λ qs. ending rows roots pins room (spare - length (q ∷ rs)) (record row { refs = qs })) (append_assoc row.refs (q ∷ []) rs)
+with_references-ending (reference ∷ references) rows roots pins room spare row =
+    ap (λ us. with_references (record { rows = us; roots = roots; pins = pins; spare = spare - 1; room = room }) references)
+    (change_last-push (add_reference reference) rows row)
+    ∙ with_references-ending references rows roots pins room (spare - 1) (add_reference reference row)
+    ∙ ap (λ n. ending rows roots pins room n (record row { refs = row.refs ++ reference ∷ [] ++ references })) (less spare (length references))
+    ∙ ap (λ qs. ending rows roots pins room (spare - length (reference ∷ references)) (record row { refs = qs })) (append_assoc row.refs (reference ∷ []) references)
 
 with_numbers-ending : (xs : List ℕ) (rows : List Row) (roots pins : List (List Reference)) (room spare : ℕ) (row : Row)
     → with_numbers (ending rows roots pins room spare row) xs
@@ -66,25 +66,25 @@ pub whole : (text : Text) (name : Name) (refs : List Reference) (nums : List ℕ
     → with_numbers (with_references (with_row text name) refs) nums
     ≡ with_whole_row text (record { name = name; refs = refs; nums = nums })
 whole text name refs nums =
-    let e : text.spare - 3 - length refs - length nums ≡ text.spare - (3 + length refs + length nums) = omega arith in
+    let same : text.spare - 3 - length refs - length nums ≡ text.spare - (3 + length refs + length nums) = omega arith in
     ap (λ u. with_numbers u nums)
     (with_references-ending refs text.rows text.roots text.pins text.room (text.spare - 3) (record { name = name; refs = []; nums = [] }))
     ∙ with_numbers-ending nums text.rows text.roots text.pins text.room (text.spare - 3 - length refs) (record { name = name; refs = refs; nums = [] })
-    ∙ ap (λ n. ending text.rows text.roots text.pins text.room n (record { name = name; refs = refs; nums = nums })) e
+    ∙ ap (λ n. ending text.rows text.roots text.pins text.room n (record { name = name; refs = refs; nums = nums })) same
 
-pub rows_left : (text : Text) (rs : List Reference) → length (with_references text rs).rows ≡ length text.rows
+pub rows_left : (text : Text) (references : List Reference) → length (with_references text references).rows ≡ length text.rows
 rows_left text [] = refl
-rows_left text (r ∷ rs) = rows_left (with_reference text r) rs ∙ length-change_last (add_reference r) text.rows
+rows_left text (reference ∷ references) = rows_left (with_reference text reference) references ∙ length-change_last (add_reference reference) text.rows
 
-pub spare_left : (text : Text) (rs : List Reference) → (with_references text rs).spare ≡ text.spare - length rs
+pub spare_left : (text : Text) (references : List Reference) → (with_references text references).spare ≡ text.spare - length references
 spare_left text [] = all text.spare
-spare_left text (r ∷ rs) = spare_left (with_reference text r) rs ∙ less text.spare (length rs)
+spare_left text (reference ∷ references) = spare_left (with_reference text reference) references ∙ less text.spare (length references)
 
 -- ---- the text of a graph
 
 names-rows : (graph : Graph) (names : List Name) → map (λ (row : Row). row.name) (map (row_in graph) names) ≡ names
 names-rows graph [] = refl
-names-rows graph (n ∷ ns) = ap (λ (names : List Name). n ∷ names) (names-rows graph ns)
+names-rows graph (name ∷ other_names) = ap (λ (names : List Name). name ∷ names) (names-rows graph other_names)
 
 pub text_of_graph : (graph : Graph) (threads : ℕ) (text : Text) (names : List Name) → IsReach graph names → text.rows ≡ map (row_in graph) names → length text.roots ≡ threads
     → ((thread index : ℕ) → 1 ≤ thread → thread ≤ threads → root_of text thread index ≡ graph.root thread index) → length text.pins ≡ threads

@@ -24,13 +24,13 @@ index : (n : ℕ) → Decides (is_index n) (IsIndex n)
 index n = at_most n 31
 
 both : {P Q : Type 0} (holds other_holds : Bool) → Decides holds P → Decides other_holds Q → Decides (holds && other_holds) (P × Q)
-both holds other_holds p q = Decides-and holds other_holds p q
+both holds other_holds decides q = Decides-and holds other_holds decides q
 
 all_three : {P Q R : Type 0} (a b c : Bool) → Decides a P → Decides b Q → Decides c R → Decides (a && (b && c)) (P × Q × R)
-all_three a b c p q r = Decides-like (a && (b && c)) (λ h. (h.0, h.1.0, h.1.1)) (λ h. (h.0, (h.1, h.2))) (both a (b && c) p (both b c q r))
+all_three a b c decides q r = Decides-like (a && (b && c)) (λ h. (h.0, h.1.0, h.1.1)) (λ h. (h.0, (h.1, h.2))) (both a (b && c) decides (both b c q r))
 
 all_four : {P Q R S : Type 0} (a b c d : Bool) → Decides a P → Decides b Q → Decides c R → Decides d S → Decides (a && (b && (c && d))) (P × Q × R × S)
-all_four a b c d p q r s = Decides-like (a && (b && (c && d))) (λ h. (h.0, h.1.0, h.1.1.0, h.1.1.1)) (λ h. (h.0, (h.1, (h.2, h.3)))) (both a (b && (c && d)) p (both b (c && d) q (both c d r s)))
+all_four a b c d decides q r s = Decides-like (a && (b && (c && d))) (λ h. (h.0, h.1.0, h.1.1.0, h.1.1.1)) (λ h. (h.0, (h.1, (h.2, h.3)))) (both a (b && (c && d)) decides (both b (c && d) q (both c d r s)))
 
 pub is_valid-Decides : (command : Command) → Decides (is_valid command) (IsValid command)
 is_valid-Decides (New dst refs nums) = all_three (is_root dst) (is_size refs) (is_size nums) (root dst) (size refs) (size nums)
@@ -38,11 +38,11 @@ is_valid-Decides (Get dst src field) = all_three (is_root dst) (is_root src) (is
 is_valid-Decides (Set obj field val) = all_three (is_root obj) (is_index field) (is_root val) (root obj) (index field) (root val)
 is_valid-Decides (Cas obj field expect val) = all_four (is_root obj) (is_index field) (is_root expect) (is_root val) (root obj) (index field) (root expect) (root val)
 is_valid-Decides (Xchg dst obj field val) = all_four (is_root dst) (is_root obj) (is_index field) (is_root val) (root dst) (root obj) (index field) (root val)
-is_valid-Decides (Rd obj i) = both (is_root obj) (is_index i) (root obj) (index i)
-is_valid-Decides (Wr obj i value) = both (is_root obj) (is_index i) (root obj) (index i)
+is_valid-Decides (Rd obj other_index) = both (is_root obj) (is_index other_index) (root obj) (index other_index)
+is_valid-Decides (Wr obj other_index value) = both (is_root obj) (is_index other_index) (root obj) (index other_index)
 is_valid-Decides (Copy dst src) = both (is_root dst) (is_root src) (root dst) (root src)
 is_valid-Decides (Drop dst) = root dst
 is_valid-Decides (Same a b) = both (is_root a) (is_root b) (root a) (root b)
 is_valid-Decides Gc = (λ e. tt, λ e. refl)
-is_valid-Decides (Pin s obj) = both (is_slot s) (is_root obj) (slot s) (root obj)
-is_valid-Decides (Unpin s) = slot s
+is_valid-Decides (Pin other_slot obj) = both (is_slot other_slot) (is_root obj) (slot other_slot) (root obj)
+is_valid-Decides (Unpin other_slot) = slot other_slot

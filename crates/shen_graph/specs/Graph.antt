@@ -37,7 +37,7 @@ blank refs nums = record { refs = replicate refs None; nums = replicate nums 0 }
 -- what a reference names: null names nothing, which has no field and no number
 abbrev pub named : Graph → Reference → Object
 named graph None = record { refs = []; nums = [] }
-named graph (Some n) = unwrap_or (graph.object n) (record { refs = []; nums = [] })
+named graph (Some name) = unwrap_or (graph.object name) (record { refs = []; nums = [] })
 
 -- the field of the object that a root of the thread names. There is none where the root is null, or the object has no such field
 abbrev pub field_at : Graph → ℕ → ℕ → ℕ → Option Reference
@@ -51,15 +51,15 @@ number_at graph thread root index = slice_get (named graph (graph.root thread ro
 
 abbrev pub with_root : Graph → ℕ → ℕ → Reference → Graph
 with_root graph thread root value =
-    record graph { root = λ t r. if (t == thread) && (r == root) then value else graph.root t r }
+    record graph { root = λ other_thread index. if (other_thread == thread) && (index == root) then value else graph.root other_thread index }
 
 abbrev pub with_pin : Graph → ℕ → ℕ → Option Pinned → Graph
 with_pin graph thread slot held =
-    record graph { pin = λ t s. if (t == thread) && (s == slot) then held else graph.pin t s }
+    record graph { pin = λ other_thread other_slot. if (other_thread == thread) && (other_slot == slot) then held else graph.pin other_thread other_slot }
 
 abbrev pub with_object : Graph → Name → Object → Graph
 with_object graph name object =
-    record graph { object = λ n. if same_name n name then Some object else graph.object n }
+    record graph { object = λ other_name. if same_name other_name name then Some object else graph.object other_name }
 
 -- the object that a reference names is another; null names nothing
 abbrev pub with_named : Graph → Reference → Object → Graph
@@ -83,7 +83,7 @@ fresh graph thread = record { thread = thread; count = graph.count thread + 1 }
 -- the thread made one object more, of its fresh name
 abbrev pub with_fresh : Graph → ℕ → Object → Graph
 with_fresh graph thread object =
-    record (with_object graph (fresh graph thread) object) { count = λ t. if t == thread then graph.count t + 1 else graph.count t }
+    record (with_object graph (fresh graph thread) object) { count = λ other_thread. if other_thread == thread then graph.count other_thread + 1 else graph.count other_thread }
 
 -- the object that is there from the start, in root 0 of each thread: 16 references and no number
 abbrev pub hub : Name

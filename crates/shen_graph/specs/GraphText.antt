@@ -63,7 +63,7 @@ with_number text value = record text { rows = change_last (add_number value) tex
 -- the text with these references in its last row too
 abbrev pub with_references : Text → List Reference → Text
 with_references text [] = text
-with_references text (r ∷ rs) = with_references (with_reference text r) rs
+with_references text (reference ∷ references) = with_references (with_reference text reference) references
 
 -- the text with these numbers in its last row too
 abbrev pub with_numbers : Text → List ℕ → Text

@@ -20,7 +20,7 @@ is_full _ = false
 -- the graph after a command of a thread that was not refused
 abbrev pub after_reply : Graph → ℕ → Command → Reply → Graph
 after_reply graph t (Pin slot obj) (reply.At place) = with_pinned graph t slot (pinned_by graph t (Pin slot obj)) place
-after_reply graph t command r = (outcome graph t command).graph
+after_reply graph t command answer = (outcome graph t command).graph
 
 -- the graph after an entry
 abbrev pub after_entry : Graph → Entry → Graph
@@ -29,23 +29,23 @@ after_entry graph entry = if is_full entry.reply then graph else after_reply gra
 -- the graph after these entries, in order
 abbrev pub after : Graph → List Entry → Graph
 after graph [] = graph
-after graph (e ∷ es) = after (after_entry graph e) es
+after graph (entry ∷ entries) = after (after_entry graph entry) entries
 
 -- each entry is legal, in a heap of so many regions of so many words, in the graph after the entries before it
 abbrev pub EachIsLegal : (regions region_words : ℕ) → Graph → List Entry → Type 0
 EachIsLegal regions region_words graph [] = Unit {0}
-EachIsLegal regions region_words graph (e ∷ es) =
-    IsLegal regions region_words graph e.thread e.command e.reply (after_entry graph e) × EachIsLegal regions region_words (after_entry graph e) es
+EachIsLegal regions region_words graph (entry ∷ entries) =
+    IsLegal regions region_words graph entry.thread entry.command entry.reply (after_entry graph entry) × EachIsLegal regions region_words (after_entry graph entry) entries
 
 -- the entries of one thread, in their order
 abbrev pub of_thread : List Entry → ℕ → List Entry
 of_thread history thread = filter (λ e. e.thread == thread) history
 
 abbrev pub commands_of : List Entry → List Command
-commands_of es = map (λ e. e.command) es
+commands_of entries = map (λ e. e.command) entries
 
 abbrev pub replies_of : List Entry → List Reply
-replies_of es = map (λ e. e.reply) es
+replies_of entries = map (λ e. e.reply) entries
 
 -- no allocation was refused
 abbrev pub IsWithoutFull : List Entry → Type 0

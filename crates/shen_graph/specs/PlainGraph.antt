@@ -18,7 +18,7 @@ threads_of plain = length plain.roots - 1
 -- the object of a name: that of the first row with the name
 abbrev pub object_in : List Row → Name → Option Object
 object_in [] name = None
-object_in (r ∷ rows) name = if same_name name r.name then Some (record { refs = r.refs; nums = r.nums }) else object_in rows name
+object_in (row ∷ rows) name = if same_name name row.name then Some (record { refs = row.refs; nums = row.nums }) else object_in rows name
 
 abbrev pub root_in : List (List Reference) → ℕ → ℕ → Reference
 root_in roots thread root = slice_index_or (slice_index_or roots thread []) root None

@@ -17,7 +17,7 @@ IsBefore name other_name = (name.thread < other_name.thread) ⊎ ((name.thread �
 -- each name is before all that follow it
 abbrev pub InOrder : List Name → Type 0
 InOrder [] = Unit {0}
-InOrder (n ∷ []) = Unit {0}
+InOrder (name ∷ []) = Unit {0}
 InOrder (n ∷ m ∷ ns) = IsBefore n m × InOrder (m ∷ ns)
 
 -- the names that can be reached, each once, in their order

@@ -20,7 +20,7 @@ yes_or_no holds = if holds then reply.Yes else reply.No
 -- the reference that was found, or Bad
 abbrev pub shown_at : Option Reference → Reply
 shown_at None = reply.Bad
-shown_at (Some v) = shown v
+shown_at (Some reference) = shown reference
 
 -- done, or Bad
 abbrev pub ok_or_bad : Bool → Reply
@@ -32,7 +32,7 @@ pub record Outcome : Type 0 where
   pub graph : Graph
 
 abbrev pub answers : Reply → Graph → Outcome
-answers r graph = record { reply = r; graph = graph }
+answers answer graph = record { reply = answer; graph = graph }
 
 -- Bad where there is none, and then nothing changes
 abbrev pub on : {A : Type 0} → Option A → Graph → (A → Outcome) → Outcome
@@ -52,7 +52,7 @@ outcome graph thread (Rd obj index) = on (number_at graph thread obj index) grap
 outcome graph thread (Wr obj index value) = on (number_at graph thread obj index) graph (λ _. answers reply.Ok (with_number graph thread obj index value))
 outcome graph thread (Copy dst src) = answers reply.Ok (with_root graph thread dst (graph.root thread src))
 outcome graph thread (Drop dst) = answers reply.Ok (with_root graph thread dst None)
-outcome graph thread (Same a b) = answers (yes_or_no (same_reference (graph.root thread a) (graph.root thread b))) graph
+outcome graph thread (Same index other_index) = answers (yes_or_no (same_reference (graph.root thread index) (graph.root thread other_index))) graph
 outcome graph thread Gc = answers reply.Ok graph
 outcome graph thread (Pin slot obj) = answers reply.Bad graph
 outcome graph thread (Unpin slot) = on (graph.pin thread slot) graph (λ _. answers reply.Ok (with_pin graph thread slot None))

@@ -23,7 +23,7 @@ Within refs nums place = (place.refs.from ≤ place.refs.to) × (place.refs.to �
 -- the spans of the last place end exactly there
 abbrev pub EndsAt : ℕ → ℕ → List Place → Type 0
 EndsAt refs nums [] = Unit {0}
-EndsAt refs nums (p ∷ []) = (p.refs.to ≡ refs) × (p.nums.to ≡ nums)
+EndsAt refs nums (place ∷ []) = (place.refs.to ≡ refs) × (place.nums.to ≡ nums)
 EndsAt refs nums (p ∷ q ∷ ps) = EndsAt refs nums (q ∷ ps)
 
 -- The places lie in lists of these lengths, which they fill, and the last row can grow at the ends of both.

@@ -9,9 +9,11 @@ use std::alloc::{AllocError, AllocFailed};
 
 mod command;
 mod driver;
+mod found;
 mod graph_text;
 mod history;
 mod name;
+mod object;
 mod order;
 mod pin;
 mod plain_graph;

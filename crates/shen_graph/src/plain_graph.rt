@@ -1,4 +1,4 @@
-ghost use Rattle.std.specs.Prelude.{ℕ, ◌≡◌, ◌≢◌, ◌+◌, ◌-◌, ◌*◌, ◌^◌, ◌<◌, ◌≤◌, ◌∷◌, ◌++◌, length, map, sum_by, None, Some, replicate, position, IsSome, MatchBool, MatchOption, IfOk, OnOk, OnErr, slice_get, slice_index_or, slice_set};
+ghost use Rattle.std.specs.Prelude.{ℕ, ◌≡◌, ◌≢◌, ◌+◌, ◌-◌, ◌*◌, ◌^◌, ◌<◌, ◌≤◌, ◌∷◌, ◌++◌, length, map, sum_by, None, Some, replicate, position, IsSome, MatchBool, MatchOption, IfOk, OnOk, OnErr, slice_index_or};
 ghost use Rattle.std.specs.Option.{option_map};
 ghost use Rattle.std.specs.List.{flat_map, list_any};
 ghost use Rattle.shen_graph.specs.declared.command.Command.TheVariants.{Get, Set, Cas, Xchg, Wr, Unpin};
@@ -7,34 +7,20 @@ ghost use Rattle.shen_graph.specs.Valid.{IsValid};
 ghost use Rattle.shen_graph.specs.Graph.{Graph, blank, field_at, number_at, fresh, with_root, with_field, with_number, with_fresh, with_pin, hub, named, opening, same_name};
 ghost use Rattle.shen_graph.specs.Step.{answers, outcome, shown, yes_or_no, ok_or_bad, shown_at, pinned_by, name_in, place_in, slot_of, MayBePinned, IsLegal, IsPinning, IsPin};
 ghost use Rattle.shen_graph.specs.Reach.{IsReach, Live, size};
-ghost use Rattle.shen_graph.specs.GraphText.{cleared, root_of, pin_of, row_in, with_references, with_whole_row, IsTextOf};
+ghost use Rattle.shen_graph.specs.GraphText.{cleared, root_of, pin_of, row_in, with_whole_row, IsTextOf};
 ghost use Rattle.shen_graph.specs.PlainGraph.{graph_of, threads_of, place_of, root_in, pin_in, differs};
-ghost use Rattle.shen_graph.specs.Found.{with_name, with_names};
+ghost use Rattle.shen_graph.specs.Found.{with_names};
 
 use crate::NoMemory;
 use crate::command::{Command, Reply};
+use crate::found::{add_names, add_pinned, name_in, names_in};
 use crate::graph_text::GraphText;
 use crate::name::Name;
+use crate::object::Object;
 use crate::pin::Pinned;
 use crate::roots::{alike, slots_alike};
 use std::alloc::Global;
 use std::marker::Model;
-
-// An object, with its name.
-#[derive(Drop)]
-struct Object {
-    name: Name,
-    refs: Vec<Option<Name>>,
-    nums: Vec<u64>,
-}
-
-impl Model for Object {
-    ghost use Rattle.shen_graph.specs.GraphText.{Row};
-
-    ghost Value = { Row };
-
-    ghost view = { λ o. record { name = o.name; refs = o.refs.items; nums = o.nums.items } };
-}
 
 /// The graph of objects as it is defined, plain and slow: what the heap is judged by. It moves and frees nothing.
 /// Threads are counted from 1.
@@ -79,16 +65,6 @@ fn ok_or_bad(done: bool) -> Reply
     ensures { result ≡ ok_or_bad done }
 {
     if done { Reply::Ok } else { Reply::Bad }
-}
-
-// The name of what a pin slot holds.
-fn name_in(slot: Option<Pinned>) -> Option<Name>
-    ensures { result ≡ name_in slot }
-{
-    match slot {
-        Some(held) => Some(held.name),
-        None => None,
-    }
 }
 
 // The place that a reply tells.
@@ -138,27 +114,6 @@ fn first_named(objects: &[Object], name: Name) -> Option<usize>
     objects.iter().position(|object| object.name == name)
 }
 
-// Adds the name that a reference holds, if it is not there yet.
-fn add_name(found: &mut Vec<Name>, reference: Option<Name>) -> Result<(), NoMemory>
-    ensures { OnOk result (found.new.items ≡ with_name found.old.items reference) }
-{
-    if let Some(name) = reference {
-        if !found.contains(&name) {
-            found.push(name)?;
-        }
-    }
-    Ok(())
-}
-
-fn add_names(found: &mut Vec<Name>, references: &[Option<Name>]) -> Result<(), NoMemory>
-    ensures { OnOk result (found.new.items ≡ with_names found.old.items references.now) }
-{
-    for reference in references {
-        add_name(found, *reference)?;
-    }
-    Ok(())
-}
-
 // Whether one of these pin slots holds the object at another place, or another object at the place.
 fn any_slot_differs(slots: &[Option<Pinned>], name: Name, place: u64) -> bool
     ensures { result ≡ list_any (differs name place) slots.now }
@@ -182,25 +137,6 @@ fn is_in_heap(regions: u64, region_words: u64, place: u64) -> bool
     place / region_words <= regions
 }
 
-// Adds the names of what pin slots hold.
-fn add_pinned(found: &mut Vec<Name>, slots: &[Option<Pinned>]) -> Result<(), NoMemory>
-    ensures { OnOk result (found.new.items ≡ with_names found.old.items (map name_in slots.now)) }
-{
-    for slot in slots {
-        add_name(found, name_in(*slot))?;
-    }
-    Ok(())
-}
-
-// The names of what the pin slots of a thread hold.
-fn names_in(slots: [Option<Pinned>; 4]) -> [Option<Name>; 4]
-    requires { length slots ≡ 4 }
-    ensures { (slot : ℕ) → slice_index_or result slot None ≡ name_in (slice_index_or slots slot None) }
-{
-    let [one, two, three, four] = slots;
-    [name_in(one), name_in(two), name_in(three), name_in(four)]
-}
-
 // The roots of nobody, and of so many threads that each name the hub.
 fn first_roots(alloc: Global, mutators: u32) -> Result<Vec<[Option<Name>; 16]>, NoMemory>
     ensures { IfOk result (λ roots. roots.items ≡ replicate 16 None ∷ replicate mutators (Some hub ∷ replicate 15 None)) }
@@ -210,89 +146,6 @@ fn first_roots(alloc: Global, mutators: u32) -> Result<Vec<[Option<Name>; 16]>, 
     let mut roots = alike(alloc, mutators as usize + 1, first)?;
     roots[0] = [None; 16];
     Ok(roots)
-}
-
-// How many words an object with these fields has.
-fn words_for(references: &[Option<Name>], numbers: &[u64]) -> u64
-    ensures { result ≡ 3 + length references.now + length numbers.now }
-{
-    3 + references.len() as u64 + numbers.len() as u64
-}
-
-// Adds references to the last row of a text.
-fn put_references(text: &mut GraphText, references: &[Option<Name>])
-    requires row { 0 < length text.old.rows }
-    requires room { length references.now ≤ text.old.spare }
-    ensures { text.new ≡ with_references text.old references.now }
-{
-    for reference in references {
-        text.reference(*reference);
-    }
-}
-
-impl Object {
-    ghost use Rattle.shen_graph.specs.GraphText.{Row};
-
-    // An object with so many null references and zeros.
-    fn blank(alloc: Global, name: Name, refs: u32, nums: u32) -> Result<Object, NoMemory>
-        ensures { IfOk result (λ object. object ≡ record { name = name; refs = replicate refs None; nums = replicate nums 0 }) }
-    {
-        Ok(Object {
-            name,
-            refs: vec![in alloc; None; refs as usize]?,
-            nums: vec![in alloc; 0; nums as usize]?,
-        })
-    }
-
-    fn field(&self, field: u32) -> Option<Option<Name>>
-        ensures { result ≡ slice_get self.now.refs field }
-    {
-        self.refs.get(field as usize).copied()
-    }
-
-    fn number(&self, index: u32) -> Option<u64>
-        ensures { result ≡ slice_get self.now.nums index }
-    {
-        self.nums.get(index as usize).copied()
-    }
-
-    // Adds the names that the references hold.
-    fn add_fields(&self, found: &mut Vec<Name>) -> Result<(), NoMemory>
-        ensures { OnOk result (found.new.items ≡ with_names found.old.items self.now.refs) }
-    {
-        add_names(found, &self.refs)
-    }
-
-    // How many words it has.
-    fn words(&self) -> u64
-        ensures { result ≡ 3 + length self.now.refs + length self.now.nums }
-    {
-        words_for(&self.refs, &self.nums)
-    }
-
-    // Adds its row to a text.
-    fn put(&self, text: &mut GraphText)
-        requires { 3 + length self.now.refs + length self.now.nums ≤ text.old.spare }
-        ensures { text.new ≡ with_whole_row text.old self.now }
-    {
-        text.object(self.name);
-        put_references(text, &self.refs);
-        text.add_numbers(&self.nums);
-    }
-
-    fn set_field(&mut self, field: u32, value: Option<Name>)
-        requires { field < length self.old.refs }
-        ensures { self.new ≡ record self.old { refs = slice_set self.old.refs field value } }
-    {
-        self.refs[field as usize] = value;
-    }
-
-    fn set_number(&mut self, index: u32, value: u64)
-        requires { index < length self.old.nums }
-        ensures { self.new ≡ record self.old { nums = slice_set self.old.nums index value } }
-    {
-        self.nums[index as usize] = value;
-    }
 }
 
 // The commands that look for a field or a number. Each answers `Bad` where there is none.

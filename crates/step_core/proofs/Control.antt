@@ -2,8 +2,8 @@ pub mod Aims
 pub mod Events
 pub mod Images
 pub mod Held
-pub mod Paused
-pub mod Pauses
+pub mod NewImageCounts
+pub mod OutsideImage
 pub mod Loaded
 pub mod ByParts
 pub mod Storing

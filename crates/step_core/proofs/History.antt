@@ -1,7 +1,7 @@
 pub mod Entries
 pub mod Growing
 pub mod Crowding
-pub mod Crowds
+pub mod CrowdsGrow
 pub mod NoFull
 pub mod Settling
 pub mod Replies

@@ -7,7 +7,7 @@ pub mod Fresh
 pub mod FreshRoot
 pub mod InHand
 pub mod Loading
-pub mod Loads
+pub mod CommandLoads
 pub mod WhileMarking
 pub mod Events
 pub mod Ordered
@@ -19,7 +19,7 @@ pub mod Places
 pub mod Polling
 pub mod Recording
 pub mod Refusing
-pub mod Resolves
+pub mod ResolvingInCommon
 pub mod Resolving
 pub mod RootStores
 pub mod Roots

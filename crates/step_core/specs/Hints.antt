@@ -17,7 +17,7 @@ use Rattle.step_core.specs.Seats.{unit_in}
 -- whether an actor takes the order, which is a hint
 abbrev pub takes_as_hint : Order → Option Actor → Bool
 takes_as_hint order None = false
-takes_as_hint order (Some a) = takes_of a.machine order && is_some (hint_in order)
+takes_as_hint order (Some actor) = takes_of actor.machine order && is_some (hint_in order)
 
 -- how many hints a machine takes with an event: one, or none
 abbrev pub hint_taken : Stage Actor → ℕ → Event Order → ℕ
@@ -26,7 +26,7 @@ hint_taken stage number event = if (event.number == number) && takes_as_hint eve
 -- how many it takes with a list of events
 unfoldable pub hints_taken : Change → Config → Stage Actor → ℕ → List (Event Order) → ℕ
 hints_taken change config stage number [] = 0
-hints_taken change config stage number (e ∷ es) = hint_taken stage number e + hints_taken change config (act (kind change config) stage e) number es
+hints_taken change config stage number (event ∷ events) = hint_taken stage number event + hints_taken change config (act (kind change config) stage event) number events
 
 -- The number that a machine keeps is that of the hints that it has taken, and those before the events, up to 2^64 - 1.
 abbrev pub HintsAreCounted : Type 0
@@ -36,7 +36,7 @@ HintsAreCounted = (change : Change) (config : Config) (stage : Stage Actor) (eve
 
 -- the scan in which a machine is has not ended, as it has nowhere between two steps
 abbrev pub scans_on : UnitSpot → Bool
-scans_on (Scanning at) = not (scans.is_ended at)
+scans_on (Scanning spot) = not (scans.is_ended spot)
 scans_on _ = true
 
 -- Hints are taken at MC, and nowhere else; and an address is made grey at GO, and nowhere else.

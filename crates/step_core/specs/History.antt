@@ -16,7 +16,7 @@ told_by config stage actor order machine = told_with config (settled config stag
 -- the entries that an event of this machine settles
 abbrev pub told_of_machine : Config → Stage Actor → Event Order → Option Actor → List Entry
 told_of_machine config stage event None = []
-told_of_machine config stage event (Some a) = if takes_of a.machine event.order then told_by config stage a event.order a.machine else []
+told_of_machine config stage event (Some actor) = if takes_of actor.machine event.order then told_by config stage actor event.order actor.machine else []
 
 -- the entries that an event settles
 unfoldable pub told : Config → Stage Actor → Event Order → List Entry
@@ -25,4 +25,4 @@ told config stage event = told_of_machine config stage event (slice_get stage.ma
 -- the entries that these events settle, from a stage on
 unfoldable pub history : Change → Config → Stage Actor → List (Event Order) → List Entry
 history change config stage [] = []
-history change config stage (e ∷ es) = told config stage e ++ history change config (act (kind change config) stage e) es
+history change config stage (event ∷ events) = told config stage event ++ history change config (act (kind change config) stage event) events

@@ -52,8 +52,8 @@ use Rattle.step_core.specs.Standing.{standing_at, help_standing, control_standin
 
 -- whether it takes hints: it stands at MC, about to claim a unit of marking
 abbrev pub takes_hint : Machine → Bool
-takes_hint (mutating m) = false
-takes_hint (helping h) = help.takes_hint h.spot
+takes_hint (mutating mutator) = false
+takes_hint (helping helper) = help.takes_hint helper.spot
 takes_hint (controlling k) = controls.takes_hint k.spot
 
 -- whether an order is one for a helper or the control: none, or a hint where it takes hints
@@ -65,8 +65,8 @@ is_for_working hints (Hint address) = hints
 
 -- whether it takes the order
 abbrev pub takes_of : Machine → Order → Bool
-takes_of (mutating m) order = takes_at m.spot m.made order
-takes_of (helping h) order = is_for_working (help.takes_hint h.spot) order && (if help.is_gone h.spot then false else true)
+takes_of (mutating mutator) order = takes_at mutator.spot mutator.made order
+takes_of (helping helper) order = is_for_working (help.takes_hint helper.spot) order && (if help.is_gone helper.spot then false else true)
 takes_of (controlling k) order = is_for_working (controls.takes_hint k.spot) order && (if is_gone k.spot then false else true)
 
 -- A helper, and the control, as it goes on under an order: with a hint at the word that has the mark of the hint's address.
@@ -78,59 +78,59 @@ controlling_by config order k = control_hinted config (hint_in order) k
 
 -- and any machine: what a mutator does under an order stands in its own rows
 abbrev pub ordered : Config → Order → Machine → Machine
-ordered config order (mutating m) = mutating m
-ordered config order (helping h) = helping (helping_by config order h)
+ordered config order (mutating mutator) = mutating mutator
+ordered config order (helping helper) = helping (helping_by config order helper)
 ordered config order (controlling k) = controlling (controlling_by config order k)
 
 -- its next access, under an order
 abbrev pub plan_of : Config → Order → Machine → Access
-plan_of config order (mutating m) = placed config (touch_of config m order)
-plan_of config order (helping h) = placed config (help_touch config (helping_by config order h))
+plan_of config order (mutating mutator) = placed config (touch_of config mutator order)
+plan_of config order (helping helper) = placed config (help_touch config (helping_by config order helper))
 plan_of config order (controlling k) = control_access config (controlling_by config order k)
 
 -- the address that its next access makes grey, if it does so, as it does at GO alone
 abbrev pub greys_of : Machine → Option ℕ
-greys_of (mutating m) = mutators.greys_at m.spot
-greys_of (helping h) = help.greys_at h.spot
+greys_of (mutating mutator) = mutators.greys_at mutator.spot
+greys_of (helping helper) = help.greys_at helper.spot
 greys_of (controlling k) = controls.greys_at k.spot
 
 -- how many hints it has taken, up to 2^64 - 1
 abbrev pub hints_of : Machine → ℕ
-hints_of (mutating m) = 0
-hints_of (helping h) = h.hints
+hints_of (mutating mutator) = 0
+hints_of (helping helper) = helper.hints
 hints_of (controlling k) = k.hints
 
 -- the place of its next access. One that takes a hint stands where it would claim
 abbrev pub place_in : Order → Machine → Place
-place_in order (mutating m) = place_at order m.spot
-place_in order (helping h) = help_place h
+place_in order (mutating mutator) = place_at order mutator.spot
+place_in order (helping helper) = help_place helper
 place_in order (controlling k) = control_place k.spot
 
 -- what it is after the access, by the word that it found
 abbrev pub machine_after : Change → Config → Order → ℕ → Machine → Machine
-machine_after change config order got (mutating m) = mutating (next_of config m order got)
-machine_after change config order got (helping h) = helping (help_next config (helping_by config order h) got)
+machine_after change config order got (mutating mutator) = mutating (next_of config mutator order got)
+machine_after change config order got (helping helper) = helping (help_next config (helping_by config order helper) got)
 machine_after change config order got (controlling k) = controlling (control_next change config (controlling_by config order k) got)
 
 -- what it says of the step under an order that finds this word: nothing where it never makes one
 abbrev pub answer_of : Config → Order → Machine → ℕ → Option Took
-answer_of config order (mutating m) got = Some (answer_at config m.kept m.spot got)
-answer_of config order (helping h) got = Some (help_says config (helping_by config order h) got)
+answer_of config order (mutating mutator) got = Some (answer_at config mutator.kept mutator.spot got)
+answer_of config order (helping helper) got = Some (help_says config (helping_by config order helper) got)
 answer_of config order (controlling k) got = Some (control_says config (controlling_by config order k) got)
 
 -- the calls that its step ends, in a call of this command
 abbrev pub ended_by : Command → Machine → List Entry
-ended_by command (mutating m) = entries_of m.seat command (given_at m.spot)
+ended_by command (mutating mutator) = entries_of mutator.seat command (given_at mutator.spot)
 ended_by command _ = []
 
 -- the command of a machine
 abbrev pub command_at : Option Actor → Command
 command_at None = Gc
-command_at (Some a) = a.command
+command_at (Some actor) = actor.command
 
 -- Where a pause writes the answer 1 over none, it is settled that the heap is full for the thread that waits for it.
 abbrev pub told_word : List Actor → Word → (before after : ℕ) → List Entry
-told_word machines (Answer t) before after = entries_of t (command_at (slice_get machines t)) (if (before == 0) && (after == 1) then Some Full else None)
+told_word machines (Answer mutator) before after = entries_of mutator (command_at (slice_get machines mutator)) (if (before == 0) && (after == 1) then Some Full else None)
 told_word machines _ before after = []
 
 abbrev pub told_storing : Config → Stage Actor → ControlSpot → List ℕ → List Entry
@@ -139,8 +139,8 @@ told_storing config stage _ image = []
 
 -- what its step settles, by the words that count: entries of any threads
 abbrev pub told_with : Config → (Word → ℕ) → Stage Actor → Actor → Order → Machine → List Entry
-told_with config memory stage actor order (mutating m) = entries_of m.seat (command_by order actor.command) (told_of memory m)
-told_with config memory stage actor order (helping h) = []
+told_with config memory stage actor order (mutating mutator) = entries_of mutator.seat (command_by order actor.command) (told_of memory mutator)
+told_with config memory stage actor order (helping helper) = []
 told_with config memory stage actor order (controlling k) = told_storing config stage k.spot k.image
 
 -- the image that counts, if one does: while the control writes it back
@@ -161,8 +161,8 @@ next_order (Some command) = Begin command
 -- What it does on its turn, by the command that would follow. In a call it goes on, and so does a helper, and the control. Between two
 -- calls a mutator begins that command, and ends where there is none. It is idle where it has ended.
 abbrev pub order_for : Option Command → Machine → Option Order
-order_for next (mutating m) = if takes_commands m.spot then Some (next_order next) else (if is_between_calls m.spot then None else Some Nothing)
-order_for next (helping h) = if help.is_gone h.spot then None else Some Nothing
+order_for next (mutating mutator) = if takes_commands mutator.spot then Some (next_order next) else (if is_between_calls mutator.spot then None else Some Nothing)
+order_for next (helping helper) = if help.is_gone helper.spot then None else Some Nothing
 order_for next (controlling k) = if is_gone k.spot then None else Some Nothing
 
 -- and by its script and the calls that it has ended
@@ -176,17 +176,17 @@ is_machine_at place machine (Some order) = same_place (place_in order machine) p
 
 -- the reply of its last call, between two calls
 abbrev pub reply_in : Machine → Option Reply
-reply_in (mutating m) = reply_at m.spot
+reply_in (mutating mutator) = reply_at mutator.spot
 reply_in _ = None
 
 -- the reply that its step gives, if it ends a call
 abbrev pub reply_of_step : Machine → Option Reply
-reply_of_step (mutating m) = given_at m.spot
+reply_of_step (mutating mutator) = given_at mutator.spot
 reply_of_step _ = None
 
 -- whether it is a mutator
 abbrev pub is_mutating : Machine → Bool
-is_mutating (mutating m) = true
+is_mutating (mutating mutator) = true
 is_mutating _ = false
 
 -- the control that it is, if it is the control
@@ -196,12 +196,12 @@ control_in _ = None
 
 -- whether it is a mutator without a call in progress
 abbrev pub is_resting : Machine → Bool
-is_resting (mutating m) = is_between_calls m.spot
+is_resting (mutating mutator) = is_between_calls mutator.spot
 is_resting _ = false
 
 -- whether it may be given a command, or the end: a mutator between two calls that has not ended
 abbrev pub may_begin : Machine → Bool
-may_begin (mutating m) = takes_commands m.spot
+may_begin (mutating mutator) = takes_commands mutator.spot
 may_begin _ = false
 
 -- whether it has ended, of a machine that says so: the control
@@ -211,25 +211,25 @@ has_ended_of _ = false
 
 -- where it stands, as far as entering, leaving and stopping go
 abbrev pub standing_of : Machine → Standing
-standing_of (mutating m) = standing_at m.spot
-standing_of (helping h) = help_standing h.spot
+standing_of (mutating mutator) = standing_at mutator.spot
+standing_of (helping helper) = help_standing helper.spot
 standing_of (controlling k) = control_standing k.spot
 
 -- whether it can go on from a word
 abbrev pub IsFitFor : Config → Order → ℕ → Machine → Type 0
-IsFitFor config order got (mutating m) = IsFit config m order got
-IsFitFor config order got (helping h) = ready.IsFit config (helping_by config order h) got
+IsFitFor config order got (mutating mutator) = IsFit config mutator order got
+IsFitFor config order got (helping helper) = ready.IsFit config (helping_by config order helper) got
 IsFitFor config order got (controlling k) = IsWholeImage config k.phase k.spot k.image got × UnitGoesOn config (controlling_by config order k).spot got
 
 -- where its step under an order that finds this word says that it waits
 abbrev pub WaitsIn : Config → Order → Machine → ℕ → Type 0
-WaitsIn config order (mutating m) got = WaitsAt m.spot got
-WaitsIn config order (helping h) got = helpers.WaitsAt config (helping_by config order h) got
+WaitsIn config order (mutating mutator) got = WaitsAt mutator.spot got
+WaitsIn config order (helping helper) got = helpers.WaitsAt config (helping_by config order helper) got
 WaitsIn config order (controlling k) got = control.WaitsAt config (controlling_by config order k) got
 
 -- how many objects it has made
 abbrev pub made_of_machine : Machine → ℕ
-made_of_machine (mutating m) = m.made
+made_of_machine (mutating mutator) = mutator.made
 made_of_machine _ = 0
 
 -- how many replies are at hand, of calls that have done their work: 1 where a mutator leaves or clears its answer, or records what
@@ -240,25 +240,25 @@ recorded_at_hand _ = 0
 
 abbrev pub at_hand : Spot → ℕ
 at_hand (Leave reply) = 1
-at_hand (Recording at address next) = recorded_at_hand next
+at_hand (Recording spot address next) = recorded_at_hand next
 at_hand (Waiting (wait.ClearAnswer reply)) = 1
 at_hand _ = 0
 
 abbrev pub at_hand_of : Machine → ℕ
-at_hand_of (mutating m) = at_hand m.spot
+at_hand_of (mutating mutator) = at_hand mutator.spot
 at_hand_of _ = 0
 
 -- which numbers have machines of the role: the mutators come first, then the helpers, then the control
 abbrev pub HasNumber : Config → ℕ → Machine → Type 0
-HasNumber config number (mutating m) = (m.seat ≡ number) × (number < config.mutators)
-HasNumber config number (helping h) = (h.seat ≡ number) × (config.mutators ≤ number) × (number < config.mutators + config.helpers)
+HasNumber config number (mutating mutator) = (mutator.seat ≡ number) × (number < config.mutators)
+HasNumber config number (helping helper) = (helper.seat ≡ number) × (config.mutators ≤ number) × (number < config.mutators + config.helpers)
 HasNumber config number (controlling k) = number ≡ config.mutators + config.helpers
 
 -- It is idle, and may go on: a mutator takes commands, and the graph has as many objects of its thread as it has made; a helper is
 -- between two rounds; the control is in no pause and no unit, and knows the phase.
 abbrev pub IsIdle : (phase cset : ℕ) → Graph → ℕ → Machine → Type 0
-IsIdle phase cset graph number (mutating m) = (graph.count (number + 1) ≡ m.made) × (takes_commands m.spot ≡ true)
-IsIdle phase cset graph number (helping h) = h.spot ≡ LoadEnd
+IsIdle phase cset graph number (mutating mutator) = (graph.count (number + 1) ≡ mutator.made) × (takes_commands mutator.spot ≡ true)
+IsIdle phase cset graph number (helping helper) = helper.spot ≡ LoadEnd
 IsIdle phase cset graph number (controlling k) = (k.spot ≡ LookLeft) × (k.image ≡ []) × (k.phase ≡ phase) × (k.cset ≡ cset)
 
 -- whether a step says that it waits

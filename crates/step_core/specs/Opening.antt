@@ -17,7 +17,7 @@ stored config word value words = slice_set words (word_at config word) value
 -- the table after the hub was stored into root 0 of so many mutators
 abbrev pub rooted : Config → ℕ → List ℕ → List ℕ
 rooted config zero words = words
-rooted config (suc t) words = stored config (Root t 0) config.region_words (rooted config t words)
+rooted config (suc mutator) words = stored config (Root mutator 0) config.region_words (rooted config mutator words)
 
 -- the free word in which only region 0 is in use
 abbrev pub first_free : ℕ → ℕ

@@ -34,9 +34,9 @@ root_resolving world seat dst value (ToCompare object expect more) index = world
 
 -- the word that counts as a root of the mutator: while a call has the root's new value in hand, that value
 abbrev pub root_now : World → ℕ → Kept → Spot → ℕ → ℕ
-root_now world seat kept (Showing value at) index = root_with world seat (dst_of kept.command) value index
-root_now world seat kept (Resolving address at next) index = root_resolving world seat (dst_of kept.command) address next index
-root_now world seat kept (Recording at address next) index = root_recording world seat (dst_of kept.command) address next index
+root_now world seat kept (Showing value spot) index = root_with world seat (dst_of kept.command) value index
+root_now world seat kept (Resolving address spot next) index = root_resolving world seat (dst_of kept.command) address next index
+root_now world seat kept (Recording spot address next) index = root_recording world seat (dst_of kept.command) address next index
 root_now world seat kept _ index = world.memory (Root seat index)
 
 -- What room a mutator has by where it stands: free words of its buffer; besides, what a taking of room says, and then, in hand, the words of
@@ -47,8 +47,8 @@ IsInMaking seat command (make.StoreWord address done) a piece = IsSpare seat pie
 IsInMaking seat command (make.StoreRoot address) a piece = IsSpare seat piece ⊎ ((a ≡ address) × (piece ≡ hand seat (words_made command)))
 
 abbrev pub IsRoomOf : (seat : ℕ) → Kept → Spot → ℕ → Block → Type 0
-IsRoomOf seat kept (Making at) a piece = IsInMaking seat kept.command at a piece
-IsRoomOf seat kept (Resolving address at next) a piece = IsResolvingRoom seat at a piece
+IsRoomOf seat kept (Making spot) a piece = IsInMaking seat kept.command spot a piece
+IsRoomOf seat kept (Resolving address spot next) a piece = IsResolvingRoom seat spot a piece
 IsRoomOf seat kept _ a piece = IsSpare seat piece
 
 -- The words of a mutator stand for what its thread has in the graph: it has made as many objects, its roots stand for its

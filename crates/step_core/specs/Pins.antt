@@ -19,7 +19,7 @@ use Rattle.step_core.specs.Settled.{settled}
 -- moved.
 abbrev pub HoldsPin : (Word → ℕ) → ℕ → Option Pinned → Type 0
 HoldsPin memory word None = word ≡ 0
-HoldsPin memory word (Some p) = (word ≡ p.place) × (memory (Heap (word + 2)) ≡ name_code p.name.thread p.name.count) × (is_forwarded (memory (Heap word)) ≡ false)
+HoldsPin memory word (Some pinned) = (word ≡ pinned.place) × (memory (Heap (word + 2)) ≡ name_code pinned.name.thread pinned.name.count) × (is_forwarded (memory (Heap word)) ≡ false)
 
 -- a mutator is about to store into one of its pin slots
 pub record IsStoringPin (stage : Stage Actor) (number slot : ℕ) : Type 0 where

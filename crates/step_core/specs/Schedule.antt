@@ -30,7 +30,7 @@ order_on_turn scripts number actor machine = order_by (nth_script scripts number
 
 abbrev pub turn_of : Scripts → ℕ → Option Actor → Option (Event Order)
 turn_of scripts number None = None
-turn_of scripts number (Some a) = option_map (λ order. record { number = number; order = order }) (order_on_turn scripts number a a.machine)
+turn_of scripts number (Some actor) = option_map (λ order. record { number = number; order = order }) (order_on_turn scripts number actor actor.machine)
 
 -- the next event of a machine: none where it is idle
 abbrev pub turn : Scripts → Stage Actor → ℕ → Option (Event Order)
@@ -41,7 +41,7 @@ waits_in stage config order machine = again_by (answer_of config order machine (
 
 abbrev pub waits_of : Config → Stage Actor → Order → Option Actor → Bool
 waits_of config stage order None = false
-waits_of config stage order (Some a) = waits_in stage config order a.machine
+waits_of config stage order (Some actor) = waits_in stage config order actor.machine
 
 -- whether the event of a machine says that it waits
 abbrev pub waits : Config → Stage Actor → Event Order → Bool
@@ -49,7 +49,7 @@ waits config stage event = waits_of config stage event.order (slice_get stage.ma
 
 abbrev pub is_actor_at : Scripts → ℕ → Place → Option Actor → Bool
 is_actor_at scripts number place None = false
-is_actor_at scripts number place (Some a) = is_machine_at place a.machine (order_on_turn scripts number a a.machine)
+is_actor_at scripts number place (Some actor) = is_machine_at place actor.machine (order_on_turn scripts number actor actor.machine)
 
 -- Whether the next access of a machine stands at a place. Between two calls that of a mutator is the first one of the command
 -- that follows in its script, or that of its end.
@@ -58,7 +58,7 @@ is_at_place scripts stage number place = is_actor_at scripts number place (slice
 
 abbrev pub given_of : Option Actor → ℕ
 given_of None = 0
-given_of (Some a) = length a.calls
+given_of (Some actor) = length actor.calls
 
 -- how many replies a mutator has given
 abbrev pub given : Stage Actor → ℕ → ℕ

@@ -53,97 +53,97 @@ use Rattle.step_core.specs.Own.{IsRoomOf}
 
 -- what a mutator is about to record
 abbrev pub recording_of : Spot → Option ℕ
-recording_of (Recording at address next) = Some address
+recording_of (Recording spot address next) = Some address
 recording_of _ = None
 
 -- whether the counter counts a mutator: where it copies the object that it resolves
 abbrev pub copies_at : Spot → Bool
-copies_at (Resolving address at next) = is_copier at
+copies_at (Resolving address spot next) = is_copier spot
 copies_at _ = false
 
 -- whether the counter counts who works on a unit of evacuation
 abbrev pub copies_in : EvacSpot → Bool
-copies_in (evac.Resolving address end next at) = is_copier at
+copies_in (evac.Resolving address end next spot) = is_copier spot
 copies_in _ = false
 
 -- what room it has: free words of its buffer; besides, what it has taken for a copy, or is about to take
 abbrev pub IsRoomIn : (seat : ℕ) → EvacSpot → ℕ → Block → Type 0
-IsRoomIn seat (evac.Resolving address end next at) a piece = IsResolvingRoom seat at a piece
+IsRoomIn seat (evac.Resolving address end next spot) a piece = IsResolvingRoom seat spot a piece
 IsRoomIn seat _ a piece = IsSpare seat piece
 
 -- The unit on which a machine works: that of a helper, of the control, of any machine. Where it works on none, it is one that has ended.
 abbrev pub help_unit : HelpSpot → UnitSpot
-help_unit (help.Working at) = at
+help_unit (help.Working spot) = spot
 help_unit _ = Ended Worked
 
 abbrev pub control_unit : ControlSpot → UnitSpot
-control_unit (control.Working at) = at
+control_unit (control.Working spot) = spot
 control_unit _ = Ended Worked
 
 -- whether the control works on one
 abbrev pub is_working : ControlSpot → Bool
-is_working (control.Working at) = true
+is_working (control.Working spot) = true
 is_working _ = false
 
 abbrev pub unit_in : Machine → UnitSpot
-unit_in (mutating m) = Ended Worked
-unit_in (helping h) = help_unit h.spot
+unit_in (mutating mutator) = Ended Worked
+unit_in (helping helper) = help_unit helper.spot
 unit_in (controlling k) = control_unit k.spot
 
 -- the scan or the pass of updating in which who works on a unit is
 abbrev pub unit_progress : Config → UnitSpot → Option Scan
-unit_progress config (Scanning at) = scanning_of at
-unit_progress config (Updating cset at) = pass_of config at
+unit_progress config (Scanning spot) = scanning_of spot
+unit_progress config (Updating cset spot) = pass_of config spot
 unit_progress config _ = None
 
 -- whether it copies
 abbrev pub unit_copies : UnitSpot → Bool
-unit_copies (Evacuating cset at) = copies_in at
+unit_copies (Evacuating cset spot) = copies_in spot
 unit_copies _ = false
 
 -- the region of the collection set on which it works
 abbrev pub unit_region : Config → UnitSpot → Option ℕ
-unit_region config (Evacuating cset at) = working_of config at
+unit_region config (Evacuating cset spot) = working_of config spot
 unit_region config _ = None
 
 -- what room it has
 abbrev pub UnitRoom : (seat : ℕ) → UnitSpot → ℕ → Block → Type 0
-UnitRoom seat (Evacuating cset at) a piece = IsRoomIn seat at a piece
+UnitRoom seat (Evacuating cset spot) a piece = IsRoomIn seat spot a piece
 UnitRoom seat _ a piece = IsSpare seat piece
 
 -- What who works on a unit counts on, by the kind of unit: it is the phase of such units, and its walk has come where its spot says. In
 -- evacuating no object behind the walk has its current copy there, unless there was no room.
 abbrev pub CanWorkOn : Config → World → (seat : ℕ) → UnitSpot → Type 0
-CanWorkOn config world seat (Scanning at) = CanScan config world seat at
-CanWorkOn config world seat (Evacuating cset at) = CanEvacuate config world seat cset at
-CanWorkOn config world seat (Updating cset at) = CanUpdate config world seat cset at
+CanWorkOn config world seat (Scanning spot) = CanScan config world seat spot
+CanWorkOn config world seat (Evacuating cset spot) = CanEvacuate config world seat cset spot
+CanWorkOn config world seat (Updating cset spot) = CanUpdate config world seat cset spot
 CanWorkOn config world seat (Ended unit) = ⊤
 
 -- What the machine of a seat is about to record, whether it copies, and what room it has.
 abbrev pub records_of : Machine → Option ℕ
-records_of (mutating m) = recording_of m.spot
+records_of (mutating mutator) = recording_of mutator.spot
 records_of _ = None
 
 abbrev pub copies_of : Machine → Bool
-copies_of (mutating m) = copies_at m.spot
+copies_of (mutating mutator) = copies_at mutator.spot
 copies_of machine = unit_copies (unit_in machine)
 
 abbrev pub HasRoom : (seat : ℕ) → Machine → ℕ → Block → Type 0
-HasRoom seat (mutating m) a piece = IsRoomOf seat m.kept m.spot a piece
+HasRoom seat (mutating mutator) a piece = IsRoomOf seat mutator.kept mutator.spot a piece
 HasRoom seat machine a piece = UnitRoom seat (unit_in machine) a piece
 
 -- where the room begins that a machine has in hand, by each part that has such room: a new object until its root is stored, a copy until it is
 -- the current one or is given back
 abbrev pub resolve_hand : ResolveSpot → Option ℕ
-resolve_hand (resolve.Copying copy end at) = Some copy
+resolve_hand (resolve.Copying copy end spot) = Some copy
 resolve_hand _ = None
 
 abbrev pub evac_hand : EvacSpot → Option ℕ
-evac_hand (evac.Resolving address end next at) = resolve_hand at
+evac_hand (evac.Resolving address end next spot) = resolve_hand spot
 evac_hand _ = None
 
 abbrev pub unit_hand : UnitSpot → Option ℕ
-unit_hand (Evacuating cset at) = evac_hand at
+unit_hand (Evacuating cset spot) = evac_hand spot
 unit_hand _ = None
 
 abbrev pub make_hand : MakeSpot → Option ℕ
@@ -152,12 +152,12 @@ make_hand (make.StoreWord address done) = Some address
 make_hand (make.StoreRoot address) = Some address
 
 abbrev pub call_hand : Spot → Option ℕ
-call_hand (Making at) = make_hand at
-call_hand (Resolving address at next) = resolve_hand at
+call_hand (Making spot) = make_hand spot
+call_hand (Resolving address spot next) = resolve_hand spot
 call_hand _ = None
 
 abbrev pub hand_of : Machine → Option ℕ
-hand_of (mutating m) = call_hand m.spot
+hand_of (mutating mutator) = call_hand mutator.spot
 hand_of machine = unit_hand (unit_in machine)
 
 -- A taking of room for so many words, and where it stands.
@@ -167,15 +167,15 @@ pub record Taking : Type 0 where
 
 -- that in which a machine is, by each part of which taking room is one
 abbrev pub resolve_taking : ResolveSpot → Option Taking
-resolve_taking (resolve.Taking words at) = Some (record { words = words; take = at })
+resolve_taking (resolve.Taking words spot) = Some (record { words = words; take = spot })
 resolve_taking _ = None
 
 abbrev pub evac_taking : EvacSpot → Option Taking
-evac_taking (evac.Resolving address end next at) = resolve_taking at
+evac_taking (evac.Resolving address end next spot) = resolve_taking spot
 evac_taking _ = None
 
 abbrev pub unit_taking : UnitSpot → Option Taking
-unit_taking (Evacuating cset at) = evac_taking at
+unit_taking (Evacuating cset spot) = evac_taking spot
 unit_taking _ = None
 
 abbrev pub make_taking : ℕ → MakeSpot → Option Taking
@@ -183,12 +183,12 @@ make_taking words (make.Taking take) = Some (record { words = words; take = take
 make_taking words _ = None
 
 abbrev pub call_taking : Kept → Spot → Option Taking
-call_taking kept (Making at) = make_taking (words_made kept.command) at
-call_taking kept (Resolving address at next) = resolve_taking at
+call_taking kept (Making spot) = make_taking (words_made kept.command) spot
+call_taking kept (Resolving address spot next) = resolve_taking spot
 call_taking kept _ = None
 
 abbrev pub taking_of : Machine → Option Taking
-taking_of (mutating m) = call_taking m.kept m.spot
+taking_of (mutating mutator) = call_taking mutator.kept mutator.spot
 taking_of machine = unit_taking (unit_in machine)
 
 -- for how many words a taking is about to look for a free region, and so a machine
@@ -198,7 +198,7 @@ take_looks words _ = None
 
 abbrev pub looks_in : Option Taking → Option ℕ
 looks_in None = None
-looks_in (Some t) = take_looks t.words t.take
+looks_in (Some taking) = take_looks taking.words taking.take
 
 abbrev pub looks_for : Machine → Option ℕ
 looks_for machine = looks_in (taking_of machine)
@@ -216,23 +216,23 @@ copy_carries object (StoreWord words index found) = Some (record { object = obje
 copy_carries object _ = None
 
 abbrev pub resolve_carries : (object : ℕ) → ResolveSpot → Option Carried
-resolve_carries object (resolve.Copying copy end at) = copy_carries object at
+resolve_carries object (resolve.Copying copy end spot) = copy_carries object spot
 resolve_carries object _ = None
 
 abbrev pub evac_carries : EvacSpot → Option Carried
-evac_carries (evac.Resolving address end next at) = resolve_carries address at
+evac_carries (evac.Resolving address end next spot) = resolve_carries address spot
 evac_carries _ = None
 
 abbrev pub unit_carries : UnitSpot → Option Carried
-unit_carries (Evacuating cset at) = evac_carries at
+unit_carries (Evacuating cset spot) = evac_carries spot
 unit_carries _ = None
 
 abbrev pub call_carries : Spot → Option Carried
-call_carries (Resolving address at next) = resolve_carries address at
+call_carries (Resolving address spot next) = resolve_carries address spot
 call_carries _ = None
 
 abbrev pub carries_of : Machine → Option Carried
-carries_of (mutating m) = call_carries m.spot
+carries_of (mutating mutator) = call_carries mutator.spot
 carries_of machine = unit_carries (unit_in machine)
 
 -- the word that is carried stands in the object still, behind the header of a copy in the collection set, current or old
@@ -253,9 +253,9 @@ pub record IsInSeat (config : Config) (world : World) (seat : ℕ) (machine : Ma
   pub copies : world.ghost.copying seat ≡ copies_of machine
   pub works : world.ghost.working seat ≡ unit_region config (unit_in machine)
   pub goes_on : CanWorkOn config world seat (unit_in machine)
-  pub rooms : (address : ℕ) (x : Block) → world.block address ≡ Some x → room_of x ≡ Some seat → HasRoom seat machine address x
+  pub rooms : (address : ℕ) (piece : Block) → world.block address ≡ Some piece → room_of piece ≡ Some seat → HasRoom seat machine address piece
   pub holds : (address : ℕ) → hand_of machine ≡ Some address → (words : ℕ) × (world.block address ≡ Some (hand seat words))
-  pub takes : (t : Taking) → taking_of machine ≡ Some t → TakeFacts config world seat t.words t.take
+  pub takes : (taking : Taking) → taking_of machine ≡ Some taking → TakeFacts config world seat taking.words taking.take
   pub carries : (x : Carried) → carries_of machine ≡ Some x → StandsThere config world x
 
 -- the object that a call works on, or is about to show, by an address that was resolved if that was needed
@@ -268,11 +268,11 @@ before_resolve ForRoot = None
 before_resolve (ToCompare object expect value) = Some object
 
 abbrev pub works_on : Spot → Option ℕ
-works_on (OnField object at) = Some object
-works_on (OnNumber object refs at) = Some object
-works_on (Showing value at) = Some value
-works_on (Recording at address next) = before_record next
-works_on (Resolving address at next) = before_resolve next
+works_on (OnField object spot) = Some object
+works_on (OnNumber object refs spot) = Some object
+works_on (Showing value spot) = Some value
+works_on (Recording spot address next) = before_record next
+works_on (Resolving address spot next) = before_resolve next
 works_on _ = None
 
 -- the roots that a call has loaded, and still needs: while it loads them, while it works on a field, and once it has resolved or recorded
@@ -300,12 +300,12 @@ IsOfOverwritten (overwrites.Set object value) a = a ≡ value
 IsOfOverwritten _ a = ⊥
 
 abbrev pub IsOfCall : Command → Spot → ℕ → Type 0
-IsOfCall command (Loading at) a = IsOfRoots command at a
-IsOfCall command (OnField object at) a = IsOfField at a
-IsOfCall command (Resolving address at next) a = IsOfLoaded next a
-IsOfCall command (Recording at address next) a = IsOfOverwritten next a
+IsOfCall command (Loading spot) a = IsOfRoots command spot a
+IsOfCall command (OnField object spot) a = IsOfField spot a
+IsOfCall command (Resolving address spot next) a = IsOfLoaded next a
+IsOfCall command (Recording spot address next) a = IsOfOverwritten next a
 IsOfCall command (StoreRoot value) a = a ≡ value
-IsOfCall command (Pinning value at) a = a ≡ value
+IsOfCall command (Pinning value spot) a = a ≡ value
 IsOfCall command _ a = ⊥
 
 -- a mutator has taken what it was answered, and this is its reply: its answer is the address of the object of that name, which may be used;
@@ -317,7 +317,7 @@ HasTaken config world seat _ = ⊥
 
 -- whether a mutator has found that it is answered, and not taken that yet
 abbrev pub is_answered : Spot → Bool
-is_answered (Entering at Waited) = true
+is_answered (Entering spot Waited) = true
 is_answered (Waiting wait.LoadAnswer) = true
 is_answered (Waiting (wait.StoreRoot address)) = true
 is_answered _ = false
@@ -342,21 +342,21 @@ is_clearing _ = false
 -- The machine of a seat resolves an address: objects are evacuated, and it can go on in that, with the words that it has copied so far; or
 -- references to them are updated.
 abbrev pub IsResolving : Config → World → (seat address : ℕ) → ResolveSpot → Type 0
-IsResolving config world seat address at = CanResolve config world seat address at ⊎ CanFollow config world seat address at
+IsResolving config world seat address spot = CanResolve config world seat address spot ⊎ CanFollow config world seat address spot
 
 -- whether the phase that a call has loaded is the phase: from there on until it waits or leaves
 abbrev pub has_phase : Spot → Bool
 has_phase LoadSet = true
-has_phase (Loading at) = true
-has_phase (OnField object at) = true
-has_phase (Resolving address at next) = true
-has_phase (Recording at address next) = true
-has_phase (OnNumber object refs at) = true
-has_phase (Showing value at) = true
+has_phase (Loading spot) = true
+has_phase (OnField object spot) = true
+has_phase (Resolving address spot next) = true
+has_phase (Recording spot address next) = true
+has_phase (OnNumber object refs spot) = true
+has_phase (Showing value spot) = true
 has_phase (StoreRoot value) = true
-has_phase (Making at) = true
+has_phase (Making spot) = true
 has_phase AskCycle = true
-has_phase (Pinning value at) = true
+has_phase (Pinning value spot) = true
 has_phase _ = false
 
 -- whether the collection set that a call has loaded is the set: from there on until it waits or leaves
@@ -378,6 +378,6 @@ pub record IsServed (config : Config) (world : World) (command : Command) (mutat
   pub stored : (address : ℕ) → mutator.spot ≡ Waiting (wait.StoreRoot address) → world.memory (Answer mutator.seat) ≡ address
   pub knows_phase : has_phase mutator.spot ≡ true → mutator.kept.phase ≡ world.memory Phase
   pub knows_set : has_set mutator.spot ≡ true → mutator.kept.cset ≡ world.memory Cset
-  pub resolves : (address : ℕ) (at : ResolveSpot) (next : Loaded) → mutator.spot ≡ Resolving address at next → IsResolving config world mutator.seat address at
+  pub resolves : (address : ℕ) (spot : ResolveSpot) (next : Loaded) → mutator.spot ≡ Resolving address spot next → IsResolving config world mutator.seat address spot
   pub covers : (object value : ℕ) → mutator.spot ≡ OnField object (fields.Store value) → IsCovered config world object (index_of mutator.kept.command)
   pub taken : (reply : Reply) → mutator.spot ≡ Waiting (wait.ClearAnswer reply) → AsksNothing world mutator.seat × HasTaken config world mutator.seat reply

@@ -10,20 +10,20 @@ pub use Rattle.step_core.specs.Machines.{stored_image, image_read}
 
 -- a word of an image counts there
 abbrev pub is_counting : Config → Counting → Word → Bool
-is_counting config n word = is_image word && counts config n.extent n.image (word_at config word - image_start config)
+is_counting config counting word = is_image word && counts config counting.extent counting.image (word_at config word - image_start config)
 
 -- a table in which the words of an image that count do so as the image has them
 abbrev pub mixed : Config → List ℕ → Counting → Word → ℕ
-mixed config words n word = if is_counting config n word then image_view config n.image word else view config words word
+mixed config words counting word = if is_counting config counting word then image_view config counting.image word else view config words word
 
 -- the image that counts, if one does
 abbrev pub image_of : Option Actor → Option Counting
 image_of None = None
-image_of (Some a) = image_read a.machine
+image_of (Some actor) = image_read actor.machine
 
 abbrev pub settled_by : Config → List ℕ → Option Counting → Word → ℕ
 settled_by config words None = view config words
-settled_by config words (Some n) = mixed config words n
+settled_by config words (Some counting) = mixed config words counting
 
 -- The number of the control.
 abbrev pub control_number : Config → ℕ

@@ -88,7 +88,7 @@ FitsSpot (Waiting wait.StepOut) what = is_request what ≡ true
 FitsSpot (Waiting wait.Poll) what = what ≢ nothing
 FitsSpot (Waiting wait.LoadAnswer) what = is_answer what ≡ true
 FitsSpot (Waiting (wait.StoreRoot address)) what = is_given what ≡ true
-FitsSpot (Entering at Waited) what = is_answer what ≡ true
+FitsSpot (Entering spot Waited) what = is_answer what ≡ true
 FitsSpot _ what = what ≡ nothing
 
 -- What a mutator has asked for stands in the words of its requests and answers; and behind the access that asks for a pause, the word of
@@ -107,12 +107,12 @@ pub record StandsFor (config : Config) (stage : Stage Actor) (graph : Graph) : T
   pub block : Plot
   pub ghost : Ghost
   pub shared : Shared config (world_of config stage block ghost graph)
-  pub rooms : (a seat : ℕ) (piece : Block) → block a ≡ Some piece → room_of piece ≡ Some seat → seat < seat_count config.mutators config.helpers
+  pub rooms : (address seat : ℕ) (piece : Block) → block address ≡ Some piece → room_of piece ≡ Some seat → seat < seat_count config.mutators config.helpers
   pub promised_to : PromisedToMutators config block
-  pub mutators : (number : ℕ) (a : Actor) (mutator : Mutating) → IsMutator stage number a mutator → HasItsOwn (world_of config stage block ghost graph) mutator
-  pub asked : (number : ℕ) (a : Actor) (mutator : Mutating) → IsMutator stage number a mutator → is_clearing mutator.spot ≡ false → HasAsked (world_of config stage block ghost graph) a.command mutator
-  pub seats : (number : ℕ) (a : Actor) → slice_get stage.machines number ≡ Some a → IsInSeat config (world_of config stage block ghost graph) number a.machine
-  pub served : (number : ℕ) (a : Actor) (mutator : Mutating) → IsMutator stage number a mutator → IsServed config (world_of config stage block ghost graph) a.command mutator
+  pub mutators : (number : ℕ) (actor : Actor) (mutator : Mutating) → IsMutator stage number actor mutator → HasItsOwn (world_of config stage block ghost graph) mutator
+  pub asked : (number : ℕ) (actor : Actor) (mutator : Mutating) → IsMutator stage number actor mutator → is_clearing mutator.spot ≡ false → HasAsked (world_of config stage block ghost graph) actor.command mutator
+  pub seats : (number : ℕ) (actor : Actor) → slice_get stage.machines number ≡ Some actor → IsInSeat config (world_of config stage block ghost graph) number actor.machine
+  pub served : (number : ℕ) (actor : Actor) (mutator : Mutating) → IsMutator stage number actor mutator → IsServed config (world_of config stage block ghost graph) actor.command mutator
 
 -- Whether the reply of the call in progress is settled: what the call has found is on its way into a root, or it leaves. Of who
 -- waits it is where the answer in the table says that the heap is full.
@@ -134,12 +134,12 @@ has_loaded memory found ForRoot = true
 has_loaded memory found (ToCompare object expect value) = not (name_the_same memory found expect)
 
 abbrev pub has_settled : (Word → ℕ) → ℕ → Spot → Bool
-has_settled memory answer (Resolving address at next) = has_loaded memory address next
-has_settled memory answer (Recording at address next) = has_overwritten next
-has_settled memory answer (Showing value at) = true
+has_settled memory answer (Resolving address spot next) = has_loaded memory address next
+has_settled memory answer (Recording spot address next) = has_overwritten next
+has_settled memory answer (Showing value spot) = true
 has_settled memory answer (Leave reply) = true
-has_settled memory answer (Entering at Waited) = answer == 1
-has_settled memory answer (Waiting at) = has_waited answer at
+has_settled memory answer (Entering spot Waited) = answer == 1
+has_settled memory answer (Waiting spot) = has_waited answer spot
 has_settled memory answer _ = false
 
 -- The entries of a mutator in the history are the calls that it has ended and, where the reply of its call in progress is

@@ -19,20 +19,20 @@ abbrev pub standing_at : Spot → Standing
 standing_at Rest = outside
 standing_at (Ended reply) = outside
 standing_at Gone = outside
-standing_at (Entering at then_on) = enter_standing at
-standing_at (Waiting at) = wait_standing at
+standing_at (Entering spot then_on) = enter_standing spot
+standing_at (Waiting spot) = wait_standing spot
 standing_at (Leave reply) = leaves
 standing_at _ = inside
 
 abbrev pub help_standing : HelpSpot → Standing
 help_standing help.LoadEnd = outside
 help_standing help.Gone = outside
-help_standing (help.Entering at) = enter_standing at
+help_standing (help.Entering spot) = enter_standing spot
 help_standing help.Leave = leaves
 help_standing _ = inside
 
 abbrev pub control_standing : ControlSpot → Standing
-control_standing (Stopping at) = stop_standing at
+control_standing (Stopping spot) = stop_standing spot
 control_standing (LoadWord index extent) = works
 control_standing (StoreWord index extent) = works
 control_standing Go = goes

@@ -11,7 +11,7 @@ use Rattle.shen_graph.specs.declared.command.Command.TheVariants.{New}
 use Rattle.shen_graph.specs.declared.command.Reply.{Reply}
 use Rattle.shen_graph.specs.declared.order.Order.{Order}
 use Rattle.shen_graph.specs.declared.order.Order.TheVariants.{Begin}
-use Rattle.table_heap.specs.Driven.{IsDrivenFrom, driver_after}
+use Rattle.table_heap.specs.Drivers.{IsDrivenFrom, driver_after}
 use Rattle.shen_graph.specs.History.{Entry, commands_of}
 use Rattle.shen_graph.specs.Step.{IsNew}
 use Rattle.shen_graph.specs.Valid.{most_objects}
@@ -31,20 +31,20 @@ use Rattle.table_heap.specs.Driving.{HasNotBegun, IsDriving, HasDriven}
 
 -- a list with one element more, where there is one
 abbrev with_one : List Command → Option Command → List Command
-with_one xs None = xs
-with_one xs (Some x) = xs ++ x ∷ []
+with_one script None = script
+with_one script (Some command) = script ++ command ∷ []
 
-one_behind : (xs : List Command) (found : Option Command) → slice_get (with_one xs found) (length xs) ≡ found
+one_behind : (script : List Command) (found : Option Command) → slice_get (with_one script found) (length script) ≡ found
 one_behind [] None = refl
-one_behind [] (Some x) = refl
-one_behind (y ∷ ys) None = one_behind ys None
-one_behind (y ∷ ys) (Some x) = one_behind ys (Some x)
+one_behind [] (Some command) = refl
+one_behind (command ∷ script) None = one_behind script None
+one_behind (command ∷ script) (Some other_command) = one_behind script (Some other_command)
 
-front_of : (xs : List Command) (found : Option Command) → xs ≡ take (length xs) (with_one xs found)
+front_of : (script : List Command) (found : Option Command) → script ≡ take (length script) (with_one script found)
 front_of [] None = refl
-front_of [] (Some x) = refl
-front_of (y ∷ ys) None = ap (λ zs. y ∷ zs) (front_of ys None)
-front_of (y ∷ ys) (Some x) = ap (λ zs. y ∷ zs) (front_of ys (Some x))
+front_of [] (Some command) = refl
+front_of (command ∷ script) None = ap (λ zs. command ∷ zs) (front_of script None)
+front_of (command ∷ script) (Some other_command) = ap (λ zs. command ∷ zs) (front_of script (Some other_command))
 
 makes_is_new : (command : Command) → makes_object command ≡ true → IsNew command
 makes_is_new (New dst refs nums) is = tt
@@ -53,7 +53,7 @@ makes_is_new _ is = absurd cc
 module _ {D : Type 0} (next_of : D → Option Command) (replied : D → Reply → D) (to_come : D → ℕ) where
   -- a mutator that has not begun, and its driver
   pub drives_first : (first : D) (actor : Actor) → to_come first < most_objects → HasNotBegun actor → IsDriving next_of replied to_come first first actor
-  drives_first first actor few fresh = record {
+  drives_first first actor below fresh = record {
     driven = subst (λ es. IsDrivenFrom next_of replied first es) (sym fresh.calls) tt;
     state = sym (ap (driver_after replied first) fresh.calls);
     doing = λ busy. absurd (false≢true (sym busy ∙ fresh.rest));
@@ -61,7 +61,7 @@ module _ {D : Type 0} (next_of : D → Option Command) (replied : D → Reply �
     ended = λ _ gone. absurd (false≢true (sym gone ∙ fresh.free));
     names = record {
       call = λ busy. absurd (false≢true (sym busy ∙ fresh.rest));
-      few = let made = fresh.made in omega (arith, few, made);
+      few = let made = fresh.made in omega (arith, below, made);
     };
   }
 

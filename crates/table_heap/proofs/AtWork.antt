@@ -104,7 +104,7 @@ module _ (progress : Progress) (actor : Actor) (at : IsAtWork progress actor) wh
         on = on_then;
         replies = sym (replies_then ∙ ap (λ g. progress.replies ++ listed g) gives);
         commands = at.commands;
-        made = subst (λ n. HasNames (machine_after pause_image config order got actor.machine) (length progress.script) n) (sym (length-append progress.replies (reply ∷ [])))
+        made = subst (λ replies. HasNames (machine_after pause_image config order got actor.machine) (length progress.script) replies) (sym (length-append progress.replies (reply ∷ [])))
             (names_noted pause_image config order got actor.machine (length progress.script) (length progress.replies) at.made reply gives);
       }
 

@@ -39,17 +39,17 @@ number_at (y ∷ ys) zero x here = cc
 number_at (y ∷ ys) (suc index) x here = number_at ys index x here
 
 -- one word more is read
-pub read_next : (rows words : List ℕ) (at x : ℕ) → at < length words → get_elem? rows at ≡ some x → ((index : ℕ) → index < at → slice_index words index ≡ slice_index rows index)
-    → (index : ℕ) → index < at + 1 → slice_index (slice_set words at x) index ≡ slice_index rows index
-read_next rows words at x within here read index below = by_number (index == at) refl
+pub read_next : (rows words : List ℕ) (other_index x : ℕ) → other_index < length words → get_elem? rows other_index ≡ some x → ((index : ℕ) → index < other_index → slice_index words index ≡ slice_index rows index)
+    → (index : ℕ) → index < other_index + 1 → slice_index (slice_set words other_index x) index ≡ slice_index rows index
+read_next rows words other_index x within here read index below = by_number (index == other_index) refl
   where
-    by_number : (holds : Bool) → (index == at) ≡ holds → slice_index (slice_set words at x) index ≡ slice_index rows index
+    by_number : (holds : Bool) → (index == other_index) ≡ holds → slice_index (slice_set words other_index x) index ≡ slice_index rows index
     by_number true is =
-        let same : index ≡ at = grind (arith, nat_tests) in
-        ap (slice_index (slice_set words at x)) same ∙ get_or-set_same words at x 0 within ∙ sym (number_at rows at x here) ∙ ap (slice_index rows) (sym same)
+        let same : index ≡ other_index = grind (arith, nat_tests) in
+        ap (slice_index (slice_set words other_index x)) same ∙ get_or-set_same words other_index x 0 within ∙ sym (number_at rows other_index x here) ∙ ap (slice_index rows) (sym same)
     by_number false is =
-        let other : index ≢ at = grind (arith, nat_tests) in
-        get_or-set_other words at index x 0 other ∙ read index (grind (arith, nat_tests))
+        let other : index ≢ other_index = grind (arith, nat_tests) in
+        get_or-set_other words other_index index x 0 other ∙ read index (grind (arith, nat_tests))
 
 -- where memory has each machine, the view has all
 pub view_is_whole : (key : HeapKey) (config : Config) → key.config ≡ config → (view : View Actor) (items : View Machine) → kept_in_view machine_in view ≡ items → length items ≡ seat_count config.mutators config.helpers
@@ -68,8 +68,8 @@ pub view_is_calm : (view : View Actor) (number : ℕ) → view ≡ whole (machin
 view_is_calm view number all idle = idle_is_calm (slice_get (machines_of view) number) (λ actor is. idle actor (ap (λ v. machine_of v number) all ∙ machine_of-whole (machines_of view) number ∙ is))
 
 -- the same stage, with other names for the key, the configuration, the words and the view
-pub reached_as : (other_key k : HeapKey) (config : Config) (words read : List ℕ) (view seen : View Actor) → other_key ≡ k → k.config ≡ config → words ≡ read → view ≡ seen
-    → IsReached (heap_kind other_key.config) (start_of_key other_key) (record { words = words; machines = machines_of view }) → IsReached (heap_kind config) (start_of_key k) (record { words = read; machines = machines_of seen })
+pub reached_as : (other_key key : HeapKey) (config : Config) (words read : List ℕ) (view seen : View Actor) → other_key ≡ key → key.config ≡ config → words ≡ read → view ≡ seen
+    → IsReached (heap_kind other_key.config) (start_of_key other_key) (record { words = words; machines = machines_of view }) → IsReached (heap_kind config) (start_of_key key) (record { words = read; machines = machines_of seen })
 reached_as other_key k other_config words read view seen key config all same reached =
     subst (λ (config : Config). IsReached (heap_kind config) (start_of_key k) (record { words = read; machines = machines_of seen })) config
     (subst (λ (key : HeapKey). IsReached (heap_kind key.config) (start_of_key key) (record { words = read; machines = machines_of seen })) key
@@ -80,10 +80,10 @@ reached_as other_key k other_config words read view seen key config all same rea
 control_there : (key : HeapKey) (stage : Stage Actor) → IsReached (heap_kind key.config) (start_of_key key) stage → (actor : Actor) → slice_get stage.machines (control_number key.config) ≡ Some actor → is_some (control_in actor.machine) ≡ true
 control_there key stage reached actor here =
     begun key (is_some (control_in actor.machine) ≡ true) (hlevel Bool-set) (λ g begins.
-    let c = key.config in
-    let run = run_from c (start_of_key key) g begins reached.events in
-    let there : slice_get (ending pause_image c run).machines (control_number c) ≡ Some actor = ap (λ x. slice_get x.machines (control_number c)) reached.ends ∙ here in
-    let role = control_of c (control_number c) actor.machine ((run_sound pause_image heap_pauses c run).of_heap.roles (control_number c) actor there) refl in
+    let config = key.config in
+    let run = run_from config (start_of_key key) g begins reached.events in
+    let there : slice_get (ending pause_image config run).machines (control_number config) ≡ Some actor = ap (λ x. slice_get x.machines (control_number config)) reached.ends ∙ here in
+    let role = control_of config (control_number config) actor.machine ((run_sound pause_image heap_pauses config run).of_heap.roles (control_number config) actor there) refl in
     ap (λ machine. is_some (control_in machine)) role.1)
 
 -- so memory has it there

@@ -56,9 +56,9 @@ start_count key = begun key (length (start_of_key key).machines ≡ seat_count k
 
 -- the first of them are the mutators
 role_of_number : (config : Config) (number : ℕ) (machine : Machine) → HasNumber config number machine → is_mutating machine ≡ nat_lt number config.mutators
-role_of_number config number (mutating m) has = sym (lt-ltb number config.mutators has.1)
-role_of_number config number (helping h) has = sym (le-ltb number config.mutators has.1)
-role_of_number config number (controlling k) has = sym (le-ltb number config.mutators (omega (arith, has)))
+role_of_number config number (mutating mutator) has = sym (lt-ltb number config.mutators has.1)
+role_of_number config number (helping helper) has = sym (le-ltb number config.mutators has.1)
+role_of_number config number (controlling control) has = sym (le-ltb number config.mutators (omega (arith, has)))
 
 pub start_role : (key : HeapKey) (number : ℕ) (actor : Actor) → slice_get (start_of_key key).machines number ≡ Some actor → is_mutating actor.machine ≡ nat_lt number key.config.mutators
 start_role key number actor here =
@@ -84,7 +84,7 @@ gone_is_calm (StoreWord index extent) image gone = absurd cc
 gone_is_calm _ image gone = refl
 
 machine_is_calm : (machine : Machine) → takes_of machine Nothing ≡ false → image_read machine ≡ None
-machine_is_calm (controlling k) idle = gone_is_calm k.spot k.image idle
+machine_is_calm (controlling control) idle = gone_is_calm control.spot control.image idle
 machine_is_calm _ idle = refl
 
 pub idle_is_calm : (found : Option Actor) → ((actor : Actor) → found ≡ Some actor → takes_of actor.machine Nothing ≡ false) → image_of found ≡ None

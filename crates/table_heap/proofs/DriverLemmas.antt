@@ -3,14 +3,14 @@ use Rattle.std.proofs.Common.{◌≡◌, List, [], ◌∷◌, ◌++◌, Option, 
 use Rattle.shen_graph.specs.declared.command.Command.{Command}
 use Rattle.shen_graph.specs.declared.command.Reply.{Reply}
 use Rattle.shen_graph.specs.History.{Entry}
-use Rattle.table_heap.specs.Driven.{IsDrivenFrom, driver_after}
+use Rattle.table_heap.specs.Drivers.{IsDrivenFrom, driver_after}
 
 module _ {D : Type 0} (next_of : D → Option Command) (replied : D → Reply → D) where
   -- one entry more is the one that the driver gives after the others
-  pub driven_more : (state : D) (es : List Entry) (entry : Entry) → IsDrivenFrom next_of replied state es → next_of (driver_after replied state es) ≡ Some entry.command → IsDrivenFrom next_of replied state (es ++ entry ∷ [])
+  pub driven_more : (state : D) (entries : List Entry) (entry : Entry) → IsDrivenFrom next_of replied state entries → next_of (driver_after replied state entries) ≡ Some entry.command → IsDrivenFrom next_of replied state (entries ++ entry ∷ [])
   driven_more state [] entry driven next = (next, tt)
-  driven_more state (x ∷ xs) entry driven next = (driven.0, driven_more (replied state x.reply) xs entry driven.1 next)
+  driven_more state (other_entry ∷ entries) entry driven next = (driven.0, driven_more (replied state other_entry.reply) entries entry driven.1 next)
 
-  pub after_more : (state : D) (es : List Entry) (entry : Entry) → driver_after replied state (es ++ entry ∷ []) ≡ replied (driver_after replied state es) entry.reply
+  pub after_more : (state : D) (entries : List Entry) (entry : Entry) → driver_after replied state (entries ++ entry ∷ []) ≡ replied (driver_after replied state entries) entry.reply
   after_more state [] entry = refl
-  after_more state (x ∷ xs) entry = after_more (replied state x.reply) xs entry
+  after_more state (other_entry ∷ entries) entry = after_more (replied state other_entry.reply) entries entry

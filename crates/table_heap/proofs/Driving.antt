@@ -1,10 +1,12 @@
 -- The mutators of a bundle and their drivers: what stays from turn to turn.
-use Rattle.std.proofs.Common.{◌≡◌, ◌<◌, ◌≤◌, ℕ, zero, suc, Bool, true, false, ◌&&◌, List, [], ◌∷◌, length, All, Option, Some, None, refl, sym, ap, ◌∙◌, subst, arith}
+use Rattle.std.proofs.Common.{◌≡◌, ◌<◌, ◌≤◌, ℕ, true, ◌&&◌, List, length, Option, Some, None, sym, ap, ◌∙◌, subst, arith}
 use Rattle.std.specs.Prelude.{slice_get, slice_set, nat_lt, is_some, IfSome, if◌then◌else◌}
-use Rattle.std.proofs.lemmas.Bool.{false≢true, ltb-true}
+use Rattle.std.proofs.lemmas.Bool.{ltb-true}
 use Rattle.std.proofs.lemmas.List.{length-set}
-use Rattle.std.proofs.lemmas.Option.{slice_get_within, get_or_from_slice_get, same_Some}
-use Rattle.heap_words.proofs.Places.{slice_get-set_same, slice_get-set_other}
+use Rattle.std.proofs.lemmas.Option.{slice_get_within, same_Some}
+use Rattle.shen_graph.proofs.Lists.{element_of_all}
+use Rattle.shen_graph.proofs.Bools.{both_true}
+use Rattle.heap_words.proofs.Lists.{element_at, slice_get-set_other, slice_get-set_same}
 use Rattle.shared_table.specs.Views.{machine_of}
 use Rattle.shen_graph.specs.declared.command.Command.{Command}
 use Rattle.shen_graph.specs.declared.command.Reply.{Reply}
@@ -28,24 +30,9 @@ use Rattle.table_heap.proofs.Counting.{same_count, counts_above, counts_differ}
 use Rattle.table_heap.proofs.Running.{at_number, role_at, in_view}
 use Rattle.table_heap.proofs.Turning.{mid, was, order, got, here, view_is, then_is, no_order, turn_was, role_then, none_given, some_given, role_given, reply_given, each_after}
 
--- what holds of all elements of a list holds of the one at a place
-one_of_these : {A : Type 0} (P : A → Type 0) (xs : List A) (index : ℕ) (x : A) → All P xs → slice_get xs index ≡ Some x → P x
-one_of_these P xs index x all here = subst P (get_or_from_slice_get xs index x x here) (all index x (slice_get_within xs index x here))
-
--- what stands at a place of a list
-pub found_at : {A : Type 0} (xs : List A) (index : ℕ) → index < length xs → (x : A) × (slice_get xs index ≡ Some x)
-found_at [] index low = absurd (omega (arith, low))
-found_at (y ∷ ys) zero low = (y, refl)
-found_at (y ∷ ys) (suc index) low = found_at ys index (omega (arith, low))
-
-both : (holds other_holds : Bool) → holds ≡ true → other_holds ≡ true → (holds && other_holds) ≡ true
-both true true one two = refl
-both true false one two = absurd (false≢true two)
-both false holds one two = absurd (false≢true one)
-
 -- a machine of the view that is a mutator
 pub is_mutator : (bundle : Bundle) (number : ℕ) (actor : Actor) → machine_of (view_of bundle) number ≡ Some actor → is_mutating actor.machine ≡ true → has_mutator bundle number ≡ true
-is_mutator bundle number actor here role = both _ _ (ap is_some here) (sym (role_at bundle number actor here) ∙ role)
+is_mutator bundle number actor here role = both_true _ _ (ap is_some here) (sym (role_at bundle number actor here) ∙ role)
 
 -- the driver of a mutator stands within the list
 pub within_drivers : (bundle : Bundle) (number : ℕ) → has_mutator bundle number ≡ true → nat_lt number bundle.config.mutators ≡ true → mutators_below bundle number < mutators_below bundle bundle.config.mutators
@@ -66,12 +53,12 @@ module _ {D : Type 0} (next_of : D → Option Command) (replied : D → Reply �
     mutators = λ number a here role.
         let low = within_drivers bundle number (is_mutator bundle number a here role) (sym (role_at bundle number a here) ∙ role) in
         let count : length drivers ≡ mutators_below bundle bundle.config.mutators = can.count in
-        let place = found_at drivers (mutators_below bundle number) (omega (arith, low, count)) in (
+        let place = element_at drivers (mutators_below bundle number) (omega (arith, low, count)) in (
           place.0,
           place.0,
           place.1,
           place.1,
-          drives_first next_of replied to_come place.0 a (one_of_these (λ d. to_come d < most_objects) drivers (mutators_below bundle number) place.0 can.few place.1) (can.mutators number a here role),
+          drives_first next_of replied to_come place.0 a (element_of_all (λ d. to_come d < most_objects) drivers (mutators_below bundle number) place.0 can.few place.1) (can.mutators number a here role),
         );
   }
 

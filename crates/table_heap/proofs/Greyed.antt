@@ -54,15 +54,15 @@ module _ (config : Config) where
     known = λ k address there. ⊎_elim
         (λ (now : (k ≡ number) × (found ≡ Some address)). (
           there_still items number machine other_machine here k (ap (λ j. is_some (machine_of items j)) now.0 ∙ ap is_some here),
-          subst (λ x. IfSome x (λ a. IsWord config (Heap a))) now.1 inside,
+          subst (λ x. IfSome x (λ address. IsWord config (Heap address))) now.1 inside,
         ))
         (λ (before : machine_of greyed k ≡ Some address). let known = are.known k address before in (there_still items number machine other_machine here k known.0, known.1))
         (set_at greyed number found k address there);
   }
 
   -- the same of lists with other names
-  pub greys_as : (items m : View Machine) (greyed g : View ℕ) → items ≡ m → greyed ≡ g → AreGreyedBy config m g → AreGreyedBy config items greyed
-  greys_as items m greyed g same greys are = subst (λ v. AreGreyedBy config v greyed) (sym same) (subst (AreGreyedBy config m) (sym greys) are)
+  pub greys_as : (items machines : View Machine) (greyed other_greyed : View ℕ) → items ≡ machines → greyed ≡ other_greyed → AreGreyedBy config machines other_greyed → AreGreyedBy config items greyed
+  greys_as items machines greyed g same greys are = subst (λ machines. AreGreyedBy config machines greyed) (sym same) (subst (AreGreyedBy config machines) (sym greys) are)
 
   -- what is known of an address that was made grey
   pub greys_inside : (items : View Machine) (greyed : View ℕ) (k : ℕ) (found : Option ℕ) → machine_of greyed k ≡ found → AreGreyedBy config items greyed → IfSome found (λ address. IsWord config (Heap address))
@@ -89,12 +89,12 @@ module _ (config : Config) where
       by_test k address false found is = absurd cc
 
   -- the machines of two bundles
-  pub greys_merged : (v w : View Machine) (x y : View ℕ) → length v ≡ length w → AreGreyedBy config v x → AreGreyedBy config w y → AreGreyedBy config (merged v w) (merged x y)
-  greys_merged v w x y long first second = record {
-    numbers = length-merged x y (first.numbers ∙ long ∙ sym second.numbers) ∙ first.numbers ∙ sym (length-merged v w long);
-    known = each_merged (λ k address. (is_some (machine_of (merged v w) k) ≡ true) × IsWord config (Heap address)) x y
-        (λ k address there. let known = first.known k address there in (ap is_some (machine_of-merged v w k) ∙ first_there (machine_of v k) (machine_of w k) known.0, known.1))
-        (λ k address there. let known = second.known k address there in (ap is_some (machine_of-merged v w k) ∙ second_there (machine_of v k) (machine_of w k) known.0, known.1));
+  pub greys_merged : (machines other_machines : View Machine) (greyed other_greyed : View ℕ) → length machines ≡ length other_machines → AreGreyedBy config machines greyed → AreGreyedBy config other_machines other_greyed → AreGreyedBy config (merged machines other_machines) (merged greyed other_greyed)
+  greys_merged machines w greyed y long first second = record {
+    numbers = length-merged greyed y (first.numbers ∙ long ∙ sym second.numbers) ∙ first.numbers ∙ sym (length-merged machines w long);
+    known = each_merged (λ k address. (is_some (machine_of (merged machines w) k) ≡ true) × IsWord config (Heap address)) greyed y
+        (λ k address there. let known = first.known k address there in (ap is_some (machine_of-merged machines w k) ∙ first_there (machine_of machines k) (machine_of w k) known.0, known.1))
+        (λ k address there. let known = second.known k address there in (ap is_some (machine_of-merged machines w k) ∙ second_there (machine_of machines k) (machine_of w k) known.0, known.1));
   }
     where
       first_there : (found other_found : Option Machine) → is_some found ≡ true → is_some (whichever_is_there found other_found) ≡ true

@@ -39,7 +39,7 @@ total_seen (Some m ∷ xs) = ap (λ t. hints_of (shown m) + t) (total_seen xs)
 
 seen_whole : (actors : List Actor) → seen_total (kept_in_view machine_in (whole actors)) ≡ sum_by actor_hints actors
 seen_whole [] = refl
-seen_whole (a ∷ rest) = ap (λ t. hints_of a.machine + t) (seen_whole rest) ∙ sym (sum_by-cons actor_hints a rest)
+seen_whole (actor ∷ rest) = ap (λ t. hints_of actor.machine + t) (seen_whole rest) ∙ sym (sum_by-cons actor_hints actor rest)
 
 pub total_of : (v : View memory.Machine) (actors : List Actor) → kept_in_view shown v ≡ kept_in_view machine_in (whole actors) → total v ≡ sum_by actor_hints actors
 total_of v actors same = total_seen v ∙ ap seen_total same ∙ seen_whole actors

@@ -42,8 +42,8 @@ same_machine old new number unmoved =
     ∙ ap (λ v. unwrap_or (machine_of v number) no_machine) old.kept
 
 unmoved_more : (a b d : Bundle) → IsUnmoved a b → IsUnmoved b d → IsUnmoved a d
-unmoved_more a b d first second = record {
-  same = same_bundle_more a b d first.same second.same;
+unmoved_more bundle other_bundle d first second = record {
+  same = same_bundle_more bundle other_bundle d first.same second.same;
   view = second.view ∙ first.view;
   steps = second.steps ∙ first.steps;
   greyed = second.greyed ∙ first.greyed;
@@ -51,9 +51,9 @@ unmoved_more a b d first second = record {
 
 -- who takes hints takes each
 takes_any : (machine : Machine) (address : ℕ) → takes_hint machine ≡ true → takes_of machine Nothing ≡ true → takes_of machine (Hint address) ≡ true
-takes_any (mutating m) address hints goes = absurd (cc (hints))
-takes_any (helping h) address hints goes = rw hints goes
-takes_any (controlling k) address hints goes = rw hints goes
+takes_any (mutating mutator) address hints goes = absurd (cc (hints))
+takes_any (helping helper) address hints goes = rw hints goes
+takes_any (controlling control) address hints goes = rw hints goes
 
 -- The machine with its order, or with a hint: it has a turn, by an order that it may have then.
 pub record HasHinted (old new : Bundle) (next : Option Command) (number : ℕ) : Type 0 where

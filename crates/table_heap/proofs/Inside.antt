@@ -58,7 +58,7 @@ module _ (number : ℕ) where
 
   -- the work of all mutators
   pub gone_work : (count : ℕ) (old new : Bundle) → HasHadTurns count old new number → (jobs : Jobs) → AreAtWork old jobs → AreAtWork new jobs
-  gone_work zero old new is jobs before = subst (λ b. AreAtWork b jobs) (sym is) before
+  gone_work zero old new is jobs before = subst (λ bundle. AreAtWork bundle jobs) (sym is) before
   gone_work (suc count) old new then jobs before =
       let next = next_for (config_in then.0) jobs number in
       turned_on then.0 new next number stepped.More (then.3 next) jobs refl (gone_work count old then.0 then.1 jobs before) (λ done. absurd cc)
@@ -66,7 +66,7 @@ module _ (number : ℕ) where
   -- and their drivers
   module _ {D : Type 0} (next_of : D → Option Command) (replied : D → Reply → D) (to_come : D → ℕ) (firsts drivers : List D) where
     pub gone_driving : (count : ℕ) (old new : Bundle) → HasHadTurns count old new number → AreDriving next_of replied to_come old firsts drivers → AreDriving next_of replied to_come new firsts drivers
-    gone_driving zero old new is before = subst (λ b. AreDriving next_of replied to_come b firsts drivers) (sym is) before
+    gone_driving zero old new is before = subst (λ bundle. AreDriving next_of replied to_come bundle firsts drivers) (sym is) before
     gone_driving (suc count) old new then before =
         let next = next_driven next_of then.0 drivers number in
         driven_on next_of replied to_come then.0 new next number stepped.More (then.3 next) then.2 firsts drivers refl (gone_driving count old then.0 then.1 before) (λ done. absurd cc)

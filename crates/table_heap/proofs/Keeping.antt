@@ -16,7 +16,7 @@ use Rattle.table_heap.specs.Rule.{bounds, IsBetween, AllKnow, IsKnown, AreHints}
 there_below : (views : List Bounds) (port : ℕ) (v : Bounds) → get_elem? views port ≡ some v → port < length views
 there_below [] port v is = absurd (some-ne-none v (sym is))
 there_below (x ∷ xs) zero v is = omega arith
-there_below (x ∷ xs) (suc n) v is = let below = there_below xs n v is in omega (arith, below)
+there_below (x ∷ xs) (suc port) v is = let below = there_below xs port v is in omega (arith, below)
 
 -- the first parts and the last parts of what holds of all
 front : (P : ℕ → Type 0) (xs ys : List ℕ) → All P (xs ++ ys) → All P xs
@@ -36,14 +36,14 @@ least_below regions words least from size holds any is begins_at has =
     omega (arith, positive, is, begins_at, has)
 
 -- where there is one pass, all that there is after a change is the changed one
-only : (views : List Bounds) (port : ℕ) (v w : Bounds) → length views ≡ 1 → get_elem? views port ≡ some v → (j : ℕ) (u : Bounds) → get_elem? (slice_set views port w) j ≡ some u → u ≡ w
-only views port v w one at j u is = ⊎_elim
-    (λ (same : (j ≡ port) × (w ≡ u)). sym same.1)
-    (λ (other : (j ≢ port) × (get_elem? views j ≡ some u)).
+only : (views : List Bounds) (port : ℕ) (v w : Bounds) → length views ≡ 1 → get_elem? views port ≡ some v → (other_port : ℕ) (u : Bounds) → get_elem? (slice_set views port w) other_port ≡ some u → u ≡ w
+only views port v w one at other_port u is = ⊎_elim
+    (λ (same : (other_port ≡ port) × (w ≡ u)). sym same.1)
+    (λ (other : (other_port ≢ port) × (get_elem? views other_port ≡ some u)).
     let low = there_below views port v at in
-    let low_too = there_below views j u other.1 in
+    let low_too = there_below views other_port u other.1 in
     absurd (other.0 (omega (arith, low, low_too, one))))
-    (at_set views port j w u is)
+    (at_set views port other_port w u is)
 
 -- at first
 pub begins : AreHints [] (bounds 0 0 0 ∷ [])
@@ -54,26 +54,26 @@ begins zero v is = subst (λ u. IsKnown u.known u [] (bounds 0 0 0 ∷ [])) (fir
 begins (suc n) v is = absurd (some-ne-none v (sym is))
 
 -- the least address is told, and then the greatest
-pub tells_least : (v : Bounds) (port x : ℕ) → v ≡ bounds 0 0 0 → Pushes AreHints port v (x ∷ []) (λ w. (x ∷ [] ≡ w.least ∷ []) × (w ≡ bounds 1 w.least 0))
-tells_least v port x nothing items views holds at =
+pub tells_least : (v : Bounds) (port least : ℕ) → v ≡ bounds 0 0 0 → Pushes AreHints port v (least ∷ []) (λ w. (least ∷ [] ≡ w.least ∷ []) × (w ≡ bounds 1 w.least 0))
+tells_least v port least nothing items views holds at =
     let known = subst (λ u. IsKnown u.known u items views) nothing (holds port v at) in
-    let w : Bounds = bounds 1 x 0 in
+    let w : Bounds = bounds 1 least 0 in
     let views_then : List Bounds = slice_set views port w in (
       w,
-      (λ j u is. subst (λ y. IsKnown y.known y (items ++ x ∷ []) views_then) (sym (only views port v w known.1 at j u is))
-          (ap (λ l. l ++ x ∷ []) known.0, length-set views port w ∙ known.1)),
+      (λ j u is. subst (λ y. IsKnown y.known y (items ++ least ∷ []) views_then) (sym (only views port v w known.1 at j u is))
+          (ap (λ l. l ++ least ∷ []) known.0, length-set views port w ∙ known.1)),
       (refl, refl),
     )
 
-pub tells_greatest : (v : Bounds) (port x : ℕ) → v ≡ bounds 1 v.least 0 → v.least ≤ x → Pushes AreHints port v (x ∷ []) (λ w. (x ∷ [] ≡ w.greatest ∷ []) × (w ≡ bounds 2 v.least w.greatest))
-tells_greatest v port x one low items views holds at =
-    let known = subst (λ n. IsKnown n v items views) (ap (λ u. u.known) one) (holds port v at) in
-    let w : Bounds = bounds 2 v.least x in
+pub tells_greatest : (v : Bounds) (port greatest : ℕ) → v ≡ bounds 1 v.least 0 → v.least ≤ greatest → Pushes AreHints port v (greatest ∷ []) (λ w. (greatest ∷ [] ≡ w.greatest ∷ []) × (w ≡ bounds 2 v.least w.greatest))
+tells_greatest v port greatest one low items views holds at =
+    let known = subst (λ known. IsKnown known v items views) (ap (λ u. u.known) one) (holds port v at) in
+    let w : Bounds = bounds 2 v.least greatest in
     let views_then : List Bounds = slice_set views port w in
-    let both : All (IsBetween w) (v.least ∷ x ∷ []) = All-cons (IsBetween w) v.least (x ∷ []) (omega arith, low) (one_within w x (low, omega arith)) in (
+    let both : All (IsBetween w) (v.least ∷ greatest ∷ []) = All-cons (IsBetween w) v.least (greatest ∷ []) (omega arith, low) (one_within w greatest (low, omega arith)) in (
       w,
-      (λ j u is. subst (λ y. IsKnown y.known y (items ++ x ∷ []) views_then) (sym (only views port v w known.1 at j u is))
-          (subst (λ l. All (IsBetween w) l) (sym (ap (λ l. l ++ x ∷ []) known.0)) both, λ i z there. only views port v w known.1 at i z there)),
+      (λ j u is. subst (λ y. IsKnown y.known y (items ++ greatest ∷ []) views_then) (sym (only views port v w known.1 at j u is))
+          (subst (λ l. All (IsBetween w) l) (sym (ap (λ l. l ++ greatest ∷ []) known.0)) both, λ i z there. only views port v w known.1 at i z there)),
       (refl, refl),
     )
 
@@ -88,11 +88,11 @@ module _ (v : Bounds) (two : v.known ≡ 2) where
 
   -- the rule of passes that know both
   rule_of : (items : List ℕ) (views : List Bounds) → All (IsBetween v) items → AllKnow views v → AreHints items views
-  rule_of items views within all j u is = subst (λ y. IsKnown y.known y items views) (sym (all j u is)) (subst (λ n. IsKnown n v items views) (sym two) (within, all))
+  rule_of items views within all j u is = subst (λ y. IsKnown y.known y items views) (sym (all j u is)) (subst (λ known. IsKnown known v items views) (sym two) (within, all))
 
   -- and what it says to one of them
   known_to : (items : List ℕ) (views : List Bounds) (port : ℕ) → AreHints items views → get_elem? views port ≡ some v → All (IsBetween v) items × AllKnow views v
-  known_to items views port holds at = subst (λ n. IsKnown n v items views) two (holds port v at)
+  known_to items views port holds at = subst (λ known. IsKnown known v items views) two (holds port v at)
 
   pub adds : (port x : ℕ) → IsBetween v x → Pushes AreHints port v (x ∷ []) (λ w. (w ≡ v) × All (IsBetween v) (x ∷ []))
   adds port x within items views holds at =

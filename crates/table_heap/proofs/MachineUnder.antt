@@ -19,7 +19,7 @@ module _ {T S : Type 0} (f : T → S) where
   pub never_none : (items : View T) (number : ℕ) (found : Option T) → is_some (machine_of (kept_in_view f items) number) ≡ true → found ≡ get_or items number found → found ≡ None → ⊥
   never_none items number found here value none =
       let a : machine_of items number ≡ None = machine_of-index items number found (within items number here) ∙ sym value ∙ none in
-      let b : is_some (machine_of items number) ≡ true = sym (kept_some f items number) ∙ here in
+      let same : is_some (machine_of items number) ≡ true = sym (kept_some f items number) ∙ here in
       let d : is_some (machine_of items number) ≡ false = ap is_some a in
       cc
 

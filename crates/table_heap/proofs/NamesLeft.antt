@@ -30,17 +30,17 @@ command_kept config mutator got Rest = refl
 command_kept config mutator got _ = refl
 
 pub call_kept : (change : Change) (config : Config) (got : ℕ) (machine : Machine) → call_in (machine_after change config Nothing got machine) ≡ call_in machine
-call_kept change config got (mutating m) = command_kept config m got m.spot
+call_kept change config got (mutating mutator) = command_kept config mutator got mutator.spot
 call_kept change config got _ = refl
 
 -- a mutator that begins a call has its command
 pub call_begins : (change : Change) (config : Config) (command : Command) (got : ℕ) (machine : Machine) → may_begin machine ≡ true
     → (call_in (machine_after change config (Begin command) got machine) ≡ command) × (stands_in_its_call (machine_after change config (Begin command) got machine) ≡ true)
-call_begins change config command got (mutating m) may = by_spot m.spot may
+call_begins change config command got (mutating mutator) may = by_spot mutator.spot may
   where
     by_spot : (spot : Spot) → takes_commands spot ≡ true
-        → ((next_at config m (Begin command) got spot).kept.command ≡ command)
-        × (may_stand (makes_object (next_at config m (Begin command) got spot).kept.command) (next_at config m (Begin command) got spot).spot ≡ true)
+        → ((next_at config mutator (Begin command) got spot).kept.command ≡ command)
+        × (may_stand (makes_object (next_at config mutator (Begin command) got spot).kept.command) (next_at config mutator (Begin command) got spot).spot ≡ true)
     by_spot Rest may = (refl, refl)
     by_spot (Ended reply) may = (refl, refl)
     by_spot _ may = absurd cc
@@ -49,13 +49,13 @@ call_begins change config command got _ may = absurd cc
 -- a call that makes no object has made none after its step
 none_made : (config : Config) (mutator : Mutating) (got : ℕ) (spot : Spot) → may_stand false spot ≡ true → (next_at config mutator Nothing got spot).made ≡ mutator.made
 none_made config mutator got Rest may = absurd cc
-none_made config mutator got (Making at) may = absurd cc
-none_made config mutator got (Waiting at) may = absurd cc
+none_made config mutator got (Making spot) may = absurd cc
+none_made config mutator got (Waiting spot) may = absurd cc
 none_made config mutator got _ may = refl
 
 none_made_in : (change : Change) (config : Config) (got : ℕ) (machine : Machine) → makes_object (call_in machine) ≡ false → stands_in_its_call machine ≡ true
     → made_of_machine (machine_after change config Nothing got machine) ≡ made_of_machine machine
-none_made_in change config got (mutating m) none stands = none_made config m got m.spot (subst (λ b. may_stand b m.spot ≡ true) none stands)
+none_made_in change config got (mutating mutator) none stands = none_made config mutator got mutator.spot (subst (λ b. may_stand b mutator.spot ≡ true) none stands)
 none_made_in change config got _ none stands = refl
 
 -- an order makes nothing
@@ -68,11 +68,11 @@ begun_same (Hint address) mutator = refl
 -- between two calls nothing is made, whatever follows
 made_at_rest : (change : Change) (config : Config) (order : Order) (got : ℕ) (machine : Machine) → may_begin machine ≡ true
     → made_of_machine (machine_after change config order got machine) ≡ made_of_machine machine
-made_at_rest change config order got (mutating m) may = by_spot m.spot may
+made_at_rest change config order got (mutating mutator) may = by_spot mutator.spot may
   where
-    by_spot : (spot : Spot) → takes_commands spot ≡ true → (next_at config m order got spot).made ≡ m.made
-    by_spot Rest may = begun_same order m
-    by_spot (Ended reply) may = begun_same order m
+    by_spot : (spot : Spot) → takes_commands spot ≡ true → (next_at config mutator order got spot).made ≡ mutator.made
+    by_spot Rest may = begun_same order mutator
+    by_spot (Ended reply) may = begun_same order mutator
     by_spot _ may = absurd cc
 made_at_rest change config order got _ may = absurd cc
 
@@ -95,9 +95,9 @@ name_left machine to_come names may =
 -- a mutator that goes on with its call stands where that call may
 stands_then : (change : Change) (config : Config) (got : ℕ) (machine : Machine) → is_mutating machine ≡ true → stands_in_its_call machine ≡ true → reply_of_step machine ≡ None
     → stands_in_its_call (machine_after change config Nothing got machine) ≡ true
-stands_then change config got (mutating m) role stands none =
-    subst (λ k. may_stand (makes_object k) (next_at config m Nothing got m.spot).spot ≡ true) (sym (command_kept config m got m.spot))
-    (call_stands (makes_object m.kept.command) config m got m.spot (λ own. own) stands none)
+stands_then change config got (mutating mutator) role stands none =
+    subst (λ k. may_stand (makes_object k) (next_at config mutator Nothing got mutator.spot).spot ≡ true) (sym (command_kept config mutator got mutator.spot))
+    (call_stands (makes_object mutator.kept.command) config mutator got mutator.spot (λ own. own) stands none)
 stands_then change config got _ role stands none = absurd cc
 
 module _ (change : Change) (config : Config) (next : Option Command) (order : Order) (got : ℕ) (machine : Machine) (to_come : ℕ) (role : is_mutating machine ≡ true)

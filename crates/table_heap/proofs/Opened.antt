@@ -1,5 +1,5 @@
 -- A heap before its first event, and its machines as they are dealt to bundles.
-use Rattle.std.proofs.Common.{◌≡◌, ℕ, zero, suc, ◌+◌, ◌-◌, Bool, true, false, not, List, [], ◌∷◌, ◌++◌, length, map, All, Option, Some, None, refl, sym, ap, ◌∙◌, subst, arith}
+use Rattle.std.proofs.Common.{◌≡◌, ℕ, zero, suc, ◌+◌, ◌-◌, Bool, true, false, not, List, [], ◌∷◌, length, map, All, Option, Some, None, refl, sym, ap, ◌∙◌, subst, arith}
 use Rattle.std.specs.Prelude.{slice_get, if◌then◌else◌}
 use Rattle.std.specs.Option.{option_map}
 use Rattle.std.specs.List.{range_with_len}
@@ -74,7 +74,7 @@ module _ (config : Config) (left : Left) (image : Image) (counts : List ℕ) (si
   pub left_begins : ∥ ((graph : Graph) × CanBeginFrom (images.config_of image) (images.memory_of image) counts graph) ∥₁ → ∥ ((graph : Graph) × Begins config (start_from config (Some left)) graph) ∥₁
   left_begins some = ∥∥₁_map some (λ can. (
     can.0,
-    subst (λ (k : Config). Begins k (start_from config (Some left)) can.0) (sym sizes)
+    subst (λ (other_config : Config). Begins other_config (start_from config (Some left)) can.0) (sym sizes)
         (subst (λ (stage : Stage Actor). Begins (images.config_of image) stage can.0) (sym left_start) (begins_from (images.config_of image) (images.words_of image) counts image.all_words can.0 can.1)),
   ))
 
@@ -115,7 +115,7 @@ opened_steps (r ∷ rs) zero made there = cc
 opened_steps (r ∷ rs) (suc number) made there = opened_steps rs number made there
 
 -- some of them
-pub picked_some : {R : Type 0} (test : ℕ → Bool) (v : View R) (k : ℕ) (r : R) → machine_of (machines_picked test v) k ≡ Some r → machine_of v k ≡ Some r
+pub picked_some : {R : Type 0} (test : ℕ → Bool) (view : View R) (k : ℕ) (r : R) → machine_of (machines_picked test view) k ≡ Some r → machine_of view k ≡ Some r
 picked_some {R} test v k r there = by_test (test k) (sym (machine_of-picked test v k) ∙ there)
   where
     by_test : (holds : Bool) → (if holds then machine_of v k else None) ≡ Some r → machine_of v k ≡ Some r
@@ -132,11 +132,3 @@ module _ {R : Type 0} (workers : ℕ) (view : View R) where
 
   pub left_next : (bundle : ℕ) → machines_left (is_dealt_to workers bundle) (machines_left (is_dealt_below workers bundle) view) ≡ machines_left (is_dealt_below workers (bundle + 1)) view
   left_next bundle = picked_twice (λ k. not (is_dealt_to workers bundle k)) (λ k. not (is_dealt_below workers bundle k)) (λ k. not (is_dealt_below workers (bundle + 1) k)) view (λ k. grind (arith, nat_tests))
-
--- one element more
-pub each_more : {A : Type 0} (P : ℕ → A → Type 0) (xs : List A) (new : A) (n : ℕ) → length xs ≡ n → ((index : ℕ) (x : A) → slice_get xs index ≡ Some x → P index x) → P n new → (index : ℕ) (x : A) → slice_get (xs ++ new ∷ []) index ≡ Some x → P index x
-each_more P [] new n long each one zero x there = let same : new ≡ x = cc in let n_is : n ≡ 0 = omega (arith, long) in subst (P 0) same (subst (λ j. P j new) n_is one)
-each_more P [] new n long each one (suc index) x there = absurd cc
-each_more P (y ∷ ys) new n long each one zero x there = each zero x there
-each_more P (y ∷ ys) new n long each one (suc index) x there =
-    each_more (λ j z. P (suc j) z) ys new (n - 1) (omega (arith, long)) (λ j z is. each (suc j) z is) (let n_is : n ≡ suc (n - 1) = omega (arith, long) in subst (λ j. P j new) n_is one) index x there

@@ -121,7 +121,7 @@ module _ {D : Type 0} (next_of : D → Option Command) (replied : D → Reply �
   here_before holds is = sym (before.round.same.numbers.here number) ∙ is
 
   one_more : mutators_below old (number + 1) ≡ mutators_below old (suc number)
-  one_more = ap (mutators_below old) (let e : number + 1 ≡ suc number = omega arith in e)
+  one_more = ap (mutators_below old) (let same : number + 1 ≡ suc number = omega arith in same)
 
   pub driven_turn : (new : Bundle) (later : List D) (said : Stepped) (next : Round) (behind : ℕ) → is_some (machine_of (view_of now) number) ≡ true
       → ((firsts : List D) → AreDriving next_of replied to_come now firsts between → AreDriving next_of replied to_come new firsts later)
@@ -146,7 +146,7 @@ module _ {D : Type 0} (next_of : D → Option Command) (replied : D → Reply �
 
 -- a bundle that can start is at work
 pub at_start : (bundle : Bundle) (jobs : Jobs) → CanStart bundle jobs → AreAtWork bundle jobs
-at_start bundle jobs can = record { orders = can.orders; mutators = λ number a here role. starts jobs number a (can.mutators number a here role) }
+at_start bundle jobs can = record { orders = can.orders; mutators = λ number actor here role. starts jobs number actor (can.mutators number actor here role) }
 
 -- where all machines are idle for good the mutators have called their scripts
 pub have_done : (bundle new : Bundle) (jobs later : Jobs) → AreSameJobs (view_of bundle) jobs later → AreAtWork new later → AreIdleForGood new → HaveDone new jobs later

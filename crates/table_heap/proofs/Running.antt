@@ -84,7 +84,7 @@ pub same_jobs_more : (old mid : Bundle) (jobs between later : Jobs) → IsSameBu
 same_jobs_more old mid jobs between later same first second = record {
   scripts = λ t. second.scripts t ∙ first.scripts t;
   numbers = λ t. second.numbers t ∙ first.numbers t;
-  others = λ t none. second.others t (no_mutator_stays old mid t same none) ∙ first.others t none;
+  others = λ number none. second.others number (no_mutator_stays old mid number same none) ∙ first.others number none;
 }
 
 -- the same bundle
@@ -101,7 +101,7 @@ same_bundle_more old mid new first second = record {
 
 -- so it is one of its heap still
 pub still_of : (old new : Bundle) (heap : Heap) → IsSameBundle old new → IsBundleOf old heap → IsBundleOf new heap
-still_of old new heap same of = record { table = same.table ∙ of.table; config = same.config ∙ of.config; key = ap (λ k. k.value) same.key ∙ of.key }
+still_of old new heap same bundle_of = record { table = same.table ∙ bundle_of.table; config = same.config ∙ bundle_of.config; key = ap (λ k. k.value) same.key ∙ bundle_of.key }
 
 -- the work of a bundle that is as it was
 pub work_unchanged : (old new : Bundle) (jobs : Jobs) → IsUnchanged old new → AreAtWork old jobs → AreAtWork new jobs

@@ -21,7 +21,7 @@ use Rattle.table_heap.proofs.Jobs.{has_here, script_here, replies_here}
 use Rattle.table_heap.proofs.Opened.{picked_some}
 
 -- a machine that was dealt to the bundle
-dealt_here : {R : Type 0} (test : ℕ → Bool) (v : View R) (k : ℕ) (r : R) → (if test k then machine_of v k else None) ≡ Some r → test k ≡ true
+dealt_here : {R : Type 0} (test : ℕ → Bool) (view : View R) (k : ℕ) (r : R) → (if test k then machine_of view k else None) ≡ Some r → test k ≡ true
 dealt_here {R} test v k r there = by_test (test k) refl there
   where
     by_test : (holds : Bool) → test k ≡ holds → (if holds then machine_of v k else None) ≡ Some r → test k ≡ true

@@ -29,7 +29,7 @@ one_more old new number said step =
 
 pub steps_are_events : StepsAreEvents
 steps_are_events = record {
-  not_none = λ b number said step. absurd (let more = one_more b b number said step in omega (arith, more));
+  not_none = λ bundle number said step. absurd (let more = one_more bundle bundle number said step in omega (arith, more));
   not_two = λ old mid new first second number one other both step next whole.
       absurd
       (let a = one_more old mid first one step in

@@ -61,7 +61,7 @@ module _ {S : Type 0} (config : Config) (key : HeapKey) (sizes : key.config ≡ 
       pub kept_after : kept_in_view machine_in after.0 ≡ kept_in_view shown (slice_set items number (Some other_machine))
       kept_after =
           kept_step (heap_kind config) (start_of_key key) machine_in number (order_of machine) before after got (shown machine) (shown other_machine) took seen_here
-          (λ a is. ap machine_in (kind_took config a (order_of machine) got) ∙ ap (machine_after pause_image config (order_of machine) got) is ∙ ap (λ k. machine_after pause_image k (order_of machine) got (shown machine)) (sym heap) ∙ sym shown_is)
+          (λ actor is. ap machine_in (kind_took config actor (order_of machine) got) ∙ ap (machine_after pause_image config (order_of machine) got) is ∙ ap (λ k. machine_after pause_image k (order_of machine) got (shown machine)) (sym heap) ∙ sym shown_is)
           ∙ ap (λ v. slice_set v number (Some (shown other_machine))) kept
           ∙ sym (kept-set shown items number (Some other_machine))
 
@@ -70,15 +70,15 @@ module _ {S : Type 0} (config : Config) (key : HeapKey) (sizes : key.config ≡ 
       role_after = ap is_mutating shown_is ∙ role_stays pause_image (config_of machine) (order_of machine) got (shown machine)
 
 -- the same step, with other names for key and order
-pub took_as : {S : Type 0} (key other_key : HeapKey) (number : ℕ) (order p : Order) (before : Me S (View (Counted Actor))) (got : ℕ) (after : Me S (View (Counted Actor))) → key ≡ other_key → order ≡ p
-    → Took (table_kind key) (table_start key) number order before got after → Took (table_kind other_key) (table_start other_key) number p before got after
+pub took_as : {S : Type 0} (key other_key : HeapKey) (number : ℕ) (order other_order : Order) (before : Me S (View (Counted Actor))) (got : ℕ) (after : Me S (View (Counted Actor))) → key ≡ other_key → order ≡ other_order
+    → Took (table_kind key) (table_start key) number order before got after → Took (table_kind other_key) (table_start other_key) number other_order before got after
 took_as key other_key number other_order p before got after same order took =
     subst (λ (key : HeapKey). Took (table_kind key) (table_start key) number p before got after) same
     (subst (λ (order : Order). Took (table_kind key) (table_start key) number order before got after) order took)
 
 -- and without the numbers of steps
-pub took_in : {S : Type 0} (key other_key : HeapKey) (config : Config) (number : ℕ) (o p : Order) (before : Me S (View (Counted Actor))) (got : ℕ) (after : Me S (View (Counted Actor))) → key ≡ other_key → other_key.config ≡ config → o ≡ p
-    → Took (table_kind key) (table_start key) number o before got after → Took (heap_kind config) (start_of_key other_key) number p (uncounted_seat before) got (uncounted_seat after)
+pub took_in : {S : Type 0} (key other_key : HeapKey) (config : Config) (number : ℕ) (order other_order : Order) (before : Me S (View (Counted Actor))) (got : ℕ) (after : Me S (View (Counted Actor))) → key ≡ other_key → other_key.config ≡ config → order ≡ other_order
+    → Took (table_kind key) (table_start key) number order before got after → Took (heap_kind config) (start_of_key other_key) number other_order (uncounted_seat before) got (uncounted_seat after)
 took_in key other_key config number o p before got after same sizes order took =
     subst (λ (config : Config). Took (heap_kind config) (start_of_key other_key) number p (uncounted_seat before) got (uncounted_seat after)) sizes
     (took_uncounted (heap_kind other_key.config) (start_of_key other_key) number p before after got (took_as key other_key number o p before got after same order took))
@@ -90,8 +90,8 @@ step_counted key number order before after got took =
     let counts = took_counts (heap_kind key.config) (start_of_key key) number order before after got took in
     counts.2 ∙ ap (λ o. slice_set (steps_in_view before.0) number (Some (unwrap_or o 0 + 1))) (sym counts.1)
 
-pub can_as : (config other_config : Config) (view : View Actor) (number : ℕ) (order p : Order) (access : Access) → config ≡ other_config → order ≡ p
-    → (actor : Actor) × (machine_of view number ≡ Some actor) × ((heap_kind other_config).takes actor p ≡ true) × ((heap_kind other_config).plan actor p ≡ access)
+pub can_as : (config other_config : Config) (view : View Actor) (number : ℕ) (order other_order : Order) (access : Access) → config ≡ other_config → order ≡ other_order
+    → (actor : Actor) × (machine_of view number ≡ Some actor) × ((heap_kind other_config).takes actor other_order ≡ true) × ((heap_kind other_config).plan actor other_order ≡ access)
     → (actor : Actor) × (machine_of view number ≡ Some actor) × ((heap_kind config).takes actor order ≡ true) × ((heap_kind config).plan actor order ≡ access)
 can_as config other_config view number other_order p access same order can_it =
     subst (λ (config : Config). (actor : Actor) × (machine_of view number ≡ Some actor) × ((heap_kind config).takes actor other_order ≡ true) × ((heap_kind config).plan actor other_order ≡ access)) (sym same)
@@ -106,7 +106,7 @@ heap_put config items number machine other_machine here heap role are k x there 
         let same : k ≡ number = grind (arith, nat_tests) in
         let new : other_machine ≡ x = cc (rw is at found) in
         let old = are number machine here in
-        subst (λ y. IsMachineOfHeap config k y) new (subst (λ j. IsMachineOfHeap config j other_machine) (sym same) (record { heap = heap ∙ old.heap; role = role ∙ old.role }))
+        subst (λ machine. IsMachineOfHeap config k machine) new (subst (λ number. IsMachineOfHeap config number other_machine) (sym same) (record { heap = heap ∙ old.heap; role = role ∙ old.role }))
     by_number false is found = are k x (rw is at found)
 
 -- so are some of its machines
@@ -118,8 +118,8 @@ heap_picked config test v are k x there = by_test (test k) (sym (machine_of-pick
     by_test false found = absurd cc
 
 -- what holds of each machine of two bundles holds of each where they are joined
-pub each_merged : {R : Type 0} (P : ℕ → R → Type 0) (view w : View R) → ((k : ℕ) (r : R) → machine_of view k ≡ Some r → P k r) → ((k : ℕ) (r : R) → machine_of w k ≡ Some r → P k r)
-    → (k : ℕ) (r : R) → machine_of (merged view w) k ≡ Some r → P k r
+pub each_merged : {R : Type 0} (P : ℕ → R → Type 0) (view other_view : View R) → ((k : ℕ) (r : R) → machine_of view k ≡ Some r → P k r) → ((k : ℕ) (r : R) → machine_of other_view k ≡ Some r → P k r)
+    → (k : ℕ) (r : R) → machine_of (merged view other_view) k ≡ Some r → P k r
 each_merged {R} P view w first second k r there = by_first (machine_of view k) refl (sym (machine_of-merged view w k) ∙ there)
   where
     by_first : (o : Option R) → machine_of view k ≡ o → whichever_is_there (machine_of view k) (machine_of w k) ≡ Some r → P k r
@@ -127,5 +127,5 @@ each_merged {R} P view w first second k r there = by_first (machine_of view k) r
     by_first (Some m) is found = first k r (is ∙ sym (ap (λ y. whichever_is_there y (machine_of w k)) is) ∙ found)
 
 -- the machines of two bundles of a heap are of it
-pub heap_merged : (config : Config) (v w : View Machine) → AreOfHeap config v → AreOfHeap config w → AreOfHeap config (merged v w)
-heap_merged config v w first second = each_merged (IsMachineOfHeap config) v w first second
+pub heap_merged : (config : Config) (view w : View Machine) → AreOfHeap config view → AreOfHeap config w → AreOfHeap config (merged view w)
+heap_merged config view w first second = each_merged (IsMachineOfHeap config) view w first second

@@ -18,7 +18,7 @@ use Rattle.table_heap.proofs.Hinting.{same_after}
 use Rattle.table_heap.proofs.Running.{still_of}
 
 only_more : (a b d : Bundle) → OnlyHintsDiffer a b → OnlyHintsDiffer b d → OnlyHintsDiffer a d
-only_more a b d first second = record {
+only_more bundle other_bundle d first second = record {
   config = second.config ∙ first.config;
   key = second.key ∙ first.key;
   seat = second.seat ∙ first.seat;
@@ -27,15 +27,15 @@ only_more a b d first second = record {
 }
 
 shares_more : (a b d : Bundle) → SharesMore a b → SharesMore b d → SharesMore a d
-shares_more a b d first second = record {
-  only = only_more a b d first.only second.only;
+shares_more bundle other_bundle d first second = record {
+  only = only_more bundle other_bundle d first.only second.only;
   deque = second.deque ∙ first.deque;
   thieves = λ place thief there. second.thieves place thief (first.thieves place thief there);
 }
 
 -- who steals another's hints does so still
-steals_still : (bundle other_bundle own next : Bundle) → SharesMore bundle other_bundle → SharesMore own next → StealsFrom bundle own → StealsFrom other_bundle next
-steals_still bundle other_bundle own next one other from = record {
+steals_still : (bundle next_bundle own next : Bundle) → SharesMore bundle next_bundle → SharesMore own next → StealsFrom bundle own → StealsFrom next_bundle next
+steals_still bundle next_bundle own next one other from = record {
   place = from.place;
   thief = from.thief;
   there = one.thieves from.place from.thief from.there;
@@ -66,22 +66,22 @@ set_place (y ∷ ys) (suc place) b (suc index) x there = ⊎_elim
 -- what is read at a place stands there
 pub read_place : (bundles : List Bundle) (place : ℕ) (bundle : Bundle) → place < length bundles → bundle ≡ get_or bundles place bundle → slice_get bundles place ≡ Some bundle
 read_place [] place bundle below is = absurd (omega (arith, below))
-read_place (y ∷ ys) zero bundle below is = ap (λ (bundle : Bundle). Some bundle) (sym is)
-read_place (y ∷ ys) (suc place) bundle below is = read_place ys place bundle (omega (arith, below)) is
+read_place (other_bundle ∷ rest) zero bundle below is = ap (λ (bundle : Bundle). Some bundle) (sym is)
+read_place (other_bundle ∷ rest) (suc place) bundle below is = read_place rest place bundle (omega (arith, below)) is
 
 pub none_changed : (bundles : List Bundle) → AllShareMore bundles bundles
 none_changed bundles = record { count = refl; each = λ k b there. (b, there, record { only = record { config = refl; key = refl; seat = refl; machines = refl; greyed = refl }; deque = refl; thieves = λ place thief is. is }) }
 
 -- the hints of one bundle more differ
-pub one_changed : (old now : List Bundle) (place : ℕ) (bundle other_bundle : Bundle) → AllShareMore old now → slice_get now place ≡ Some bundle → SharesMore bundle other_bundle → AllShareMore old (slice_set now place other_bundle)
-one_changed old now place bundle other_bundle differ here only = record {
-  count = length-set now place other_bundle ∙ differ.count;
-  each = λ k x there. ⊎_elim
-      (λ (same : (k ≡ place) × (other_bundle ≡ x)).
+pub one_changed : (old now : List Bundle) (place : ℕ) (bundle next_bundle : Bundle) → AllShareMore old now → slice_get now place ≡ Some bundle → SharesMore bundle next_bundle → AllShareMore old (slice_set now place next_bundle)
+one_changed old now place bundle next_bundle differ here only = record {
+  count = length-set now place next_bundle ∙ differ.count;
+  each = λ index x there. ⊎_elim
+      (λ (same : (index ≡ place) × (next_bundle ≡ x)).
       let was = differ.each place bundle here in
-      (was.0, ap (slice_get old) same.0 ∙ was.1, subst (SharesMore was.0) same.1 (shares_more was.0 bundle other_bundle was.2 only)))
-      (λ (other : slice_get now k ≡ Some x). differ.each k x other)
-      (set_place now place other_bundle k x there);
+      (was.0, ap (slice_get old) same.0 ∙ was.1, subst (SharesMore was.0) same.1 (shares_more was.0 bundle next_bundle was.2 only)))
+      (λ (other : slice_get now index ≡ Some x). differ.each index x other)
+      (set_place now place next_bundle index x there);
 }
 
 pub in_more : (old mid new : List Bundle) → AllShareMore old mid → AllShareMore mid new → AllShareMore old new
@@ -94,15 +94,15 @@ in_more old mid new first second = record {
 }
 
 -- the one that is read at a place
-pub read_changed : (bundles : List Bundle) (place : ℕ) (bundle other_bundle : Bundle) → place < length bundles → bundle ≡ get_or bundles place bundle → SharesMore bundle other_bundle → AllShareMore bundles (slice_set bundles place other_bundle)
-read_changed bundles place bundle other_bundle below is only = one_changed bundles bundles place bundle other_bundle (none_changed bundles) (read_place bundles place bundle below is) only
+pub read_changed : (bundles : List Bundle) (place : ℕ) (bundle next_bundle : Bundle) → place < length bundles → bundle ≡ get_or bundles place bundle → SharesMore bundle next_bundle → AllShareMore bundles (slice_set bundles place next_bundle)
+read_changed bundles place bundle next_bundle below is only = one_changed bundles bundles place bundle next_bundle (none_changed bundles) (read_place bundles place bundle below is) only
 
 -- and then another
 pub both_changed : (bundles : List Bundle) (first second : ℕ) (a b x y : Bundle) → first < length bundles → second < length bundles → a ≡ get_or bundles first a → SharesMore a b
     → x ≡ get_or (slice_set bundles first b) second x → SharesMore x y → AllShareMore bundles (slice_set (slice_set bundles first b) second y)
-both_changed bundles first second a b x y below within is only then_is more =
-    let long = length-set bundles first b in
-    in_more bundles (slice_set bundles first b) _ (read_changed bundles first a b below is only) (read_changed (slice_set bundles first b) second x y (omega (arith, long, within)) then_is more)
+both_changed bundles first second bundle other_bundle x y below within is only then_is more =
+    let long = length-set bundles first other_bundle in
+    in_more bundles (slice_set bundles first other_bundle) _ (read_changed bundles first bundle other_bundle below is only) (read_changed (slice_set bundles first other_bundle) second x y (omega (arith, long, within)) then_is more)
 
 -- the bundles have the configuration still
 pub config_still : (config : Config) (old new : List Bundle) → AllShareMore old new → HaveConfig config old → HaveConfig config new
@@ -127,18 +127,13 @@ one_steals index number bundles from next j bundle own under other there at = by
     by_number false is = from j bundle own (grind (arith, nat_tests)) other there at
 
 -- the hints of one bundle more are shared
-pub more_shared : (n : ℕ) (old new : List Bundle) → AllShareMore old new → ((number : ℕ) → number < n → StealFrom (length old) old number) → StealFrom (length old) new n
-    → (number : ℕ) → number < n + 1 → StealFrom (length new) new number
-more_shared n old new more before last number under = subst (λ m. StealFrom m new number) (sym more.count) (by_number (number == n) refl)
+pub more_shared : (other_number : ℕ) (old new : List Bundle) → AllShareMore old new → ((number : ℕ) → number < other_number → StealFrom (length old) old number) → StealFrom (length old) new other_number
+    → (number : ℕ) → number < other_number + 1 → StealFrom (length new) new number
+more_shared n old new more before last number under = subst (λ below. StealFrom below new number) (sym more.count) (by_number (number == n) refl)
   where
     by_number : (holds : Bool) → (number == n) ≡ holds → StealFrom (length old) new number
     by_number true is = let same : number ≡ n = grind (arith, nat_tests) in subst (StealFrom (length old) new) (sym same) last
     by_number false is = steal_still (length old) number old new more (before number (grind (arith, nat_tests)))
-
--- what is added to a list stands behind what was there
-pub last_place : {R : Type 0} (xs : List R) (x : R) → slice_get (xs ++ x ∷ []) (length xs) ≡ Some x
-last_place [] x = refl
-last_place (y ∷ ys) x = last_place ys x
 
 pub first_places : {R : Type 0} (xs : List R) (x : R) (place : ℕ) (y : R) → slice_get xs place ≡ Some y → slice_get (xs ++ x ∷ []) place ≡ Some y
 first_places [] x place y there = absurd cc

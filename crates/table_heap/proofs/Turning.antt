@@ -46,14 +46,14 @@ no_order_after (x ∷ xs) (suc number) none (suc k) order there = no_order_after
 -- what holds of each mutator where one machine has gone on
 pub each_after : (view new : View Actor) (number : ℕ) (a b : Actor) (P Q : ℕ → Actor → Type 0) → machine_of view number ≡ Some a → new ≡ slice_set view number (Some b) → EachMutator view P
     → (is_mutating b.machine ≡ true → Q number b) → ((k : ℕ) (x : Actor) → k ≢ number → machine_of view k ≡ Some x → is_mutating x.machine ≡ true → P k x → Q k x) → EachMutator new Q
-each_after view new number a b P Q here new_is each one others k x there role =
-    by_number (k == number) refl (sym (machine_of-set view number a (Some b) here k) ∙ ap (λ v. machine_of v k) (sym new_is) ∙ there)
+each_after view new number actor other_actor P Q here new_is each one others k x there role =
+    by_number (k == number) refl (sym (machine_of-set view number actor (Some other_actor) here k) ∙ ap (λ v. machine_of v k) (sym new_is) ∙ there)
   where
-    by_number : (holds : Bool) → (k == number) ≡ holds → (if k == number then Some b else machine_of view k) ≡ Some x → Q k x
+    by_number : (holds : Bool) → (k == number) ≡ holds → (if k == number then Some other_actor else machine_of view k) ≡ Some x → Q k x
     by_number true is found =
         let same : k ≡ number = grind (arith, nat_tests) in
-        let next : b ≡ x = cc (rw is at found) in
-        subst (λ y. Q k y) next (subst (λ j. Q j b) (sym same) (one (ap (λ y. is_mutating y.machine) next ∙ role)))
+        let next : other_actor ≡ x = cc (rw is at found) in
+        subst (λ y. Q k y) next (subst (λ j. Q j other_actor) (sym same) (one (ap (λ y. is_mutating y.machine) next ∙ role)))
     by_number false is found =
         let other : k ≢ number = grind (arith, nat_tests) in
         let there_before : machine_of view k ≡ Some x = rw is at found in
@@ -62,9 +62,9 @@ each_after view new number a b P Q here new_is each one others k x there role =
 -- a mutator is given no hint
 turn_of : (config : Config) (next : Option Command) (machine : Machine) (order : Order) → is_mutating machine ≡ true → IsOrderFor config next machine order → order_for next machine ≡ Some order
 turn_of config next machine order role (inl turn) = turn
-turn_of config next (mutating m) order role (inr hinted) = absurd (let takes = hinted.0 in cc (takes))
-turn_of config next (helping h) order role (inr hinted) = absurd (cc (role))
-turn_of config next (controlling k) order role (inr hinted) = absurd (cc (role))
+turn_of config next (mutating mutator) order role (inr hinted) = absurd (let takes = hinted.0 in cc (takes))
+turn_of config next (helping helper) order role (inr hinted) = absurd (cc (role))
+turn_of config next (controlling control) order role (inr hinted) = absurd (cc (role))
 
 -- where another command would lead to the same order, the turn is one by that command
 order_as : (config : Config) (next other : Option Command) (machine : Machine) (order : Order) → order_for next machine ≡ order_for other machine → IsOrderFor config next machine order → IsOrderFor config other machine order

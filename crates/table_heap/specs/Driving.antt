@@ -5,7 +5,7 @@ use Rattle.std.specs.Option.{is_some}
 use Rattle.shared_table.specs.Views.{machine_of}
 use Rattle.shen_graph.specs.declared.command.Command.{Command}
 use Rattle.shen_graph.specs.declared.command.Reply.{Reply}
-use Rattle.table_heap.specs.Driven.{IsDrivenFrom, driver_after}
+use Rattle.table_heap.specs.Drivers.{IsDrivenFrom, driver_after}
 use Rattle.shen_graph.specs.Step.{IsNew}
 use Rattle.shen_graph.specs.Valid.{most_objects}
 use Rattle.step_core.specs.Actor.{Actor}
@@ -46,7 +46,7 @@ pub record HasNotBegun (actor : Actor) : Type 0 where
 -- for what they make.
 pub record CanDrive {D : Type 0} (to_come : D → ℕ) (bundle : Bundle) (drivers : List D) : Type 0 where
   pub orders : HasNoOrder bundle
-  pub mutators : EachMutator (view_of bundle) (λ number a. HasNotBegun a)
+  pub mutators : EachMutator (view_of bundle) (λ number actor. HasNotBegun actor)
   pub count : AreDriversOf bundle drivers
   pub few : All (λ driver. to_come driver < most_objects) drivers
 

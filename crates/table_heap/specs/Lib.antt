@@ -6,7 +6,7 @@ pub mod State
 pub mod Running
 pub mod Turning
 pub mod Makes
-pub mod Driven
+pub mod Drivers
 pub mod Driving
 pub mod Hinted
 pub mod Sharing

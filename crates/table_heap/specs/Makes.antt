@@ -19,19 +19,19 @@ abbrev pub may_stand : Bool → Spot → Bool
 may_stand makes Rest = false
 may_stand makes (Ended reply) = false
 may_stand makes Gone = false
-may_stand makes (Entering at Waited) = makes
-may_stand makes (Making at) = makes
-may_stand makes (Waiting at) = makes
+may_stand makes (Entering spot Waited) = makes
+may_stand makes (Making spot) = makes
+may_stand makes (Waiting spot) = makes
 may_stand makes _ = true
 
 -- the command that a mutator has kept of its call
 abbrev pub call_in : Machine → Command
-call_in (mutating m) = m.kept.command
+call_in (mutating mutator) = mutator.kept.command
 call_in _ = Gc
 
 -- whether a machine stands where its call may, if it is a mutator
 abbrev pub stands_in_its_call : Machine → Bool
-stands_in_its_call (mutating m) = may_stand (makes_object m.kept.command) m.spot
+stands_in_its_call (mutating mutator) = may_stand (makes_object mutator.kept.command) mutator.spot
 stands_in_its_call _ = true
 
 -- how many objects it has made in a call whose reply is at hand, at most

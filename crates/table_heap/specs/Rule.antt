@@ -12,18 +12,18 @@ bounds known least greatest = record { known = known; least = least; greatest = 
 
 -- an address lies between the bounds
 abbrev pub IsBetween : Bounds → ℕ → Type 0
-IsBetween v address = (v.least ≤ address) × (address ≤ v.greatest)
+IsBetween bounds address = (bounds.least ≤ address) × (address ≤ bounds.greatest)
 
 -- the passes all know the same
 abbrev pub AllKnow : List Bounds → Bounds → Type 0
-AllKnow views v = (port : ℕ) (u : Bounds) → get_elem? views port ≡ some u → u ≡ v
+AllKnow views bounds = (port : ℕ) (u : Bounds) → get_elem? views port ≡ some u → u ≡ bounds
 
 -- By how many bounds a pass knows: with none the deque is empty, with one it holds that address, and until both are known there is no
 -- other pass. Then each address that it holds lies between them.
 abbrev pub IsKnown : (known : ℕ) → Bounds → List ℕ → List Bounds → Type 0
-IsKnown zero v items views = (items ≡ []) × (length views ≡ 1)
-IsKnown (suc zero) v items views = (items ≡ v.least ∷ []) × (length views ≡ 1)
-IsKnown (suc (suc more)) v items views = All (IsBetween v) items × AllKnow views v
+IsKnown zero bounds items views = (items ≡ []) × (length views ≡ 1)
+IsKnown (suc zero) bounds items views = (items ≡ bounds.least ∷ []) × (length views ≡ 1)
+IsKnown (suc (suc more)) bounds items views = All (IsBetween bounds) items × AllKnow views bounds
 
 -- the rule
 abbrev pub AreHints : List ℕ → List Bounds → Type 0

@@ -85,7 +85,7 @@ pub record HasDone (script : List Command) (replies : List Reply) (actor : Actor
 
 -- so has each mutator of the bundle, where the first work has the scripts and the second the replies
 abbrev pub HaveDone : Bundle → Jobs → Jobs → Type 0
-HaveDone bundle jobs later = EachMutator (view_of bundle) (λ number a. HasDone (script_in jobs number) (replies_of later number) a)
+HaveDone bundle jobs later = EachMutator (view_of bundle) (λ number actor. HasDone (script_in jobs number) (replies_of later number) actor)
 
 -- The work has the same scripts under the same numbers, and what it has for others than the bundle's mutators is as it was.
 pub record AreSameJobs (view : View Actor) (jobs later : Jobs) : Type 0 where

@@ -34,5 +34,5 @@ outcome_le graph thread Gc other_thread = omega arith
 outcome_le graph thread (Pin slot obj) other_thread = omega arith
 outcome_le graph thread (Unpin slot) other_thread = on_le graph other_thread (graph.pin thread slot) (λ _. answers reply.Ok (with_pin graph thread slot None)) (λ v. omega arith)
 
-pub answers_le : (graph other_graph : Graph) (t : ℕ) (command : Command) (r : Reply) → answers r other_graph ≡ outcome graph t command → (thread : ℕ) → other_graph.count thread ≤ graph.count thread + 1
-answers_le graph other_graph t command r done thread = omega (arith, ap (λ (o : Outcome). o.graph.count thread) done, outcome_le graph t command thread)
+pub answers_le : (graph other_graph : Graph) (other_thread : ℕ) (command : Command) (answer : Reply) → answers answer other_graph ≡ outcome graph other_thread command → (thread : ℕ) → other_graph.count thread ≤ graph.count thread + 1
+answers_le graph other_graph other_thread command answer done thread = omega (arith, ap (λ (o : Outcome). o.graph.count thread) done, outcome_le graph other_thread command thread)

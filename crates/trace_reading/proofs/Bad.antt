@@ -25,39 +25,39 @@ nothing : (bytes : List ℕ) → (IsBehindCommands bytes → ⊥) → 1 ≤ leng
 nothing [] some = absurd (some tt)
 nothing (b ∷ bytes) some = omega arith
 
-pub command_cause : (v : ℕ) (config : Config) (bytes : List ℕ) → (IsBehindCommands bytes → ⊥) → ((l : TraceLine) (rest : List ℕ) → IsLine v config.mutators l → bytes ≢ line l ++ rest) → cause_of (body_stage v config false) (parts 10 bytes) ≡ None → ⊥
-command_cause v config bytes some refused none = by_kind (commands_spell v config bytes (nothing bytes some) none)
+pub command_cause : (version : ℕ) (config : Config) (bytes : List ℕ) → (IsBehindCommands bytes → ⊥) → ((trace_line : TraceLine) (rest : List ℕ) → IsLine version config.mutators trace_line → bytes ≢ line trace_line ++ rest) → cause_of (body_stage version config false) (parts 10 bytes) ≡ None → ⊥
+command_cause version config bytes some refused none = by_kind (commands_spell version config bytes (nothing bytes some) none)
   where
-    by_kind : BeginsWithCommand v config bytes ⊎ BeginsWithTurn config bytes → ⊥
+    by_kind : BeginsWithCommand version config bytes ⊎ BeginsWithTurn config bytes → ⊥
     by_kind (inl it) = refused it.0 it.1 it.2 it.3
     by_kind (inr it) = some (subst IsBehindCommands (sym it.3) refl)
 
 -- ---- no line of the schedule
 
-pub turn_cause : (v : ℕ) (config : Config) (behind : Bool) (bytes : List ℕ) → 1 ≤ length bytes → (behind ≡ false → IsBehindCommands bytes) → ((items : List Item) (rest : List ℕ) → IsScheduleLine config items → bytes ≢ schedule_line items ++ rest)
-    → cause_of (body_stage v config behind) (parts 10 bytes) ≡ None → ⊥
-turn_cause v config true bytes some mark refused none = let it = turns_spell config bytes some none in refused it.0 it.1 it.2 it.3
-turn_cause v config false bytes some mark refused none = by_kind (commands_spell v config bytes some none)
+pub turn_cause : (version : ℕ) (config : Config) (behind : Bool) (bytes : List ℕ) → 1 ≤ length bytes → (behind ≡ false → IsBehindCommands bytes) → ((items : List Item) (rest : List ℕ) → IsScheduleLine config items → bytes ≢ schedule_line items ++ rest)
+    → cause_of (body_stage version config behind) (parts 10 bytes) ≡ None → ⊥
+turn_cause version config true bytes positive mark refused none = let it = turns_spell config bytes positive none in refused it.0 it.1 it.2 it.3
+turn_cause version config false bytes positive mark refused none = by_kind (commands_spell version config bytes positive none)
   where
-    by_kind : BeginsWithCommand v config bytes ⊎ BeginsWithTurn config bytes → ⊥
-    by_kind (inl it) = command_is_no_turn v config.mutators it.0 bytes it.1 (omega (arith, config.in_range.most_mutators)) it.2 it.3 (mark refl)
+    by_kind : BeginsWithCommand version config bytes ⊎ BeginsWithTurn config bytes → ⊥
+    by_kind (inl it) = command_is_no_turn version config.mutators it.0 bytes it.1 (omega (arith, config.in_range.most_mutators)) it.2 it.3 (mark refl)
     by_kind (inr it) = refused it.0 it.1 it.2 it.3
 
 pub not_later : (first line : ℕ) → ltb first line ≡ false → line ≤ first
-not_later first line e = grind (arith, nat_tests)
+not_later first line same = grind (arith, nat_tests)
 
 -- ---- counts
 
 pub lines_fit : (lines : List TraceLine) (bytes rest : List ℕ) → bytes ≡ flat_map line lines ++ rest → length lines + length rest ≤ length bytes
-lines_fit lines bytes rest e = let few = few_lines lines in let size = ap length e in let sizes = length-append (flat_map line lines) rest in omega (arith, few, size, sizes)
+lines_fit lines bytes rest same = let few = few_lines lines in let size = ap length same in let sizes = length-append (flat_map line lines) rest in omega (arith, few, size, sizes)
 
 pub turns_fit : (turns : List (List Item)) (bytes rest : List ℕ) → bytes ≡ flat_map schedule_line turns ++ rest → length turns + length rest ≤ length bytes
-turns_fit turns bytes rest e = let few = few_turns turns in let size = ap length e in let sizes = length-append (flat_map schedule_line turns) rest in omega (arith, few, size, sizes)
+turns_fit turns bytes rest same = let few = few_turns turns in let size = ap length same in let sizes = length-append (flat_map schedule_line turns) rest in omega (arith, few, size, sizes)
 
 -- ---- the whole trace
 
-pub stops_in_commands : (v : ℕ) (config : Config) (first : ℕ) (bytes : List ℕ) (n : ℕ) (why : Why) → StopsCommands v config first bytes n why → StopsBody v config first bytes n why
-stops_in_commands v config first bytes n why stops = record {
+pub stops_in_commands : (version : ℕ) (config : Config) (first : ℕ) (bytes : List ℕ) (n : ℕ) (why : Why) → StopsCommands version config first bytes n why → StopsBody version config first bytes n why
+stops_in_commands version config first bytes n why stops = record {
   lines = stops.lines;
   in_range = stops.in_range;
   turns = [];
@@ -68,9 +68,9 @@ stops_in_commands v config first bytes n why stops = record {
   cause = stops.cause;
 }
 
-pub stops_in_turns : (v : ℕ) (config : Config) (first next : ℕ) (bytes behind : List ℕ) (scripts : List (List Command)) (n : ℕ) (why : Why) (taken : HasReadLines v config.mutators bytes behind scripts) → next ≡ first + length taken.lines
-    → StopsTurns v config next behind n why → StopsBody v config first bytes n why
-stops_in_turns v config first next bytes behind scripts n why taken number stops = record {
+pub stops_in_turns : (version : ℕ) (config : Config) (first next : ℕ) (bytes behind : List ℕ) (scripts : List (List Command)) (n : ℕ) (why : Why) (taken : HasReadLines version config.mutators bytes behind scripts) → next ≡ first + length taken.lines
+    → StopsTurns version config next behind n why → StopsBody version config first bytes n why
+stops_in_turns version config first next bytes behind scripts n why taken number stops = record {
   lines = taken.lines;
   in_range = taken.in_range;
   turns = stops.turns;
@@ -81,18 +81,18 @@ stops_in_turns v config first next bytes behind scripts n why taken number stops
   cause = stops.cause;
 }
 
-pub stops_behind_head : (bytes rest : List ℕ) (v : ℕ) (config : Config) (n : ℕ) (why : Why) → IsVersion v → IsNarrow config → bytes ≡ header v config ++ rest → StopsBody v config 4 rest n why → StopsAt bytes n why
-stops_behind_head bytes rest v config n why known narrow e stops =
-    let head = begun_head bytes rest v config known narrow e in
+pub stops_behind_head : (bytes rest : List ℕ) (version : ℕ) (config : Config) (n : ℕ) (why : Why) → IsVersion version → IsNarrow config → bytes ≡ header version config ++ rest → StopsBody version config 4 rest n why → StopsAt bytes n why
+stops_behind_head bytes rest version config n why known narrow same stops =
+    let head = begun_head bytes rest version config known narrow same in
     let behind = flat_map schedule_line stops.turns ++ stops.rest in
-    let lines = begun_lines bytes stops.lines behind 3 v config stops.in_range (subst (λ (bs : List ℕ). Begun bytes bs 3 (Commands v config)) stops.spelled head) in
-    let turns = begun_turns bytes stops.turns stops.rest (3 + length stops.lines) v config stops.turns_in_range lines in
-    begun_stops bytes stops.rest (3 + length stops.lines + length stops.turns) n (body_stage v config (ltb 0 (length stops.turns))) why turns (omega (arith, stops.number)) stops.cause
+    let lines = begun_lines bytes stops.lines behind 3 version config stops.in_range (subst (λ (bs : List ℕ). Begun bytes bs 3 (Commands version config)) stops.spelled head) in
+    let turns = begun_turns bytes stops.turns stops.rest (3 + length stops.lines) version config stops.turns_in_range lines in
+    begun_stops bytes stops.rest (3 + length stops.lines + length stops.turns) n (body_stage version config (ltb 0 (length stops.turns))) why turns (omega (arith, stops.number)) stops.cause
 
 pub known : (found : Option Why) → (found ≡ None → ⊥) → IsSome found
 known (Some why) some = refl
 known None some = absurd (some refl)
 
 pub not_none : (bytes : List ℕ) → eqb (length bytes) 0 ≡ false → 1 ≤ length bytes
-not_none [] e = absurd cc
-not_none (b ∷ bytes) e = omega arith
+not_none [] same = absurd cc
+not_none (b ∷ bytes) same = omega arith

@@ -12,7 +12,7 @@ use Rattle.trace_reading.specs.Spelling.{TraceLine, IsVersion, IsLine, line, new
 use Rattle.trace_reading.specs.declared.why.Why.{Why}
 use Rattle.trace_reading.specs.Causes.{parts}
 use Rattle.trace_reading.specs.Refused.{LineStage, Version, Heap, Threads, Commands, Turns, body_stage, cause_of, LineFollows, Lead, StopsAt}
-use Rattle.trace_reading.proofs.Heads.{titled_is, version_spelled, heap_spelled, threads_spelled}
+use Rattle.trace_reading.proofs.HeadWords.{titled_is, version_spelled, heap_spelled, threads_spelled}
 use Rattle.trace_reading.proofs.Commands.{line_words, line_is}
 use Rattle.trace_reading.proofs.ScheduleWords.{words_of_turn, turn_is}
 use Rattle.trace_reading.proofs.Leads.{line_of, line_in_front, bytes_of_line, first_line}
@@ -28,25 +28,25 @@ pub begun_none : (bytes : List ℕ) → Begun bytes bytes 0 Version
 begun_none bytes = record { before = []; lines = refl; number = refl; lead = refl }
 
 lead_more : (first : LineStage) (texts : List (List ℕ)) (stage : LineStage) (text : List ℕ) (next : LineStage) → Lead first texts stage → LineFollows stage text next → Lead first (texts ++ text ∷ []) next
-lead_more first [] stage text next lead f = subst (λ (stage : LineStage). Lead stage (text ∷ []) next) (sym lead) (next, f, refl)
-lead_more first (t ∷ texts) stage text next lead f = (lead.0, lead.1, lead_more lead.0 texts stage text next lead.2 f)
+lead_more first [] stage text next lead line_follows = subst (λ (stage : LineStage). Lead stage (text ∷ []) next) (sym lead) (next, line_follows, refl)
+lead_more first (t ∷ texts) stage text next lead line_follows = (lead.0, lead.1, lead_more lead.0 texts stage text next lead.2 line_follows)
 
 pub begun_more : (bytes text rest : List ℕ) (n : ℕ) (stage next : LineStage) → Begun bytes (text ++ 10 ∷ rest) n stage → LineFollows stage text next → Begun bytes rest (n + 1) next
-begun_more bytes text rest n stage next b f = record {
-  before = b.before ++ text ∷ [];
-  lines = b.lines ∙ ap (λ (ts : List (List ℕ)). b.before ++ ts) (line_in_front stage text rest next f) ∙ sym (append_assoc b.before (text ∷ []) (parts newline rest));
-  number = omega (arith, b.number, length-append b.before (text ∷ []));
-  lead = lead_more Version b.before stage text next b.lead f;
+begun_more bytes text rest n stage next begun line_follows = record {
+  before = begun.before ++ text ∷ [];
+  lines = begun.lines ∙ ap (λ (ts : List (List ℕ)). begun.before ++ ts) (line_in_front stage text rest next line_follows) ∙ sym (append_assoc begun.before (text ∷ []) (parts newline rest));
+  number = omega (arith, begun.number, length-append begun.before (text ∷ []));
+  lead = lead_more Version begun.before stage text next begun.lead line_follows;
 }
 
 pub begun_stops : (bytes rest : List ℕ) (n m : ℕ) (stage : LineStage) (why : Why) → Begun bytes rest n stage → m ≡ n + 1 → cause_of stage (parts newline rest) ≡ Some why → StopsAt bytes m why
-begun_stops bytes rest n m stage why b e cause = record {
-  before = b.before;
+begun_stops bytes rest n m stage why begun same cause = record {
+  before = begun.before;
   from_it = parts newline rest;
-  lines = b.lines;
-  number = omega (arith, b.number, e);
+  lines = begun.lines;
+  number = omega (arith, begun.number, same);
   stage = stage;
-  lead = b.lead;
+  lead = begun.lead;
   cause = cause;
 }
 
@@ -54,21 +54,21 @@ begun_stops bytes rest n m stage why b e cause = record {
 
 -- a text and the end of its line, in front of the rest
 front_line : (text whole rest : List ℕ) → text ++ newline ∷ [] ≡ whole → text ++ 10 ∷ rest ≡ whole ++ rest
-front_line text whole rest e = sym (append_assoc text (newline ∷ []) rest) ∙ ap (λ (t : List ℕ). t ++ rest) e
+front_line text whole rest same = sym (append_assoc text (newline ∷ []) rest) ∙ ap (λ (t : List ℕ). t ++ rest) same
 
 -- the line that a title and numbers spell
 titled_line : (title : List ℕ) (ns : List ℕ) → (text : List ℕ) × (text ++ newline ∷ [] ≡ titled title ns)
 titled_line title ns = (_, titled_is title ns)
 
 pub begun_head : (bytes rest : List ℕ) (version : ℕ) (config : Config) → IsVersion version → IsNarrow config → bytes ≡ header version config ++ rest → Begun bytes rest 3 (Commands version config)
-begun_head bytes rest version config known narrow e =
+begun_head bytes rest version config known narrow same =
     let shen = titled_line (codes "shen") (version ∷ []) in
     let heap = titled_line (codes "heap") (config.regions ∷ config.region_words ∷ config.reserve ∷ []) in
     let threads = titled_line (codes "threads") (config.mutators ∷ config.helpers ∷ []) in
     let third = threads.0 ++ 10 ∷ rest in
     let second = heap.0 ++ 10 ∷ third in
     let whole : bytes ≡ shen.0 ++ 10 ∷ second =
-    e ∙ append_assoc (titled (codes "shen") (version ∷ [])) (titled (codes "heap") (config.regions ∷ config.region_words ∷ config.reserve ∷ []) ++ titled (codes "threads") (config.mutators ∷ config.helpers ∷ [])) rest
+    same ∙ append_assoc (titled (codes "shen") (version ∷ [])) (titled (codes "heap") (config.regions ∷ config.region_words ∷ config.reserve ∷ []) ++ titled (codes "threads") (config.mutators ∷ config.helpers ∷ [])) rest
     ∙ ap (λ (t : List ℕ). titled (codes "shen") (version ∷ []) ++ t)
     (append_assoc (titled (codes "heap") (config.regions ∷ config.region_words ∷ config.reserve ∷ [])) (titled (codes "threads") (config.mutators ∷ config.helpers ∷ [])) rest
     ∙ ap (λ (t : List ℕ). titled (codes "heap") (config.regions ∷ config.region_words ∷ config.reserve ∷ []) ++ t) (sym (front_line threads.0 (titled (codes "threads") (config.mutators ∷ config.helpers ∷ [])) rest threads.1))
@@ -80,55 +80,55 @@ begun_head bytes rest version config known narrow e =
 
 -- ---- the lines behind it
 
-pub begun_lines : (bytes : List ℕ) (lines : List TraceLine) (rest : List ℕ) (n : ℕ) (v : ℕ) (config : Config) → AllByRecursion (IsLine v config.mutators) lines → Begun bytes (flat_map line lines ++ rest) n (Commands v config) → Begun bytes rest (n + length lines) (Commands v config)
-begun_lines bytes [] rest n v config all b = subst (λ (m : ℕ). Begun bytes rest m (Commands v config)) (zero_more n) b
+pub begun_lines : (bytes : List ℕ) (lines : List TraceLine) (rest : List ℕ) (n : ℕ) (version : ℕ) (config : Config) → AllByRecursion (IsLine version config.mutators) lines → Begun bytes (flat_map line lines ++ rest) n (Commands version config) → Begun bytes rest (n + length lines) (Commands version config)
+begun_lines bytes [] rest n version config all begun = subst (λ (m : ℕ). Begun bytes rest m (Commands version config)) (zero_more n) begun
   where
     zero_more : (n : ℕ) → n ≡ n + 0
     zero_more n = omega arith
-begun_lines bytes (l ∷ lines) rest n v config all b =
-    let text = join_with_byte 32 (line_words l) in
+begun_lines bytes (other_line ∷ lines) rest n version config all begun =
+    let text = join_with_byte 32 (line_words other_line) in
     let others = flat_map line lines ++ rest in
-    let front : flat_map line (l ∷ lines) ++ rest ≡ text ++ 10 ∷ others =
-    ap (λ (t : List ℕ). t ++ rest) (flat_map-cons line l lines) ∙ append_assoc (line l) (flat_map line lines) rest ∙ sym (front_line text (line l) others (line_is l)) in
-    let one = begun_more bytes text others n (Commands v config) (Commands v config) (subst (λ (bs : List ℕ). Begun bytes bs n (Commands v config)) front b) (inl ((l, all.0, line_is l), refl)) in
-    subst (λ (m : ℕ). Begun bytes rest m (Commands v config)) (one_less n (length lines)) (begun_lines bytes lines rest (n + 1) v config all.1 one)
+    let front : flat_map line (other_line ∷ lines) ++ rest ≡ text ++ 10 ∷ others =
+    ap (λ (t : List ℕ). t ++ rest) (flat_map-cons line other_line lines) ∙ append_assoc (line other_line) (flat_map line lines) rest ∙ sym (front_line text (line other_line) others (line_is other_line)) in
+    let one = begun_more bytes text others n (Commands version config) (Commands version config) (subst (λ (bs : List ℕ). Begun bytes bs n (Commands version config)) front begun) (inl ((other_line, all.0, line_is other_line), refl)) in
+    subst (λ (m : ℕ). Begun bytes rest m (Commands version config)) (one_less n (length lines)) (begun_lines bytes lines rest (n + 1) version config all.1 one)
   where
     one_less : (n k : ℕ) → (n + 1) + k ≡ n + suc k
     one_less n k = omega arith
 
-begun_turn : (bytes : List ℕ) (items : List Item) (others : List ℕ) (n : ℕ) (v : ℕ) (config : Config) (behind : Bool) → IsScheduleLine config items → Begun bytes (schedule_line items ++ others) n (body_stage v config behind) → Begun bytes others (n + 1) (Turns config)
-begun_turn bytes items others n v config false good b =
+begun_turn : (bytes : List ℕ) (items : List Item) (others : List ℕ) (n : ℕ) (version : ℕ) (config : Config) (behind : Bool) → IsScheduleLine config items → Begun bytes (schedule_line items ++ others) n (body_stage version config behind) → Begun bytes others (n + 1) (Turns config)
+begun_turn bytes items others n version config false good begun =
     let text = join_with_byte 32 (words_of_turn items) in
-    begun_more bytes text others n (Commands v config) (Turns config) (subst (λ (bs : List ℕ). Begun bytes bs n (Commands v config)) (sym (front_line text (schedule_line items) others (turn_is items))) b) (inr ((items, good, turn_is items), refl))
-begun_turn bytes items others n v config true good b =
+    begun_more bytes text others n (Commands version config) (Turns config) (subst (λ (bs : List ℕ). Begun bytes bs n (Commands version config)) (sym (front_line text (schedule_line items) others (turn_is items))) begun) (inr ((items, good, turn_is items), refl))
+begun_turn bytes items others n version config true good begun =
     let text = join_with_byte 32 (words_of_turn items) in
-    begun_more bytes text others n (Turns config) (Turns config) (subst (λ (bs : List ℕ). Begun bytes bs n (Turns config)) (sym (front_line text (schedule_line items) others (turn_is items))) b) ((items, good, turn_is items), refl)
+    begun_more bytes text others n (Turns config) (Turns config) (subst (λ (bs : List ℕ). Begun bytes bs n (Turns config)) (sym (front_line text (schedule_line items) others (turn_is items))) begun) ((items, good, turn_is items), refl)
 
 begun_later : (bytes : List ℕ) (turns : List (List Item)) (rest : List ℕ) (n : ℕ) (config : Config) → AllByRecursion (IsScheduleLine config) turns → Begun bytes (flat_map schedule_line turns ++ rest) n (Turns config) → Begun bytes rest (n + length turns) (Turns config)
-begun_later bytes [] rest n config all b = subst (λ (m : ℕ). Begun bytes rest m (Turns config)) (zero_more n) b
+begun_later bytes [] rest n config all begun = subst (λ (m : ℕ). Begun bytes rest m (Turns config)) (zero_more n) begun
   where
     zero_more : (n : ℕ) → n ≡ n + 0
     zero_more n = omega arith
-begun_later bytes (items ∷ turns) rest n config all b =
+begun_later bytes (items ∷ turns) rest n config all begun =
     let others = flat_map schedule_line turns ++ rest in
     let front : flat_map schedule_line (items ∷ turns) ++ rest ≡ schedule_line items ++ others = ap (λ (t : List ℕ). t ++ rest) (flat_map-cons schedule_line items turns) ∙ append_assoc (schedule_line items) (flat_map schedule_line turns) rest in
-    let one = begun_turn bytes items others n 1 config true all.0 (subst (λ (bs : List ℕ). Begun bytes bs n (Turns config)) front b) in
+    let one = begun_turn bytes items others n 1 config true all.0 (subst (λ (bs : List ℕ). Begun bytes bs n (Turns config)) front begun) in
     subst (λ (m : ℕ). Begun bytes rest m (Turns config)) (one_less n (length turns)) (begun_later bytes turns rest (n + 1) config all.1 one)
   where
     one_less : (n k : ℕ) → (n + 1) + k ≡ n + suc k
     one_less n k = omega arith
 
-pub begun_turns : (bytes : List ℕ) (turns : List (List Item)) (rest : List ℕ) (n : ℕ) (v : ℕ) (config : Config) → AllByRecursion (IsScheduleLine config) turns → Begun bytes (flat_map schedule_line turns ++ rest) n (Commands v config) → Begun bytes rest (n + length turns) (body_stage v config (ltb 0 (length turns)))
-begun_turns bytes [] rest n v config all b = subst (λ (m : ℕ). Begun bytes rest m (Commands v config)) (zero_more n) b
+pub begun_turns : (bytes : List ℕ) (turns : List (List Item)) (rest : List ℕ) (n : ℕ) (version : ℕ) (config : Config) → AllByRecursion (IsScheduleLine config) turns → Begun bytes (flat_map schedule_line turns ++ rest) n (Commands version config) → Begun bytes rest (n + length turns) (body_stage version config (ltb 0 (length turns)))
+begun_turns bytes [] rest n version config all begun = subst (λ (m : ℕ). Begun bytes rest m (Commands version config)) (zero_more n) begun
   where
     zero_more : (n : ℕ) → n ≡ n + 0
     zero_more n = omega arith
-begun_turns bytes (items ∷ turns) rest n v config all b =
+begun_turns bytes (items ∷ turns) rest n version config all begun =
     let others = flat_map schedule_line turns ++ rest in
     let front : flat_map schedule_line (items ∷ turns) ++ rest ≡ schedule_line items ++ others = ap (λ (t : List ℕ). t ++ rest) (flat_map-cons schedule_line items turns) ∙ append_assoc (schedule_line items) (flat_map schedule_line turns) rest in
-    let one = begun_turn bytes items others n v config false all.0 (subst (λ (bs : List ℕ). Begun bytes bs n (Commands v config)) front b) in
+    let one = begun_turn bytes items others n version config false all.0 (subst (λ (bs : List ℕ). Begun bytes bs n (Commands version config)) front begun) in
     let later : Begun bytes rest (n + suc (length turns)) (Turns config) = subst (λ (m : ℕ). Begun bytes rest m (Turns config)) (one_less n (length turns)) (begun_later bytes turns rest (n + 1) config all.1 one) in
-    subst (λ (some : Bool). Begun bytes rest (n + suc (length turns)) (body_stage v config some)) (sym (is_some (length turns))) later
+    subst (λ (some : Bool). Begun bytes rest (n + suc (length turns)) (body_stage version config some)) (sym (is_some (length turns))) later
   where
     is_some : (k : ℕ) → ltb 0 (suc k) ≡ true
     is_some k = grind (arith, nat_tests)
@@ -142,7 +142,7 @@ begun_turns bytes (items ∷ turns) rest n v config all b =
 abbrev pub IsBehindLine : List ℕ → List ℕ → Type 0
 IsBehindLine bytes rest = (text : List ℕ) × ((parts 10 bytes ≡ text ∷ []) ⊎ (parts 10 bytes ≡ text ∷ parts 10 rest))
 
-pub version_read : (bytes rest : List ℕ) → IsBehindLine bytes rest → cause_of Version (parts 10 bytes) ≡ None → (v : ℕ) × IsVersion v × Begun bytes rest 1 (Heap v) × (bytes ≡ titled (codes "shen") (v ∷ []) ++ rest)
+pub version_read : (bytes rest : List ℕ) → IsBehindLine bytes rest → cause_of Version (parts 10 bytes) ≡ None → (version : ℕ) × IsVersion version × Begun bytes rest 1 (Heap version) × (bytes ≡ titled (codes "shen") (version ∷ []) ++ rest)
 version_read bytes rest behind none =
     let read = line_of Version bytes rest behind.0 behind.1 refl none in
     let made = version_spelled behind.0 read.1 in
@@ -155,25 +155,25 @@ version_read bytes rest behind none =
     )
 
 pub heap_read : (version : ℕ) (bytes first rest : List ℕ) → Begun bytes first 1 (Heap version) → IsBehindLine first rest → cause_of (Heap version) (parts 10 first) ≡ None
-    → (h : Config) × IsNarrow h × Begun bytes rest 2 (Threads version h.regions h.region_words h.reserve) × (first ≡ titled (codes "heap") (h.regions ∷ h.region_words ∷ h.reserve ∷ []) ++ rest)
-heap_read version bytes first rest b behind none =
+    → (config : Config) × IsNarrow config × Begun bytes rest 2 (Threads version config.regions config.region_words config.reserve) × (first ≡ titled (codes "heap") (config.regions ∷ config.region_words ∷ config.reserve ∷ []) ++ rest)
+heap_read version bytes first rest begun behind none =
     let read = line_of (Heap version) first rest behind.0 behind.1 refl none in
     let made = heap_spelled version behind.0 read.1 in
     let h = made.0 in
     let whole = bytes_of_line first behind.0 rest read.0 in (
       h,
       made.1,
-      begun_more bytes behind.0 rest 1 (Heap version) (Threads version h.regions h.region_words h.reserve) (subst (λ (bs : List ℕ). Begun bytes bs 1 (Heap version)) whole b) (h, made.1, made.2, refl),
+      begun_more bytes behind.0 rest 1 (Heap version) (Threads version h.regions h.region_words h.reserve) (subst (λ (bs : List ℕ). Begun bytes bs 1 (Heap version)) whole begun) (h, made.1, made.2, refl),
       whole ∙ front_line behind.0 (titled (codes "heap") (h.regions ∷ h.region_words ∷ h.reserve ∷ [])) rest made.2,
     )
 
-pub threads_read : (v : ℕ) (config : Config) (first : List ℕ) → IsNarrow config → cause_of (Threads v config.regions config.region_words config.reserve) (parts 10 first) ≡ None
-    → (c : Config) × IsNarrow c × (rest : List ℕ) × (titled (codes "heap") (config.regions ∷ config.region_words ∷ config.reserve ∷ []) ≡ titled (codes "heap") (c.regions ∷ c.region_words ∷ c.reserve ∷ [])) × (first ≡ titled (codes "threads") (c.mutators ∷ c.helpers ∷ []) ++ rest)
-threads_read v config first narrow none =
+pub threads_read : (version : ℕ) (config : Config) (first : List ℕ) → IsNarrow config → cause_of (Threads version config.regions config.region_words config.reserve) (parts 10 first) ≡ None
+    → (other_config : Config) × IsNarrow other_config × (rest : List ℕ) × (titled (codes "heap") (config.regions ∷ config.region_words ∷ config.reserve ∷ []) ≡ titled (codes "heap") (other_config.regions ∷ other_config.region_words ∷ other_config.reserve ∷ [])) × (first ≡ titled (codes "threads") (other_config.mutators ∷ other_config.helpers ∷ []) ++ rest)
+threads_read version config first narrow none =
     let behind = first_line first in
-    let stage = Threads v config.regions config.region_words config.reserve in
+    let stage = Threads version config.regions config.region_words config.reserve in
     let read = line_of stage first behind.1 behind.0 behind.2 refl none in
-    let made = threads_spelled v config.regions config.region_words config.reserve config behind.0 refl refl refl read.1 in
+    let made = threads_spelled version config.regions config.region_words config.reserve config behind.0 refl refl refl read.1 in
     let c = made.0 in (
       c,
       omega (arith, narrow, made.2),

@@ -4,39 +4,41 @@ use Rattle.std.specs.List.{join_with_byte, AllByRecursion}
 use Rattle.std.specs.Fmt.{decimal}
 use Rattle.std.specs.Cmp.Lexicographic.{same_text}
 use Rattle.std.proofs.lemmas.Bool.{eqb-true, ltb-true, ltb-false}
+use Rattle.shen_graph.proofs.Options.{same_some}
+use Rattle.shen_graph.proofs.Numbers.{eqb_from_same}
 use Rattle.trace_reading.specs.declared.kind.CommandKind.{CommandKind}
 use Rattle.trace_reading.specs.declared.kind.CommandKind.TheVariants.{New, Get, Set, Cas, Xchg, Rd, Wr, Copy, Drop, Same, Gc, Pin, Unpin}
 use Rattle.trace_reading.specs.Kinds.{first_kinds, later_kinds, kinds, word, limits, command_from, AreWithinLimits}
 use Rattle.trace_reading.specs.Spelling.{TraceLine, IsLine, line, newline, numbers, command_word, numbers_of}
 use Rattle.trace_reading.specs.declared.why.Why.TheVariants.{Command}
-use Rattle.trace_reading.proofs.GrammarNumbers.{AreSmall, same_some}
+use Rattle.trace_reading.proofs.GrammarNumbers.{AreSmall}
 use Rattle.trace_reading.proofs.GrammarLines.{HasKind, kinds_known, limits_small, kind_of, made_numbers, made_word, made_valid, made_known, known_kind, valid_within, word_again}
 use Rattle.trace_reading.specs.Causes.{is_same, numbers_cause, kind_named, ranges_of, numbers_of_kind, command_cause}
-use Rattle.trace_reading.proofs.Words.{up_to, up_to_length, agrees, kind_known}
+use Rattle.trace_reading.proofs.Words.{up_to, up_to_length, kind_known}
 use Rattle.trace_reading.proofs.Free.{IsWord}
 use Rattle.trace_reading.proofs.Numerals.{AreSmallRanges, AreBetween, numbers_spelled, numbers_again, numbers_length, numbers_words}
-use Rattle.trace_reading.proofs.Heads.{join_numbers}
+use Rattle.trace_reading.proofs.HeadWords.{join_numbers}
 
 -- ---- kinds
 
 pub kind_spelled : (ks : List CommandKind) (w : List ℕ) (kind : CommandKind) → kind_named ks w ≡ Some kind → w ≡ word kind
 unfolding kind_named
-kind_spelled [] w kind e = absurd cc
-kind_spelled (x ∷ ks) w kind e = by_test (is_same w (word x)) refl (kind_spelled ks w kind) e
+kind_spelled [] w kind found = absurd cc
+kind_spelled (other_kind ∷ rest) w kind found = by_test (is_same w (word other_kind)) refl (kind_spelled rest w kind) found
   where
-    by_test : (test : Bool) → is_same w (word x) ≡ test → (kind_named ks w ≡ Some kind → w ≡ word kind) → cond test (Some x) (kind_named ks w) ≡ Some kind → w ≡ word kind
-    by_test true same others e = same_text w (word x) (sym same) ∙ ap word (same_some x kind e)
-    by_test false other others e = others e
+    by_test : (test : Bool) → is_same w (word other_kind) ≡ test → (kind_named rest w ≡ Some kind → w ≡ word kind) → cond test (Some other_kind) (kind_named rest w) ≡ Some kind → w ≡ word kind
+    by_test true same others found = same_text w (word other_kind) (sym same) ∙ ap word (same_some other_kind kind found)
+    by_test false other others found = others found
 
 -- what all of the kinds are, the one that was found is
 kind_is : (P : CommandKind → Type 0) (ks : List CommandKind) (w : List ℕ) (kind : CommandKind) → AllByRecursion P ks → kind_named ks w ≡ Some kind → P kind
 unfolding kind_named
-kind_is P [] w kind all e = absurd cc
-kind_is P (x ∷ ks) w kind all e = by_test (is_same w (word x)) (kind_is P ks w kind all.1) e
+kind_is P [] w kind all found = absurd cc
+kind_is P (other_kind ∷ rest) w kind all found = by_test (is_same w (word other_kind)) (kind_is P rest w kind all.1) found
   where
-    by_test : (test : Bool) → (kind_named ks w ≡ Some kind → P kind) → cond test (Some x) (kind_named ks w) ≡ Some kind → P kind
-    by_test true others e = subst P (same_some x kind e) all.0
-    by_test false others e = others e
+    by_test : (test : Bool) → (kind_named rest w ≡ Some kind → P kind) → cond test (Some other_kind) (kind_named rest w) ≡ Some kind → P kind
+    by_test true others found = subst P (same_some other_kind kind found) all.0
+    by_test false others found = others found
 
 -- a kind of version 1, whatever kinds follow
 first_again : (later : List CommandKind) (kind : CommandKind) → HasKind 1 kind → kind_named (first_kinds ++ later) (word kind) ≡ Some kind
@@ -59,7 +61,7 @@ old_again version kind old =
     kinds_by version (λ (ks : List CommandKind). kind_named ks (word kind) ≡ Some kind) (λ one. first_again [] kind old) (λ two. first_again later_kinds kind old)
 
 later_again : (version : ℕ) (kind : CommandKind) → 2 ≤ version → kind_named (first_kinds ++ later_kinds) (word kind) ≡ Some kind → kind_named (kinds version) (word kind) ≡ Some kind
-later_again version kind two e = kinds_by version (λ (ks : List CommandKind). kind_named ks (word kind) ≡ Some kind) (λ one. absurd (omega (arith, one, two))) (λ same. e)
+later_again version kind two found = kinds_by version (λ (ks : List CommandKind). kind_named ks (word kind) ≡ Some kind) (λ one. absurd (omega (arith, one, two))) (λ same. found)
 
 pub kind_again : (version : ℕ) (kind : CommandKind) → HasKind version kind → kind_named (kinds version) (word kind) ≡ Some kind
 unfolding kind_named
@@ -106,42 +108,42 @@ small_ranges threads kind small = (small, small_up_to (limits kind) (limits_smal
 
 -- the words of a line
 abbrev pub line_words : TraceLine → List (List ℕ)
-line_words l = decimal l.thread ∷ command_word l.command ∷ map decimal (numbers_of l.command)
+line_words trace_line = decimal trace_line.thread ∷ command_word trace_line.command ∷ map decimal (numbers_of trace_line.command)
 
-pub line_is : (l : TraceLine) → join_with_byte 32 (line_words l) ++ newline ∷ [] ≡ line l
-line_is l =
-    append_assoc (decimal l.thread) (32 ∷ join_with_byte 32 (command_word l.command ∷ map decimal (numbers_of l.command))) (newline ∷ [])
-    ∙ ap (λ (t : List ℕ). decimal l.thread ++ 32 ∷ (t ++ newline ∷ [])) (join_numbers (command_word l.command) (numbers_of l.command))
-    ∙ ap (λ (t : List ℕ). decimal l.thread ++ 32 ∷ t) (append_assoc (command_word l.command) (numbers (numbers_of l.command)) (newline ∷ []))
+pub line_is : (trace_line : TraceLine) → join_with_byte 32 (line_words trace_line) ++ newline ∷ [] ≡ line trace_line
+line_is trace_line =
+    append_assoc (decimal trace_line.thread) (32 ∷ join_with_byte 32 (command_word trace_line.command ∷ map decimal (numbers_of trace_line.command))) (newline ∷ [])
+    ∙ ap (λ (t : List ℕ). decimal trace_line.thread ++ 32 ∷ (t ++ newline ∷ [])) (join_numbers (command_word trace_line.command) (numbers_of trace_line.command))
+    ∙ ap (λ (t : List ℕ). decimal trace_line.thread ++ 32 ∷ t) (append_assoc (command_word trace_line.command) (numbers (numbers_of trace_line.command)) (newline ∷ []))
 
 -- the numbers of a line: the thread, and those of the command
-fits_ranges : (version threads : ℕ) (l : TraceLine) → IsLine version threads l → AreBetween (ranges_of threads (limits (kind_of l.command))) (l.thread ∷ numbers_of l.command)
-fits_ranges version threads l fits = (fits.from_one, fits.to_last, between_limits (limits (kind_of l.command)) (numbers_of l.command) (valid_within l.command fits.valid fits.fits))
+fits_ranges : (version threads : ℕ) (trace_line : TraceLine) → IsLine version threads trace_line → AreBetween (ranges_of threads (limits (kind_of trace_line.command))) (trace_line.thread ∷ numbers_of trace_line.command)
+fits_ranges version threads trace_line fits = (fits.from_one, fits.to_last, between_limits (limits (kind_of trace_line.command)) (numbers_of trace_line.command) (valid_within trace_line.command fits.valid fits.fits))
 
-pub line_clean : (version threads : ℕ) (l : TraceLine) → threads < 2 ^ 64 → IsLine version threads l → AllByRecursion IsWord (line_words l)
-line_clean version threads l small fits =
-    let all = numbers_words (ranges_of threads (limits (kind_of l.command))) (l.thread ∷ numbers_of l.command) (small_ranges threads (kind_of l.command) small) (fits_ranges version threads l fits) in
-    (all.0, (subst IsWord (word_again l.command) (kind_word (kind_of l.command)), all.1))
+pub line_clean : (version threads : ℕ) (trace_line : TraceLine) → threads < 2 ^ 64 → IsLine version threads trace_line → AllByRecursion IsWord (line_words trace_line)
+line_clean version threads trace_line small fits =
+    let all = numbers_words (ranges_of threads (limits (kind_of trace_line.command))) (trace_line.thread ∷ numbers_of trace_line.command) (small_ranges threads (kind_of trace_line.command) small) (fits_ranges version threads trace_line fits) in
+    (all.0, (subst IsWord (word_again trace_line.command) (kind_word (kind_of trace_line.command)), all.1))
 
 -- the words of a line have no cause
-pub line_fine : (version threads : ℕ) (l : TraceLine) → threads < 2 ^ 64 → IsLine version threads l → command_cause version threads (decimal l.thread) (command_word l.command ∷ map decimal (numbers_of l.command)) ≡ None
-line_fine version threads l small fits =
-    let k = kind_of l.command in
+pub line_fine : (version threads : ℕ) (trace_line : TraceLine) → threads < 2 ^ 64 → IsLine version threads trace_line → command_cause version threads (decimal trace_line.thread) (command_word trace_line.command ∷ map decimal (numbers_of trace_line.command)) ≡ None
+line_fine version threads trace_line small fits =
+    let k = kind_of trace_line.command in
     let ranges = ranges_of threads (limits k) in
-    let between = fits_ranges version threads l fits in
-    let size : length (map decimal (numbers_of l.command)) ≡ length (limits k) = lengths ranges (l.thread ∷ numbers_of l.command) between in
-    kind_known version threads (decimal l.thread) (command_word l.command ∷ map decimal (numbers_of l.command)) (command_word l.command) (map decimal (numbers_of l.command)) k refl
-    (ap (kind_named (kinds version)) (sym (word_again l.command)) ∙ kind_again version k (known_kind version l.command fits.known))
-    ∙ rw (agrees (length (map decimal (numbers_of l.command))) (length (limits k)) size) (numbers_again ranges (l.thread ∷ numbers_of l.command) (small_ranges threads k small) between)
+    let between = fits_ranges version threads trace_line fits in
+    let size : length (map decimal (numbers_of trace_line.command)) ≡ length (limits k) = lengths ranges (trace_line.thread ∷ numbers_of trace_line.command) between in
+    kind_known version threads (decimal trace_line.thread) (command_word trace_line.command ∷ map decimal (numbers_of trace_line.command)) (command_word trace_line.command) (map decimal (numbers_of trace_line.command)) k refl
+    (ap (kind_named (kinds version)) (sym (word_again trace_line.command)) ∙ kind_again version k (known_kind version trace_line.command fits.known))
+    ∙ rw (eqb_from_same (length (map decimal (numbers_of trace_line.command))) (length (limits k)) size) (numbers_again ranges (trace_line.thread ∷ numbers_of trace_line.command) (small_ranges threads k small) between)
   where
-    lengths : (ranges : List (ℕ × ℕ)) (ns : List ℕ) → AreBetween (ranges_of threads (limits (kind_of l.command))) (l.thread ∷ numbers_of l.command) → length (map decimal (numbers_of l.command)) ≡ length (limits (kind_of l.command))
-    lengths ranges ns between = numbers_length (up_to (limits (kind_of l.command))) (numbers_of l.command) between.2 ∙ up_to_length (limits (kind_of l.command))
+    lengths : (ranges : List (ℕ × ℕ)) (ns : List ℕ) → AreBetween (ranges_of threads (limits (kind_of trace_line.command))) (trace_line.thread ∷ numbers_of trace_line.command) → length (map decimal (numbers_of trace_line.command)) ≡ length (limits (kind_of trace_line.command))
+    lengths ranges ns between = numbers_length (up_to (limits (kind_of trace_line.command))) (numbers_of trace_line.command) between.2 ∙ up_to_length (limits (kind_of trace_line.command))
 
 -- words without a cause are those of a line
-pub line_spelled : (version threads : ℕ) (thread : List ℕ) (ws : List (List ℕ)) → threads < 2 ^ 64 → command_cause version threads thread ws ≡ None → (l : TraceLine) × IsLine version threads l × (thread ∷ ws ≡ line_words l)
+pub line_spelled : (version threads : ℕ) (thread : List ℕ) (ws : List (List ℕ)) → threads < 2 ^ 64 → command_cause version threads thread ws ≡ None → (trace_line : TraceLine) × IsLine version threads trace_line × (thread ∷ ws ≡ line_words trace_line)
 unfolding command_cause
-line_spelled version threads thread [] small e = absurd cc
-line_spelled version threads thread (w ∷ ws) small e = by_kind (kind_named (kinds version) w) refl e
+line_spelled version threads thread [] small none = absurd cc
+line_spelled version threads thread (w ∷ ws) small none = by_kind (kind_named (kinds version) w) refl none
   where
     with_numbers : (kind : CommandKind) → HasKind version kind → w ≡ word kind → (ns : List ℕ) → thread ∷ ws ≡ map decimal ns → AreBetween (ranges_of threads (limits kind)) ns → (l : TraceLine) × IsLine version threads l × (thread ∷ w ∷ ws ≡ line_words l)
     with_numbers kind has same [] spelled between = absurd between
@@ -158,12 +160,12 @@ line_spelled version threads thread (w ∷ ws) small e = by_kind (kind_named (ki
         )
 
     by_count : (kind : CommandKind) → HasKind version kind → w ≡ word kind → (test : Bool) → eqb (length ws) (length (limits kind)) ≡ test → cond test (numbers_cause (ranges_of threads (limits kind)) (thread ∷ ws)) (Some Command) ≡ None → (l : TraceLine) × IsLine version threads l × (thread ∷ w ∷ ws ≡ line_words l)
-    by_count kind has same false count e = absurd cc
-    by_count kind has same true count e =
+    by_count kind has same false count none = absurd cc
+    by_count kind has same true count none =
         let size : length ws ≡ length (limits kind) = eqb-true _ _ count in
-        let made = numbers_spelled (ranges_of threads (limits kind)) (thread ∷ ws) (small_ranges threads kind small) (ap suc (size ∙ sym (up_to_length (limits kind)))) e in
+        let made = numbers_spelled (ranges_of threads (limits kind)) (thread ∷ ws) (small_ranges threads kind small) (ap suc (size ∙ sym (up_to_length (limits kind)))) none in
         with_numbers kind has same made.0 made.1 made.2
 
     by_kind : (found : Option CommandKind) → kind_named (kinds version) w ≡ found → numbers_of_kind threads thread found ws ≡ None → (l : TraceLine) × IsLine version threads l × (thread ∷ w ∷ ws ≡ line_words l)
-    by_kind None is e = absurd cc
-    by_kind (Some kind) is e = by_count kind (kind_is (HasKind version) (kinds version) w kind (kinds_known version) is) (kind_spelled (kinds version) w kind is) (eqb (length ws) (length (limits kind))) refl e
+    by_kind None is none = absurd cc
+    by_kind (Some kind) is none = by_count kind (kind_is (HasKind version) (kinds version) w kind (kinds_known version) is) (kind_spelled (kinds version) w kind is) (eqb (length ws) (length (limits kind))) refl none

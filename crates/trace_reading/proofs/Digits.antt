@@ -21,13 +21,13 @@ behind_by_front (t ∷ text) (b ∷ bytes) = by_first (eqb b t) (pointwise eqb (
     by_first false others found other_found e = refl
 
 pub digit_is_digit : (c : ℕ) → is_ascii_digit c ≡ true → digit_value c < 10
-digit_is_digit c e = grind (arith, nat_tests)
+digit_is_digit c same = grind (arith, nat_tests)
 
 one-add : (n : ℕ) → 1 + n ≡ suc n
 one-add n = omega arith
 
 pub value_of_digit : (c : ℕ) → IsInRange 48 57 c → digit_value c ≡ c - 48
-value_of_digit c r = grind (arith, nat_tests)
+value_of_digit c in_range = grind (arith, nat_tests)
 
 -- the digits at the front are digits
 pub digits_are_digits : (bytes : List ℕ) → AllDigits 10 (take (digit_count bytes) bytes)
@@ -40,8 +40,8 @@ digits_are_digits (b ∷ bytes) = by_first (is_ascii_digit b) refl (digits_are_d
 
 -- what a comparison of the front answered
 pub stripped : {R : Type 0} (now : R → List ℕ) (found : Option R) (same : Bool) (rest : List ℕ) (size : R → Type 0) → MatchOption found (same ≡ false) (λ x. (same ≡ true) × (now x ≡ rest) × size x) → option_map now found ≡ cond same (Some rest) None
-stripped now None same rest size h = rw h refl
-stripped now (Some x) same rest size h = rw (h.0, h.1) refl
+stripped now None same rest size match_option = rw match_option refl
+stripped now (Some x) same rest size match_option = rw (match_option.0, match_option.1) refl
 
 -- one digit more
 pub value_more : (digits : List ℕ) (index : ℕ) → AllDigits 10 digits → index < length digits → digits_value 10 (take (index + 1) digits) ≡ digits_value 10 (take index digits) * 10 + (get_or digits index 0 - 48)

@@ -4,6 +4,7 @@ use Rattle.std.specs.List.{AllByRecursion}
 use Rattle.std.specs.Fmt.{decimal}
 use Rattle.std.proofs.lemmas.Bool.{ltb-true, ltb-false}
 use Rattle.std.proofs.lemmas.List.{get_or-take}
+use Rattle.shen_graph.proofs.Options.{same_some}
 use Rattle.shen_graph.specs.declared.command.Command.{Command}
 use Rattle.shen_graph.specs.declared.command.Command.TheVariants as command
 use Rattle.shen_graph.specs.Valid.{IsValid}
@@ -13,20 +14,20 @@ use Rattle.trace_reading.specs.Spelling.{TraceLine, IsLine, IsKnown, FitsWhenWri
 use Rattle.trace_reading.specs.Kinds.{first_kinds, later_kinds, kinds, word, limits, command_from, AreWithinLimits, Suit}
 use Rattle.trace_reading.specs.Scanning.{◌>>=◌, behind, found, positive_at, numbers_at, kind_among, spelled_command, line_at}
 use Rattle.trace_reading.specs.Front.{NoDigit}
-use Rattle.trace_reading.proofs.GrammarNumbers.{AreSmall, then_some, same_some, behind_takes, positive_takes, positive_again, numbers_take, numbers_again}
+use Rattle.trace_reading.proofs.GrammarNumbers.{AreSmall, then_some, behind_takes, positive_takes, positive_again, numbers_take, numbers_again}
 
 -- ---- kinds
 
 pub kind_takes : (ks : List CommandKind) (bytes : List ℕ) (x : CommandKind × List ℕ) → kind_among ks bytes ≡ Some x → bytes ≡ word x.0 ++ x.1
 unfolding kind_among
 kind_takes [] bytes x e = absurd cc
-kind_takes (k ∷ ks) bytes x e = by_first (behind (word k) bytes) refl (kind_takes ks bytes x) e
+kind_takes (kind ∷ ks) bytes x e = by_first (behind (word kind) bytes) refl (kind_takes ks bytes x) e
   where
-    by_first : (first : Option (List ℕ)) → behind (word k) bytes ≡ first → (kind_among ks bytes ≡ Some x → bytes ≡ word x.0 ++ x.1) → found k first (kind_among ks bytes) ≡ Some x → bytes ≡ word x.0 ++ x.1
+    by_first : (first : Option (List ℕ)) → behind (word kind) bytes ≡ first → (kind_among ks bytes ≡ Some x → bytes ≡ word x.0 ++ x.1) → found kind first (kind_among ks bytes) ≡ Some x → bytes ≡ word x.0 ++ x.1
     by_first None at_front others e = others e
     by_first (Some rest) at_front others e =
-        let made : CommandKind × List ℕ = (k, rest) in
-        subst (λ (y : CommandKind × List ℕ). bytes ≡ word y.0 ++ y.1) (same_some made x e) (behind_takes (word k) bytes rest at_front)
+        let made : CommandKind × List ℕ = (kind, rest) in
+        subst (λ (y : CommandKind × List ℕ). bytes ≡ word y.0 ++ y.1) (same_some made x e) (behind_takes (word kind) bytes rest at_front)
 
 -- a version has the kind
 abbrev pub HasKind : ℕ → CommandKind → Type 0
@@ -55,12 +56,12 @@ kinds_known version = kinds_by version (λ (ks : List CommandKind). AllByRecursi
 pub kind_is : (P : CommandKind → Type 0) (ks : List CommandKind) (bytes : List ℕ) (x : CommandKind × List ℕ) → AllByRecursion P ks → kind_among ks bytes ≡ Some x → P x.0
 unfolding kind_among
 kind_is P [] bytes x all e = absurd cc
-kind_is P (k ∷ ks) bytes x all e = by_first (behind (word k) bytes) (kind_is P ks bytes x all.1) e
+kind_is P (kind ∷ ks) bytes x all e = by_first (behind (word kind) bytes) (kind_is P ks bytes x all.1) e
   where
-    by_first : (first : Option (List ℕ)) → (kind_among ks bytes ≡ Some x → P x.0) → found k first (kind_among ks bytes) ≡ Some x → P x.0
+    by_first : (first : Option (List ℕ)) → (kind_among ks bytes ≡ Some x → P x.0) → found kind first (kind_among ks bytes) ≡ Some x → P x.0
     by_first None others e = others e
     by_first (Some rest) others e =
-        let made : CommandKind × List ℕ = (k, rest) in
+        let made : CommandKind × List ℕ = (kind, rest) in
         subst (λ (y : CommandKind × List ℕ). P y.0) (same_some made x e) all.0
 
 -- a kind of version 1, whatever kinds follow
@@ -130,19 +131,19 @@ within_front : (bounds ns : List ℕ) (index : ℕ) → AreWithinLimits bounds (
 within_front bounds ns index within lt = subst (λ (n : ℕ). n ≤ get_or bounds index 0) (get_or-take (length bounds) ns index 0 lt) (within_at bounds (take (length bounds) ns) index within lt)
 
 pub suits : (kind : CommandKind) (ns : List ℕ) → AreWithinLimits (limits kind) (take (length (limits kind)) ns) → Suit kind ns
-suits New ns h = let at = λ (i : ℕ). within_front (limits New) ns i h in (at 0 (lit< tt), at 1 (lit< tt), at 2 (lit< tt))
-suits Get ns h = let at = λ (i : ℕ). within_front (limits Get) ns i h in (at 0 (lit< tt), at 1 (lit< tt), at 2 (lit< tt))
-suits Set ns h = let at = λ (i : ℕ). within_front (limits Set) ns i h in (at 0 (lit< tt), at 1 (lit< tt), at 2 (lit< tt))
-suits Cas ns h = let at = λ (i : ℕ). within_front (limits Cas) ns i h in (at 0 (lit< tt), at 1 (lit< tt), at 2 (lit< tt), at 3 (lit< tt))
-suits Xchg ns h = let at = λ (i : ℕ). within_front (limits Xchg) ns i h in (at 0 (lit< tt), at 1 (lit< tt), at 2 (lit< tt), at 3 (lit< tt))
-suits Rd ns h = let at = λ (i : ℕ). within_front (limits Rd) ns i h in (at 0 (lit< tt), at 1 (lit< tt))
-suits Wr ns h = let at = λ (i : ℕ). within_front (limits Wr) ns i h in (at 0 (lit< tt), at 1 (lit< tt))
-suits Copy ns h = let at = λ (i : ℕ). within_front (limits Copy) ns i h in (at 0 (lit< tt), at 1 (lit< tt))
-suits Drop ns h = within_front (limits Drop) ns 0 h (lit< tt)
-suits Same ns h = let at = λ (i : ℕ). within_front (limits Same) ns i h in (at 0 (lit< tt), at 1 (lit< tt))
-suits Gc ns h = tt
-suits Pin ns h = let at = λ (i : ℕ). within_front (limits Pin) ns i h in (at 0 (lit< tt), at 1 (lit< tt))
-suits Unpin ns h = within_front (limits Unpin) ns 0 h (lit< tt)
+suits New ns within_limits = let at = λ (index : ℕ). within_front (limits New) ns index within_limits in (at 0 (lit< tt), at 1 (lit< tt), at 2 (lit< tt))
+suits Get ns within_limits = let at = λ (index : ℕ). within_front (limits Get) ns index within_limits in (at 0 (lit< tt), at 1 (lit< tt), at 2 (lit< tt))
+suits Set ns within_limits = let at = λ (index : ℕ). within_front (limits Set) ns index within_limits in (at 0 (lit< tt), at 1 (lit< tt), at 2 (lit< tt))
+suits Cas ns within_limits = let at = λ (index : ℕ). within_front (limits Cas) ns index within_limits in (at 0 (lit< tt), at 1 (lit< tt), at 2 (lit< tt), at 3 (lit< tt))
+suits Xchg ns within_limits = let at = λ (index : ℕ). within_front (limits Xchg) ns index within_limits in (at 0 (lit< tt), at 1 (lit< tt), at 2 (lit< tt), at 3 (lit< tt))
+suits Rd ns within_limits = let at = λ (index : ℕ). within_front (limits Rd) ns index within_limits in (at 0 (lit< tt), at 1 (lit< tt))
+suits Wr ns within_limits = let at = λ (index : ℕ). within_front (limits Wr) ns index within_limits in (at 0 (lit< tt), at 1 (lit< tt))
+suits Copy ns within_limits = let at = λ (index : ℕ). within_front (limits Copy) ns index within_limits in (at 0 (lit< tt), at 1 (lit< tt))
+suits Drop ns within_limits = within_front (limits Drop) ns 0 within_limits (lit< tt)
+suits Same ns within_limits = let at = λ (index : ℕ). within_front (limits Same) ns index within_limits in (at 0 (lit< tt), at 1 (lit< tt))
+suits Gc ns within_limits = tt
+suits Pin ns within_limits = let at = λ (index : ℕ). within_front (limits Pin) ns index within_limits in (at 0 (lit< tt), at 1 (lit< tt))
+suits Unpin ns within_limits = within_front (limits Unpin) ns 0 within_limits (lit< tt)
 
 -- ---- commands
 
@@ -162,46 +163,46 @@ kind_of (command.Pin slot obj) = Pin
 kind_of (command.Unpin slot) = Unpin
 
 pub within_length : (bounds ns : List ℕ) → AreWithinLimits bounds ns → length ns ≡ length bounds
-within_length [] [] h = refl
-within_length [] (n ∷ ns) h = absurd h
-within_length (b ∷ bounds) [] h = absurd h
-within_length (b ∷ bounds) (n ∷ ns) h = ap suc (within_length bounds ns h.1)
+within_length [] [] within_limits = refl
+within_length [] (n ∷ ns) within_limits = absurd within_limits
+within_length (b ∷ bounds) [] within_limits = absurd within_limits
+within_length (b ∷ bounds) (n ∷ ns) within_limits = ap suc (within_length bounds ns within_limits.1)
 
 -- lists of few numbers, one by one
 none_listed : (ns : List ℕ) → length ns ≡ 0 → [] ≡ ns
-none_listed [] e = refl
-none_listed (a ∷ ns) e = absurd (omega arith)
+none_listed [] same = refl
+none_listed (a ∷ ns) same = absurd (omega arith)
 
 one_listed : (ns : List ℕ) → length ns ≡ 1 → get_or ns 0 0 ∷ [] ≡ ns
-one_listed [] e = absurd (omega arith)
-one_listed (a ∷ ns) e = ap (λ (xs : List ℕ). a ∷ xs) (none_listed ns (omega arith))
+one_listed [] same = absurd (omega arith)
+one_listed (a ∷ ns) same = ap (λ (xs : List ℕ). a ∷ xs) (none_listed ns (omega arith))
 
 pub two_listed : (ns : List ℕ) → length ns ≡ 2 → get_or ns 0 0 ∷ get_or ns 1 0 ∷ [] ≡ ns
-two_listed [] e = absurd (omega arith)
-two_listed (a ∷ ns) e = ap (λ (xs : List ℕ). a ∷ xs) (one_listed ns (omega arith))
+two_listed [] same = absurd (omega arith)
+two_listed (a ∷ ns) same = ap (λ (xs : List ℕ). a ∷ xs) (one_listed ns (omega arith))
 
 pub three_listed : (ns : List ℕ) → length ns ≡ 3 → get_or ns 0 0 ∷ get_or ns 1 0 ∷ get_or ns 2 0 ∷ [] ≡ ns
-three_listed [] e = absurd (omega arith)
-three_listed (a ∷ ns) e = ap (λ (xs : List ℕ). a ∷ xs) (two_listed ns (omega arith))
+three_listed [] same = absurd (omega arith)
+three_listed (a ∷ ns) same = ap (λ (xs : List ℕ). a ∷ xs) (two_listed ns (omega arith))
 
 four_listed : (ns : List ℕ) → length ns ≡ 4 → get_or ns 0 0 ∷ get_or ns 1 0 ∷ get_or ns 2 0 ∷ get_or ns 3 0 ∷ [] ≡ ns
-four_listed [] e = absurd (omega arith)
-four_listed (a ∷ ns) e = ap (λ (xs : List ℕ). a ∷ xs) (three_listed ns (omega arith))
+four_listed [] same = absurd (omega arith)
+four_listed (a ∷ ns) same = ap (λ (xs : List ℕ). a ∷ xs) (three_listed ns (omega arith))
 
 pub made_numbers : (kind : CommandKind) (ns : List ℕ) → AreWithinLimits (limits kind) ns → numbers_of (command_from kind ns) ≡ ns
-made_numbers New ns h = three_listed ns (within_length (limits New) ns h)
-made_numbers Get ns h = three_listed ns (within_length (limits Get) ns h)
-made_numbers Set ns h = three_listed ns (within_length (limits Set) ns h)
-made_numbers Cas ns h = four_listed ns (within_length (limits Cas) ns h)
-made_numbers Xchg ns h = four_listed ns (within_length (limits Xchg) ns h)
-made_numbers Rd ns h = two_listed ns (within_length (limits Rd) ns h)
-made_numbers Wr ns h = three_listed ns (within_length (limits Wr) ns h)
-made_numbers Copy ns h = two_listed ns (within_length (limits Copy) ns h)
-made_numbers Drop ns h = one_listed ns (within_length (limits Drop) ns h)
-made_numbers Same ns h = two_listed ns (within_length (limits Same) ns h)
-made_numbers Gc ns h = none_listed ns (within_length (limits Gc) ns h)
-made_numbers Pin ns h = two_listed ns (within_length (limits Pin) ns h)
-made_numbers Unpin ns h = one_listed ns (within_length (limits Unpin) ns h)
+made_numbers New ns within_limits = three_listed ns (within_length (limits New) ns within_limits)
+made_numbers Get ns within_limits = three_listed ns (within_length (limits Get) ns within_limits)
+made_numbers Set ns within_limits = three_listed ns (within_length (limits Set) ns within_limits)
+made_numbers Cas ns within_limits = four_listed ns (within_length (limits Cas) ns within_limits)
+made_numbers Xchg ns within_limits = four_listed ns (within_length (limits Xchg) ns within_limits)
+made_numbers Rd ns within_limits = two_listed ns (within_length (limits Rd) ns within_limits)
+made_numbers Wr ns within_limits = three_listed ns (within_length (limits Wr) ns within_limits)
+made_numbers Copy ns within_limits = two_listed ns (within_length (limits Copy) ns within_limits)
+made_numbers Drop ns within_limits = one_listed ns (within_length (limits Drop) ns within_limits)
+made_numbers Same ns within_limits = two_listed ns (within_length (limits Same) ns within_limits)
+made_numbers Gc ns within_limits = none_listed ns (within_length (limits Gc) ns within_limits)
+made_numbers Pin ns within_limits = two_listed ns (within_length (limits Pin) ns within_limits)
+made_numbers Unpin ns within_limits = one_listed ns (within_length (limits Unpin) ns within_limits)
 
 pub made_word : (kind : CommandKind) (ns : List ℕ) → command_word (command_from kind ns) ≡ word kind
 made_word New ns = refl
@@ -219,22 +220,22 @@ made_word Pin ns = refl
 made_word Unpin ns = refl
 
 at_most : (bounds ns : List ℕ) → AreWithinLimits bounds ns → (index : ℕ) → index < length bounds → get_or ns index 0 ≤ get_or bounds index 0
-at_most bounds ns h index lt = within_at bounds ns index h lt
+at_most bounds ns within_limits index lt = within_at bounds ns index within_limits lt
 
 pub made_valid : (kind : CommandKind) (ns : List ℕ) → AreWithinLimits (limits kind) ns → IsValid (command_from kind ns) × FitsWhenWritten (command_from kind ns)
-made_valid New ns h = let at = at_most (limits New) ns h in let a = at 0 (lit< tt) in let b = at 1 (lit< tt) in let c = at 2 (lit< tt) in ((omega arith, omega arith, omega arith), tt)
-made_valid Get ns h = let at = at_most (limits Get) ns h in let a = at 0 (lit< tt) in let b = at 1 (lit< tt) in let c = at 2 (lit< tt) in ((omega arith, omega arith, omega arith), tt)
-made_valid Set ns h = let at = at_most (limits Set) ns h in let a = at 0 (lit< tt) in let b = at 1 (lit< tt) in let c = at 2 (lit< tt) in ((omega arith, omega arith, omega arith), tt)
-made_valid Cas ns h = let at = at_most (limits Cas) ns h in let a = at 0 (lit< tt) in let b = at 1 (lit< tt) in let c = at 2 (lit< tt) in let d = at 3 (lit< tt) in ((omega arith, omega arith, omega arith, omega arith), tt)
-made_valid Xchg ns h = let at = at_most (limits Xchg) ns h in let a = at 0 (lit< tt) in let b = at 1 (lit< tt) in let c = at 2 (lit< tt) in let d = at 3 (lit< tt) in ((omega arith, omega arith, omega arith, omega arith), tt)
-made_valid Rd ns h = let at = at_most (limits Rd) ns h in let a = at 0 (lit< tt) in let b = at 1 (lit< tt) in ((omega arith, omega arith), tt)
-made_valid Wr ns h = let at = at_most (limits Wr) ns h in let a = at 0 (lit< tt) in let b = at 1 (lit< tt) in let c = at 2 (lit< tt) in ((omega arith, omega arith), omega arith)
-made_valid Copy ns h = let at = at_most (limits Copy) ns h in let a = at 0 (lit< tt) in let b = at 1 (lit< tt) in ((omega arith, omega arith), tt)
-made_valid Drop ns h = let at = at_most (limits Drop) ns h in let a = at 0 (lit< tt) in (omega arith, tt)
-made_valid Same ns h = let at = at_most (limits Same) ns h in let a = at 0 (lit< tt) in let b = at 1 (lit< tt) in ((omega arith, omega arith), tt)
-made_valid Gc ns h = (tt, tt)
-made_valid Pin ns h = let at = at_most (limits Pin) ns h in let a = at 0 (lit< tt) in let b = at 1 (lit< tt) in ((omega arith, omega arith), tt)
-made_valid Unpin ns h = let at = at_most (limits Unpin) ns h in let a = at 0 (lit< tt) in (omega arith, tt)
+made_valid New ns within_limits = let at = at_most (limits New) ns within_limits in let a = at 0 (lit< tt) in let b = at 1 (lit< tt) in let c = at 2 (lit< tt) in ((omega arith, omega arith, omega arith), tt)
+made_valid Get ns within_limits = let at = at_most (limits Get) ns within_limits in let a = at 0 (lit< tt) in let b = at 1 (lit< tt) in let c = at 2 (lit< tt) in ((omega arith, omega arith, omega arith), tt)
+made_valid Set ns within_limits = let at = at_most (limits Set) ns within_limits in let a = at 0 (lit< tt) in let b = at 1 (lit< tt) in let c = at 2 (lit< tt) in ((omega arith, omega arith, omega arith), tt)
+made_valid Cas ns within_limits = let at = at_most (limits Cas) ns within_limits in let a = at 0 (lit< tt) in let b = at 1 (lit< tt) in let c = at 2 (lit< tt) in let d = at 3 (lit< tt) in ((omega arith, omega arith, omega arith, omega arith), tt)
+made_valid Xchg ns within_limits = let at = at_most (limits Xchg) ns within_limits in let a = at 0 (lit< tt) in let b = at 1 (lit< tt) in let c = at 2 (lit< tt) in let d = at 3 (lit< tt) in ((omega arith, omega arith, omega arith, omega arith), tt)
+made_valid Rd ns within_limits = let at = at_most (limits Rd) ns within_limits in let a = at 0 (lit< tt) in let b = at 1 (lit< tt) in ((omega arith, omega arith), tt)
+made_valid Wr ns within_limits = let at = at_most (limits Wr) ns within_limits in let a = at 0 (lit< tt) in let b = at 1 (lit< tt) in let c = at 2 (lit< tt) in ((omega arith, omega arith), omega arith)
+made_valid Copy ns within_limits = let at = at_most (limits Copy) ns within_limits in let a = at 0 (lit< tt) in let b = at 1 (lit< tt) in ((omega arith, omega arith), tt)
+made_valid Drop ns within_limits = let at = at_most (limits Drop) ns within_limits in let a = at 0 (lit< tt) in (omega arith, tt)
+made_valid Same ns within_limits = let at = at_most (limits Same) ns within_limits in let a = at 0 (lit< tt) in let b = at 1 (lit< tt) in ((omega arith, omega arith), tt)
+made_valid Gc ns within_limits = (tt, tt)
+made_valid Pin ns within_limits = let at = at_most (limits Pin) ns within_limits in let a = at 0 (lit< tt) in let b = at 1 (lit< tt) in ((omega arith, omega arith), tt)
+made_valid Unpin ns within_limits = let at = at_most (limits Unpin) ns within_limits in let a = at 0 (lit< tt) in (omega arith, tt)
 
 -- a command is of the versions that its kind is of
 pub made_known : (version : ℕ) (kind : CommandKind) (ns : List ℕ) → HasKind version kind → IsKnown version (command_from kind ns)
@@ -252,7 +253,7 @@ made_known version Drop ns known = tt
 made_known version Same ns known = tt
 made_known version Gc ns known = tt
 
-pub known_kind : (version : ℕ) (c : Command) → IsKnown version c → HasKind version (kind_of c)
+pub known_kind : (version : ℕ) (asked : Command) → IsKnown version asked → HasKind version (kind_of asked)
 known_kind version (command.Pin slot obj) known = known
 known_kind version (command.Unpin slot) known = known
 known_kind version (command.New dst refs nums) known = tt
@@ -267,7 +268,7 @@ known_kind version (command.Drop dst) known = tt
 known_kind version (command.Same a b) known = tt
 known_kind version command.Gc known = tt
 
-pub command_again : (c : Command) → command_from (kind_of c) (numbers_of c) ≡ c
+pub command_again : (asked : Command) → command_from (kind_of asked) (numbers_of asked) ≡ asked
 command_again (command.New dst refs nums) = refl
 command_again (command.Get dst src field) = refl
 command_again (command.Set obj field val) = refl
@@ -282,7 +283,7 @@ command_again command.Gc = refl
 command_again (command.Pin slot obj) = refl
 command_again (command.Unpin slot) = refl
 
-pub word_again : (c : Command) → word (kind_of c) ≡ command_word c
+pub word_again : (asked : Command) → word (kind_of asked) ≡ command_word asked
 word_again (command.New dst refs nums) = refl
 word_again (command.Get dst src field) = refl
 word_again (command.Set obj field val) = refl
@@ -297,20 +298,20 @@ word_again command.Gc = refl
 word_again (command.Pin slot obj) = refl
 word_again (command.Unpin slot) = refl
 
-pub valid_within : (c : Command) → IsValid c → FitsWhenWritten c → AreWithinLimits (limits (kind_of c)) (numbers_of c)
-valid_within (command.New dst refs nums) v f = (omega arith, (omega arith, (omega arith, tt)))
-valid_within (command.Get dst src field) v f = (omega arith, (omega arith, (omega arith, tt)))
-valid_within (command.Set obj field val) v f = (omega arith, (omega arith, (omega arith, tt)))
-valid_within (command.Cas obj field expect val) v f = (omega arith, (omega arith, (omega arith, (omega arith, tt))))
-valid_within (command.Xchg dst obj field val) v f = (omega arith, (omega arith, (omega arith, (omega arith, tt))))
-valid_within (command.Rd obj index) v f = (omega arith, (omega arith, tt))
-valid_within (command.Wr obj index value) v f = (omega arith, (omega arith, (omega arith, tt)))
-valid_within (command.Copy dst src) v f = (omega arith, (omega arith, tt))
-valid_within (command.Drop dst) v f = (omega arith, tt)
-valid_within (command.Same a b) v f = (omega arith, (omega arith, tt))
-valid_within command.Gc v f = tt
-valid_within (command.Pin slot obj) v f = (omega arith, (omega arith, tt))
-valid_within (command.Unpin slot) v f = (omega arith, tt)
+pub valid_within : (asked : Command) → IsValid asked → FitsWhenWritten asked → AreWithinLimits (limits (kind_of asked)) (numbers_of asked)
+valid_within (command.New dst refs nums) valid fits_when_written = (omega arith, (omega arith, (omega arith, tt)))
+valid_within (command.Get dst src field) valid fits_when_written = (omega arith, (omega arith, (omega arith, tt)))
+valid_within (command.Set obj field val) valid fits_when_written = (omega arith, (omega arith, (omega arith, tt)))
+valid_within (command.Cas obj field expect val) valid fits_when_written = (omega arith, (omega arith, (omega arith, (omega arith, tt))))
+valid_within (command.Xchg dst obj field val) valid fits_when_written = (omega arith, (omega arith, (omega arith, (omega arith, tt))))
+valid_within (command.Rd obj index) valid fits_when_written = (omega arith, (omega arith, tt))
+valid_within (command.Wr obj index value) valid fits_when_written = (omega arith, (omega arith, (omega arith, tt)))
+valid_within (command.Copy dst src) valid fits_when_written = (omega arith, (omega arith, tt))
+valid_within (command.Drop dst) valid fits_when_written = (omega arith, tt)
+valid_within (command.Same a b) valid fits_when_written = (omega arith, (omega arith, tt))
+valid_within command.Gc valid fits_when_written = tt
+valid_within (command.Pin slot obj) valid fits_when_written = (omega arith, (omega arith, tt))
+valid_within (command.Unpin slot) valid fits_when_written = (omega arith, tt)
 
 -- ---- lines
 
@@ -327,19 +328,19 @@ command_takes version bytes x e =
     let spelled : bytes ≡ command_word made.0 ++ (numbers (numbers_of made.0) ++ made.1) = rw (made_word k.0 ns.0, made_numbers k.0 ns.0 rest.1) (kind ∙ ap (λ (bs : List ℕ). word k.0 ++ bs) rest.0) in
     subst (λ (y : Command × List ℕ). (bytes ≡ command_word y.0 ++ (numbers (numbers_of y.0) ++ y.1)) × IsKnown version y.0 × IsValid y.0 × FitsWhenWritten y.0) (same_some made x behind_is) (spelled, known, valid.0, valid.1)))
 
-pub command_again_at : (version : ℕ) (c : Command) (rest : List ℕ) → IsKnown version c → IsValid c → FitsWhenWritten c → NoDigit rest → spelled_command version (command_word c ++ (numbers (numbers_of c) ++ rest)) ≡ Some (c, rest)
+pub command_again_at : (version : ℕ) (asked : Command) (rest : List ℕ) → IsKnown version asked → IsValid asked → FitsWhenWritten asked → NoDigit rest → spelled_command version (command_word asked ++ (numbers (numbers_of asked) ++ rest)) ≡ Some (asked, rest)
 unfolding spelled_command
-command_again_at version c rest known valid fits none =
-    rw (← word_again c, kind_again version (kind_of c) (numbers (numbers_of c) ++ rest) (known_kind version c known), numbers_again (limits (kind_of c)) (numbers_of c) rest (valid_within c valid fits) (limits_small (kind_of c)) none, command_again c) refl
+command_again_at version asked rest known valid fits none =
+    rw (← word_again asked, kind_again version (kind_of asked) (numbers (numbers_of asked) ++ rest) (known_kind version asked known), numbers_again (limits (kind_of asked)) (numbers_of asked) rest (valid_within asked valid fits) (limits_small (kind_of asked)) none, command_again asked) refl
 
-line-append : (l : TraceLine) (rest : List ℕ) → line l ++ rest ≡ decimal l.thread ++ 32 ∷ (command_word l.command ++ (numbers (numbers_of l.command) ++ 10 ∷ rest))
-line-append l rest =
-    append_assoc (decimal l.thread) (32 ∷ (command_word l.command ++ (numbers (numbers_of l.command) ++ 10 ∷ []))) rest
-    ∙ ap (λ (bs : List ℕ). decimal l.thread ++ 32 ∷ bs) (append_assoc (command_word l.command) (numbers (numbers_of l.command) ++ 10 ∷ []) rest
-    ∙ ap (λ (bs : List ℕ). command_word l.command ++ bs) (append_assoc (numbers (numbers_of l.command)) (10 ∷ []) rest))
+line-append : (trace_line : TraceLine) (rest : List ℕ) → line trace_line ++ rest ≡ decimal trace_line.thread ++ 32 ∷ (command_word trace_line.command ++ (numbers (numbers_of trace_line.command) ++ 10 ∷ rest))
+line-append trace_line rest =
+    append_assoc (decimal trace_line.thread) (32 ∷ (command_word trace_line.command ++ (numbers (numbers_of trace_line.command) ++ 10 ∷ []))) rest
+    ∙ ap (λ (bs : List ℕ). decimal trace_line.thread ++ 32 ∷ bs) (append_assoc (command_word trace_line.command) (numbers (numbers_of trace_line.command) ++ 10 ∷ []) rest
+    ∙ ap (λ (bs : List ℕ). command_word trace_line.command ++ bs) (append_assoc (numbers (numbers_of trace_line.command)) (10 ∷ []) rest))
 
-line_parts : (bytes gap words end rest : List ℕ) (l : TraceLine) → bytes ≡ decimal l.thread ++ gap → gap ≡ 32 ∷ words → words ≡ command_word l.command ++ (numbers (numbers_of l.command) ++ end) → end ≡ 10 ∷ rest → bytes ≡ line l ++ rest
-line_parts bytes gap words end rest l a b c d = rw (a, b, c, d) (sym (line-append l rest))
+line_parts : (bytes gap words end rest : List ℕ) (trace_line : TraceLine) → bytes ≡ decimal trace_line.thread ++ gap → gap ≡ 32 ∷ words → words ≡ command_word trace_line.command ++ (numbers (numbers_of trace_line.command) ++ end) → end ≡ 10 ∷ rest → bytes ≡ line trace_line ++ rest
+line_parts bytes gap words end rest trace_line same b c d = rw (same, b, c, d) (sym (line-append trace_line rest))
 
 pub line_takes : (version threads : ℕ) (bytes : List ℕ) (x : TraceLine × List ℕ) → threads < 2 ^ 64 → line_at version threads bytes ≡ Some x → (bytes ≡ line x.0 ++ x.1) × IsLine version threads x.0
 unfolding line_at
@@ -355,8 +356,8 @@ line_takes version threads bytes x small e =
     subst (λ (y : TraceLine × List ℕ). (bytes ≡ line y.0 ++ y.1) × IsLine version threads y.0) (same_some made x from_end)
     (spelled, record { from_one = thread.1; to_last = thread.2; known = command.1; valid = command.2; fits = command.3 })))))
 
-pub line_again : (version threads : ℕ) (l : TraceLine) (rest : List ℕ) → threads < 2 ^ 64 → IsLine version threads l → line_at version threads (line l ++ rest) ≡ Some (l, rest)
+pub line_again : (version threads : ℕ) (trace_line : TraceLine) (rest : List ℕ) → threads < 2 ^ 64 → IsLine version threads trace_line → line_at version threads (line trace_line ++ rest) ≡ Some (trace_line, rest)
 unfolding line_at
-line_again version threads l rest small fits =
-    ap (line_at version threads) (line-append l rest)
-    ∙ rw (positive_again threads l.thread (32 ∷ (command_word l.command ++ (numbers (numbers_of l.command) ++ 10 ∷ rest))) fits.from_one fits.to_last small refl, command_again_at version l.command (10 ∷ rest) fits.known fits.valid fits.fits refl) refl
+line_again version threads trace_line rest small fits =
+    ap (line_at version threads) (line-append trace_line rest)
+    ∙ rw (positive_again threads trace_line.thread (32 ∷ (command_word trace_line.command ++ (numbers (numbers_of trace_line.command) ++ 10 ∷ rest))) fits.from_one fits.to_last small refl, command_again_at version trace_line.command (10 ∷ rest) fits.known fits.valid fits.fits refl) refl

@@ -6,6 +6,7 @@ use Rattle.std.specs.Str.Parse.{AllDigits}
 use Rattle.std.specs.Cmp.Lexicographic.{same_text}
 use Rattle.std.proofs.lemmas.Fmt.{digits_decimal}
 use Rattle.std.proofs.lemmas.List.Splits.{join_with_byte-slice_split}
+use Rattle.shen_graph.proofs.Lists.{same_before_end}
 use Rattle.heap_words.specs.declared.config.Config.{Config}
 use Rattle.heap_words.specs.declared.schedule.Item.{Item}
 use Rattle.trace_reading.specs.Spelling.{TraceLine, IsLine, line, newline, item, schedule_line, IsScheduleLine, command_word, numbers_of}
@@ -16,7 +17,7 @@ use Rattle.trace_reading.specs.Refused.{LineStage, Version, Heap, Threads, Comma
 use Rattle.trace_reading.proofs.Cuts.{count_before, cut_parts}
 use Rattle.trace_reading.proofs.Lines.{whole_line, cut_line, turn_words, late_words, command_words}
 use Rattle.trace_reading.proofs.Free.{is_free, parts_at, parts_again, joined_free}
-use Rattle.trace_reading.proofs.Heads.{joined, same_before_end, version_spelled, version_again, heap_spelled, heap_again, threads_spelled, threads_again}
+use Rattle.trace_reading.proofs.HeadWords.{joined, version_spelled, version_again, heap_spelled, heap_again, threads_spelled, threads_again}
 use Rattle.trace_reading.proofs.Commands.{line_words, line_is, line_clean, line_fine, line_spelled}
 use Rattle.trace_reading.proofs.ScheduleWords.{words_of_turn, turn_is, turn_clean, schedule_spelled, schedule_again}
 
@@ -25,12 +26,12 @@ few_threads config = omega (arith, config.in_range.most_mutators)
 
 -- ---- a line of the grammar has no cause, and no end within it
 
-pub line_text : (version threads : ℕ) (text : List ℕ) (l : TraceLine) → threads < 2 ^ 64 → IsLine version threads l → text ++ newline ∷ [] ≡ line l → (parts 32 text ≡ line_words l) × (is_free 10 text ≡ true)
-line_text version threads text l small fits e =
-    let same : text ≡ join_with_byte 32 (line_words l) = same_before_end text (join_with_byte 32 (line_words l)) newline (e ∙ sym (line_is l)) in
-    let clean = line_clean version threads l small fits in
-    let others = command_word l.command ∷ map decimal (numbers_of l.command) in
-    (ap (parts 32) same ∙ parts_again (decimal l.thread) others clean, ap (is_free 10) same ∙ joined_free (decimal l.thread) others clean)
+pub line_text : (version threads : ℕ) (text : List ℕ) (trace_line : TraceLine) → threads < 2 ^ 64 → IsLine version threads trace_line → text ++ newline ∷ [] ≡ line trace_line → (parts 32 text ≡ line_words trace_line) × (is_free 10 text ≡ true)
+line_text version threads text trace_line small fits e =
+    let same : text ≡ join_with_byte 32 (line_words trace_line) = same_before_end text (join_with_byte 32 (line_words trace_line)) newline (e ∙ sym (line_is trace_line)) in
+    let clean = line_clean version threads trace_line small fits in
+    let others = command_word trace_line.command ∷ map decimal (numbers_of trace_line.command) in
+    (ap (parts 32) same ∙ parts_again (decimal trace_line.thread) others clean, ap (is_free 10) same ∙ joined_free (decimal trace_line.thread) others clean)
 
 pub turn_text : (config : Config) (text : List ℕ) (items : List Item) → IsScheduleLine config items → text ++ newline ∷ [] ≡ schedule_line items → (parts 32 text ≡ words_of_turn items) × (is_free 10 text ≡ true)
 turn_text config text items good e =
@@ -40,7 +41,7 @@ turn_text config text items good e =
 
 -- a number is no mark of the schedule
 pub no_number : (n : ℕ) → n < 2 ^ 64 → decimal n ≡ 33 ∷ [] → ⊥
-no_number n small e = let digits : AllDigits 10 (33 ∷ []) = subst (AllDigits 10) e (digits_decimal own n small) in omega (arith, digits.0)
+no_number n small same = let digits : AllDigits 10 (33 ∷ []) = subst (AllDigits 10) same (digits_decimal own n small) in omega (arith, digits.0)
 
 no_mark : (n : ℕ) → n < 2 ^ 64 → false ≡ is_same (decimal n) (33 ∷ [])
 no_mark n small = by_test (is_same (decimal n) (33 ∷ [])) refl
@@ -49,35 +50,35 @@ no_mark n small = by_test (is_same (decimal n) (33 ∷ [])) refl
     by_test false e = refl
     by_test true e = absurd (no_number n small (same_text (decimal n) (33 ∷ []) (sym e)))
 
-command_fine : (v : ℕ) (config : Config) (text : List ℕ) → IsCommandLine v config text → (words_cause (Commands v config) (parts 32 text) ≡ None) × (is_free 10 text ≡ true)
-command_fine v config text it =
+command_fine : (version : ℕ) (config : Config) (text : List ℕ) → IsCommandLine version config text → (words_cause (Commands version config) (parts 32 text) ≡ None) × (is_free 10 text ≡ true)
+command_fine version config text it =
     let l = it.0 in
-    let read = line_text v config.mutators text l (few_threads config) it.1 it.2 in
+    let read = line_text version config.mutators text l (few_threads config) it.1 it.2 in
     let small : l.thread < 2 ^ 64 = omega (arith, it.1.to_last, few_threads config) in
-    (command_words v config false (parts 32 text) (decimal l.thread) (command_word l.command ∷ map decimal (numbers_of l.command)) read.0 (no_mark l.thread small) refl ∙ line_fine v config.mutators l (few_threads config) it.1, read.1)
+    (command_words version config false (parts 32 text) (decimal l.thread) (command_word l.command ∷ map decimal (numbers_of l.command)) read.0 (no_mark l.thread small) refl ∙ line_fine version config.mutators l (few_threads config) it.1, read.1)
 
-turn_fine : (v : ℕ) (config : Config) (behind : Bool) (text : List ℕ) → IsTurnItem config text → (words_cause (body_stage v config behind) (parts 32 text) ≡ None) × (is_free 10 text ≡ true)
-turn_fine v config behind text it =
+turn_fine : (version : ℕ) (config : Config) (behind : Bool) (text : List ℕ) → IsTurnItem config text → (words_cause (body_stage version config behind) (parts 32 text) ≡ None) × (is_free 10 text ≡ true)
+turn_fine version config behind text it =
     let read = turn_text config text it.0 it.1 it.2 in
-    (turn_words v config behind (parts 32 text) (33 ∷ []) (map item it.0) read.0 refl ∙ schedule_again config it.0 it.1, read.1)
+    (turn_words version config behind (parts 32 text) (33 ∷ []) (map item it.0) read.0 refl ∙ schedule_again config it.0 it.1, read.1)
 
 pub fine : (stage : LineStage) (text : List ℕ) (next : LineStage) → LineFollows stage text next → (words_cause stage (parts 32 text) ≡ None) × (is_free 10 text ≡ true)
-fine Version text next f = let read = version_again f.0 text f.1 f.2 in (read.0, read.1)
-fine (Heap v) text next f = let read = heap_again v f.0 text f.1 f.2 in (read.0, read.1)
-fine (Threads v r w e) text next f = let read = threads_again v r w e f.0 text f.4 in (read.0, read.1)
-fine (Commands v c) text next (inl f) = command_fine v c text f.0
-fine (Commands v c) text next (inr f) = turn_fine v c false text f.0
-fine (Turns c) text next f = turn_fine 1 c true text f.0
+fine Version text next line_follows = let read = version_again line_follows.0 text line_follows.1 line_follows.2 in (read.0, read.1)
+fine (Heap version) text next line_follows = let read = heap_again version line_follows.0 text line_follows.1 line_follows.2 in (read.0, read.1)
+fine (Threads version regions region_words reserve) text next line_follows = let read = threads_again version regions region_words reserve line_follows.0 text line_follows.4 in (read.0, read.1)
+fine (Commands version config) text next (inl f) = command_fine version config text f.0
+fine (Commands version config) text next (inr f) = turn_fine version config false text f.0
+fine (Turns config) text next line_follows = turn_fine 1 config true text line_follows.0
 
 -- ---- a text without a cause is a line of the grammar
 
 -- the sizes behind which the threads are wanted are those of a configuration
 abbrev pub Fits : LineStage → Type 0
 Fits Version = Unit {0}
-Fits (Heap v) = Unit {0}
-Fits (Threads v r w e) = (config : Config) × (config.regions ≡ r) × (config.region_words ≡ w) × (config.reserve ≡ e)
-Fits (Commands v c) = Unit {0}
-Fits (Turns c) = Unit {0}
+Fits (Heap version) = Unit {0}
+Fits (Threads version regions region_words reserve) = (config : Config) × (config.regions ≡ regions) × (config.region_words ≡ region_words) × (config.reserve ≡ reserve)
+Fits (Commands version config) = Unit {0}
+Fits (Turns config) = Unit {0}
 
 body_turn : (config : Config) (text w : List ℕ) (more : List (List ℕ)) → parts 32 text ≡ w ∷ more → true ≡ is_same w (33 ∷ []) → schedule_cause config more ≡ None → IsTurnItem config text
 body_turn config text w more e same none =
@@ -85,17 +86,17 @@ body_turn config text w more e same none =
     let words : parts 32 text ≡ words_of_turn made.0 = e ∙ ap (λ (v : List ℕ). v ∷ more) (same_text w (33 ∷ []) same) ∙ ap (λ (vs : List (List ℕ)). (33 ∷ []) ∷ vs) made.2 in
     (made.0, made.1, ap (λ (t : List ℕ). t ++ newline ∷ []) (joined text (words_of_turn made.0) words) ∙ turn_is made.0)
 
-body_command : (v : ℕ) (config : Config) (text w : List ℕ) (more : List (List ℕ)) → parts 32 text ≡ w ∷ more → command_cause v config.mutators w more ≡ None → IsCommandLine v config text
-body_command v config text w more e none =
-    let made = line_spelled v config.mutators w more (few_threads config) none in
-    (made.0, made.1, ap (λ (t : List ℕ). t ++ newline ∷ []) (joined text (line_words made.0) (e ∙ made.2)) ∙ line_is made.0)
+body_command : (version : ℕ) (config : Config) (text thread : List ℕ) (more : List (List ℕ)) → parts 32 text ≡ thread ∷ more → command_cause version config.mutators thread more ≡ None → IsCommandLine version config text
+body_command version config text thread more same none =
+    let made = line_spelled version config.mutators thread more (few_threads config) none in
+    (made.0, made.1, ap (λ (t : List ℕ). t ++ newline ∷ []) (joined text (line_words made.0) (same ∙ made.2)) ∙ line_is made.0)
 
-pub commands_follow : (v : ℕ) (config : Config) (text : List ℕ) → words_cause (Commands v config) (parts 32 text) ≡ None → IsCommandLine v config text ⊎ IsTurnItem config text
-commands_follow v config text none = by_test (is_same (take (count_before 32 text) text) (33 ∷ [])) refl
+pub commands_follow : (version : ℕ) (config : Config) (text : List ℕ) → words_cause (Commands version config) (parts 32 text) ≡ None → IsCommandLine version config text ⊎ IsTurnItem config text
+commands_follow version config text none = by_test (is_same (take (count_before 32 text) text) (33 ∷ [])) refl
   where
-    by_test : (test : Bool) → is_same (take (count_before 32 text) text) (33 ∷ []) ≡ test → IsCommandLine v config text ⊎ IsTurnItem config text
-    by_test true same = inr (body_turn config text _ _ (cut_parts 32 text) (sym same) (sym (turn_words v config false (parts 32 text) _ _ (cut_parts 32 text) (sym same)) ∙ none))
-    by_test false other = inl (body_command v config text _ _ (cut_parts 32 text) (sym (command_words v config false (parts 32 text) _ _ (cut_parts 32 text) (sym other) refl) ∙ none))
+    by_test : (test : Bool) → is_same (take (count_before 32 text) text) (33 ∷ []) ≡ test → IsCommandLine version config text ⊎ IsTurnItem config text
+    by_test true same = inr (body_turn config text _ _ (cut_parts 32 text) (sym same) (sym (turn_words version config false (parts 32 text) _ _ (cut_parts 32 text) (sym same)) ∙ none))
+    by_test false other = inl (body_command version config text _ _ (cut_parts 32 text) (sym (command_words version config false (parts 32 text) _ _ (cut_parts 32 text) (sym other) refl) ∙ none))
 
 pub turns_follow : (config : Config) (text : List ℕ) → words_cause (Turns config) (parts 32 text) ≡ None → IsTurnItem config text
 turns_follow config text none = by_test (is_same (take (count_before 32 text) text) (33 ∷ [])) refl
@@ -106,18 +107,18 @@ turns_follow config text none = by_test (is_same (take (count_before 32 text) te
 
 pub follows : (stage : LineStage) (text : List ℕ) → Fits stage → words_cause stage (parts 32 text) ≡ None → (next : LineStage) × LineFollows stage text next × Fits next
 follows Version text fits none = let made = version_spelled text none in (Heap made.0, (made.0, made.1, made.2, refl), tt)
-follows (Heap v) text fits none =
-    let made = heap_spelled v text none in
-    (Threads v made.0.regions made.0.region_words made.0.reserve, (made.0, made.1, made.2, refl), (made.0, refl, refl, refl))
-follows (Threads v r w e) text fits none =
-    let made = threads_spelled v r w e fits.0 text fits.1 fits.2 fits.3 none in
-    (Commands v made.0, (made.0, made.1, made.2, made.3, made.4, refl), tt)
-follows (Commands v c) text fits none = by_kind (commands_follow v c text none)
+follows (Heap version) text fits none =
+    let made = heap_spelled version text none in
+    (Threads version made.0.regions made.0.region_words made.0.reserve, (made.0, made.1, made.2, refl), (made.0, refl, refl, refl))
+follows (Threads version regions region_words reserve) text fits none =
+    let made = threads_spelled version regions region_words reserve fits.0 text fits.1 fits.2 fits.3 none in
+    (Commands version made.0, (made.0, made.1, made.2, made.3, made.4, refl), tt)
+follows (Commands version config) text fits none = by_kind (commands_follow version config text none)
   where
-    by_kind : IsCommandLine v c text ⊎ IsTurnItem c text → (next : LineStage) × LineFollows (Commands v c) text next × Fits next
-    by_kind (inl it) = (Commands v c, inl (it, refl), tt)
-    by_kind (inr it) = (Turns c, inr (it, refl), tt)
-follows (Turns c) text fits none = (Turns c, (turns_follow c text none, refl), tt)
+    by_kind : IsCommandLine version config text ⊎ IsTurnItem config text → (next : LineStage) × LineFollows (Commands version config) text next × Fits next
+    by_kind (inl it) = (Commands version config, inl (it, refl), tt)
+    by_kind (inr it) = (Turns config, inr (it, refl), tt)
+follows (Turns config) text fits none = (Turns config, (turns_follow config text none, refl), tt)
 
 -- ---- lines at the front of bytes
 
@@ -130,12 +131,12 @@ first_line bytes = by_rest (take (count_before 10 bytes) bytes) (drop (count_bef
     by_rest text (b ∷ rest) e = (text, rest, inr e)
 
 pub bytes_of_line : (bytes text rest : List ℕ) → parts 10 bytes ≡ text ∷ parts 10 rest → bytes ≡ text ++ 10 ∷ rest
-bytes_of_line bytes text rest e =
-    sym (join_with_byte-slice_split 10 bytes) ∙ ap (join_with_byte 10) (e ∙ ap (λ (ts : List (List ℕ)). text ∷ ts) (cut_parts 10 rest))
+bytes_of_line bytes text rest same =
+    sym (join_with_byte-slice_split 10 bytes) ∙ ap (join_with_byte 10) (same ∙ ap (λ (ts : List (List ℕ)). text ∷ ts) (cut_parts 10 rest))
     ∙ ap (λ (t : List ℕ). text ++ 10 ∷ t) (ap (join_with_byte 10) (sym (cut_parts 10 rest)) ∙ join_with_byte-slice_split 10 rest)
 
 pub bytes_of_last : (bytes text : List ℕ) → parts 10 bytes ≡ text ∷ [] → bytes ≡ text
-bytes_of_last bytes text e = sym (join_with_byte-slice_split 10 bytes) ∙ ap (join_with_byte 10) e
+bytes_of_last bytes text same = sym (join_with_byte-slice_split 10 bytes) ∙ ap (join_with_byte 10) same
 
 -- a line that ends, and has no cause
 pub line_of : (stage : LineStage) (bytes rest text : List ℕ) → (parts 10 bytes ≡ text ∷ []) ⊎ (parts 10 bytes ≡ text ∷ parts 10 rest) → end_cause stage text ≡ Some EndOfLine → cause_of stage (parts 10 bytes) ≡ None
@@ -145,4 +146,4 @@ line_of stage bytes rest text (inr e) ends none = (e, sym (whole_line stage byte
 
 -- a line of the grammar at the front
 pub line_in_front : (stage : LineStage) (text rest : List ℕ) (next : LineStage) → LineFollows stage text next → parts 10 (text ++ 10 ∷ rest) ≡ text ∷ parts 10 rest
-line_in_front stage text rest next f = parts_at 10 text rest (fine stage text next f).1
+line_in_front stage text rest next line_follows = parts_at 10 text rest (fine stage text next line_follows).1

@@ -1,7 +1,7 @@
 pub mod Digits
 pub mod GrammarNumbers
 pub mod GrammarLines
-pub mod Header
+pub mod HeadLaws
 pub mod Traces
 pub mod Pieces
 pub mod ReadItems
@@ -14,7 +14,7 @@ pub mod Words
 pub mod Lines
 pub mod Free
 pub mod Numerals
-pub mod Heads
+pub mod HeadWords
 pub mod Commands
 pub mod ScheduleWords
 pub mod Leads

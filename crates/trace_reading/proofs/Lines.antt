@@ -13,12 +13,12 @@ use Rattle.trace_reading.proofs.Cuts.{cut_parts}
 -- a line with an end is judged by its words
 pub whole_line : (stage : LineStage) (bytes text rest : List ℕ) → parts 10 bytes ≡ text ∷ parts 10 rest → cause_of stage (parts 10 bytes) ≡ words_cause stage (parts 32 text)
 unfolding cause_of
-whole_line stage bytes text rest e = rw (e, cut_parts 10 rest) refl
+whole_line stage bytes text rest same = rw (same, cut_parts 10 rest) refl
 
 -- a line without one
 pub cut_line : (stage : LineStage) (bytes text : List ℕ) → parts 10 bytes ≡ text ∷ [] → cause_of stage (parts 10 bytes) ≡ end_cause stage text
 unfolding cause_of
-cut_line stage bytes text e = rw e refl
+cut_line stage bytes text same = rw same refl
 
 by_cause : (cause : Option Why) (fits : Bool) (others : ℕ → Option Why) (m n : ℕ) → (cause ≡ None → m ≡ n) → cond fits (first_cause cause (others m)) (Some Header) ≡ cond fits (first_cause cause (others n)) (Some Header)
 by_cause None fits others m n given = ap (λ (k : ℕ). cond fits (others k) (Some Header)) (given refl)
@@ -43,41 +43,41 @@ pub heap_words : (version : ℕ) (words : List (List ℕ)) → words_cause (Heap
 unfolding words_cause
 heap_words version words = refl
 
-pub threads_words : (v r w e : ℕ) (words : List (List ℕ)) → words_cause (Threads v r w e) words ≡ title_cause (codes "threads") ((1, 8) ∷ (0, 3) ∷ []) words
+pub threads_words : (version regions region_words reserve : ℕ) (words : List (List ℕ)) → words_cause (Threads version regions region_words reserve) words ≡ title_cause (codes "threads") ((1, 8) ∷ (0, 3) ∷ []) words
 unfolding words_cause
-threads_words v r w e words = refl
+threads_words version regions region_words reserve words = refl
 
 -- ---- the lines behind it
 
-pub turn_words : (v : ℕ) (config : Config) (behind : Bool) (words : List (List ℕ)) (w : List ℕ) (more : List (List ℕ)) → words ≡ w ∷ more → true ≡ is_same w (33 ∷ []) → words_cause (body_stage v config behind) words ≡ schedule_cause config more
+pub turn_words : (version : ℕ) (config : Config) (behind : Bool) (words : List (List ℕ)) (w : List ℕ) (more : List (List ℕ)) → words ≡ w ∷ more → true ≡ is_same w (33 ∷ []) → words_cause (body_stage version config behind) words ≡ schedule_cause config more
 unfolding words_cause
-turn_words v config true words w more e same = rw (e, ← same) refl
-turn_words v config false words w more e same = rw (e, ← same) refl
+turn_words version config true words w more e same = rw (e, ← same) refl
+turn_words version config false words w more e same = rw (e, ← same) refl
 
-pub late_words : (v : ℕ) (config : Config) (behind : Bool) (words : List (List ℕ)) (w : List ℕ) (more : List (List ℕ)) → words ≡ w ∷ more → false ≡ is_same w (33 ∷ []) → behind ≡ true → words_cause (body_stage v config behind) words ≡ Some ScheduleLast
+pub late_words : (version : ℕ) (config : Config) (behind : Bool) (words : List (List ℕ)) (w : List ℕ) (more : List (List ℕ)) → words ≡ w ∷ more → false ≡ is_same w (33 ∷ []) → behind ≡ true → words_cause (body_stage version config behind) words ≡ Some ScheduleLast
 unfolding words_cause
-late_words v config true words w more e other late = rw (e, ← other) refl
-late_words v config false words w more e other late = absurd cc
+late_words version config true words w more same other late = rw (same, ← other) refl
+late_words version config false words w more same other late = absurd cc
 
-pub command_words : (v : ℕ) (config : Config) (behind : Bool) (words : List (List ℕ)) (w : List ℕ) (more : List (List ℕ)) → words ≡ w ∷ more → false ≡ is_same w (33 ∷ []) → behind ≡ false → words_cause (body_stage v config behind) words ≡ command_cause v config.mutators w more
+pub command_words : (version : ℕ) (config : Config) (behind : Bool) (words : List (List ℕ)) (w : List ℕ) (more : List (List ℕ)) → words ≡ w ∷ more → false ≡ is_same w (33 ∷ []) → behind ≡ false → words_cause (body_stage version config behind) words ≡ command_cause version config.mutators w more
 unfolding words_cause
-command_words v config true words w more e other early = absurd cc
-command_words v config false words w more e other early = rw (e, ← other) refl
+command_words version config true words w more same other early = absurd cc
+command_words version config false words w more same other early = rw (same, ← other) refl
 
 pub ended : (stage : LineStage) (bytes text end : List ℕ) → parts 10 bytes ≡ text ∷ parts_behind 10 end → false ≡ eqb (length end) 0 → cause_of stage (parts 10 bytes) ≡ words_cause stage (parts 32 text)
-ended stage bytes text [] e some = absurd cc
-ended stage bytes text (b ∷ rest) e some = whole_line stage bytes text rest e
+ended stage bytes text [] same some = absurd cc
+ended stage bytes text (b ∷ rest) same some = whole_line stage bytes text rest same
 
 not_ended : (stage : LineStage) (bytes text end : List ℕ) → parts 10 bytes ≡ text ∷ parts_behind 10 end → true ≡ eqb (length end) 0 → cause_of stage (parts 10 bytes) ≡ end_cause stage text
-not_ended stage bytes text [] e none = cut_line stage bytes text e
-not_ended stage bytes text (b ∷ rest) e none = absurd (grind (arith, nat_tests))
+not_ended stage bytes text [] same none = cut_line stage bytes text same
+not_ended stage bytes text (b ∷ rest) same none = absurd (grind (arith, nat_tests))
 
-pub nothing_left : (v : ℕ) (config : Config) (behind : Bool) (bytes text end : List ℕ) → parts 10 bytes ≡ text ∷ parts_behind 10 end → true ≡ eqb (length end) 0 → true ≡ eqb (length text) 0 → cause_of (body_stage v config behind) (parts 10 bytes) ≡ None
-nothing_left v config behind bytes (b ∷ text) end e none empty = absurd (grind (arith, nat_tests))
-nothing_left v config true bytes [] end e none empty = not_ended (Turns config) bytes [] end e none
-nothing_left v config false bytes [] end e none empty = not_ended (Commands v config) bytes [] end e none
+pub nothing_left : (version : ℕ) (config : Config) (behind : Bool) (bytes text end : List ℕ) → parts 10 bytes ≡ text ∷ parts_behind 10 end → true ≡ eqb (length end) 0 → true ≡ eqb (length text) 0 → cause_of (body_stage version config behind) (parts 10 bytes) ≡ None
+nothing_left version config behind bytes (b ∷ text) end same none empty = absurd (grind (arith, nat_tests))
+nothing_left version config true bytes [] end same none empty = not_ended (Turns config) bytes [] end same none
+nothing_left version config false bytes [] end same none empty = not_ended (Commands version config) bytes [] end same none
 
-pub cut_off : (v : ℕ) (config : Config) (behind : Bool) (bytes text end : List ℕ) → parts 10 bytes ≡ text ∷ parts_behind 10 end → true ≡ eqb (length end) 0 → false ≡ eqb (length text) 0 → cause_of (body_stage v config behind) (parts 10 bytes) ≡ Some EndOfLine
-cut_off v config behind bytes [] end e none some = absurd cc
-cut_off v config true bytes (b ∷ text) end e none some = not_ended (Turns config) bytes (b ∷ text) end e none
-cut_off v config false bytes (b ∷ text) end e none some = not_ended (Commands v config) bytes (b ∷ text) end e none
+pub cut_off : (version : ℕ) (config : Config) (behind : Bool) (bytes text end : List ℕ) → parts 10 bytes ≡ text ∷ parts_behind 10 end → true ≡ eqb (length end) 0 → false ≡ eqb (length text) 0 → cause_of (body_stage version config behind) (parts 10 bytes) ≡ Some EndOfLine
+cut_off version config behind bytes [] end same none some = absurd cc
+cut_off version config true bytes (b ∷ text) end same none some = not_ended (Turns config) bytes (b ∷ text) end same none
+cut_off version config false bytes (b ∷ text) end same none some = not_ended (Commands version config) bytes (b ∷ text) end same none

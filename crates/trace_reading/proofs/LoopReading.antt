@@ -17,15 +17,15 @@ regroup front n None = refl
 pub number_goes_on : (front limits : List ℕ) (index : ℕ) (bytes : List ℕ) (n : ℕ) (after : List ℕ) (whole : Option (List ℕ × List ℕ)) → index < length limits → spaced_at (get_or limits index 0) bytes ≡ Some (n, after)
     → with_front front (numbers_at (drop index limits) bytes) ≡ whole → with_front (front ++ n ∷ []) (numbers_at (drop (index + 1) limits) after) ≡ whole
 unfolding numbers_at
-number_goes_on front limits index bytes n after whole lt h so_far =
-    let one : with_front front (numbers_at (drop index limits) bytes) ≡ with_front (front ++ n ∷ []) (numbers_at (drop (index + 1) limits) after) = rw (add-one, drop-cons limits index 0, h) (regroup front n (numbers_at (drop (suc index) limits) after)) in
+number_goes_on front limits index bytes n after whole lt found so_far =
+    let one : with_front front (numbers_at (drop index limits) bytes) ≡ with_front (front ++ n ∷ []) (numbers_at (drop (index + 1) limits) after) = rw (add-one, drop-cons limits index 0, found) (regroup front n (numbers_at (drop (suc index) limits) after)) in
     sym one ∙ so_far
 
 pub number_fails : (front limits : List ℕ) (index : ℕ) (bytes : List ℕ) (whole : Option (List ℕ × List ℕ)) → index < length limits → spaced_at (get_or limits index 0) bytes ≡ None
     → with_front front (numbers_at (drop index limits) bytes) ≡ whole → whole ≡ None
 unfolding numbers_at
-number_fails front limits index bytes whole lt h so_far =
-    let one : with_front front (numbers_at (drop index limits) bytes) ≡ None = rw (drop-cons limits index 0, h) refl in
+number_fails front limits index bytes whole lt none so_far =
+    let one : with_front front (numbers_at (drop index limits) bytes) ≡ None = rw (drop-cons limits index 0, none) refl in
     sym so_far ∙ one
 
 pub numbers_end : (front limits : List ℕ) (i : ℕ) (bytes : List ℕ) (whole : Option (List ℕ × List ℕ)) → length limits ≤ i → with_front front (numbers_at (drop i limits) bytes) ≡ whole → whole ≡ Some (front, bytes)
@@ -37,15 +37,15 @@ numbers_end front limits i bytes whole le so_far =
 pub kind_found : (kinds : List CommandKind) (index : ℕ) (bytes rest : List ℕ) (whole : Option (CommandKind × List ℕ)) → index < length kinds → behind (word (get_or kinds index New)) bytes ≡ Some rest
     → kind_among (drop index kinds) bytes ≡ whole → whole ≡ Some (get_or kinds index New, rest)
 unfolding kind_among
-kind_found kinds index bytes rest whole lt h so_far =
-    let one : kind_among (drop index kinds) bytes ≡ Some (get_or kinds index New, rest) = rw (drop-cons kinds index New, h) refl in
+kind_found kinds index bytes rest whole lt found so_far =
+    let one : kind_among (drop index kinds) bytes ≡ Some (get_or kinds index New, rest) = rw (drop-cons kinds index New, found) refl in
     sym so_far ∙ one
 
 pub kind_goes_on : (kinds : List CommandKind) (index : ℕ) (bytes : List ℕ) (whole : Option (CommandKind × List ℕ)) → index < length kinds → behind (word (get_or kinds index New)) bytes ≡ None
     → kind_among (drop index kinds) bytes ≡ whole → kind_among (drop (index + 1) kinds) bytes ≡ whole
 unfolding kind_among
-kind_goes_on kinds index bytes whole lt h so_far =
-    let one : kind_among (drop index kinds) bytes ≡ kind_among (drop (index + 1) kinds) bytes = rw (add-one, drop-cons kinds index New, h) refl in
+kind_goes_on kinds index bytes whole lt none so_far =
+    let one : kind_among (drop index kinds) bytes ≡ kind_among (drop (index + 1) kinds) bytes = rw (add-one, drop-cons kinds index New, none) refl in
     sym one ∙ so_far
 
 pub kinds_end : (kinds : List CommandKind) (i : ℕ) (bytes : List ℕ) (whole : Option (CommandKind × List ℕ)) → length kinds ≤ i → kind_among (drop i kinds) bytes ≡ whole → whole ≡ None

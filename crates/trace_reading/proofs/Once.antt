@@ -12,13 +12,15 @@ use Rattle.heap_words.specs.declared.schedule.Item.TheVariants.{Steps, Until, Re
 use Rattle.heap_words.specs.Place.{code_of}
 use Rattle.heap_words.specs.Ranges.{seat_count, IsInRange}
 use Rattle.std.proofs.Props.{props}
+use Rattle.shen_graph.proofs.Options.{same_some}
+use Rattle.shen_graph.proofs.Lists.{same_rest}
 use Rattle.heap_words.proofs.Codes.{same_code}
 use Rattle.trace_reading.specs.Spelling.{IsUpTo, line, IsLine, number_of, aim, item, spaced_item, items_and_end, schedule_line, IsItem, IsScheduleLine}
 use Rattle.trace_reading.specs.Scanning.{HeadNumbers, sizes_at}
 use Rattle.trace_reading.specs.Front.{NoDigit, IsLineEnd, BeginsWith, IsAny, IsItemOf}
 use Rattle.trace_reading.specs.Grammar.{items_of, scripts_of, Reads, IsSameTrace}
-use Rattle.trace_reading.proofs.GrammarNumbers.{positive_again, same_some}
-use Rattle.trace_reading.proofs.Header.{numbers_in_head, sizes_again}
+use Rattle.trace_reading.proofs.GrammarNumbers.{positive_again}
+use Rattle.trace_reading.proofs.HeadLaws.{numbers_in_head, sizes_again}
 use Rattle.trace_reading.proofs.Traces.{lines_once, turns_behind}
 use Rattle.trace_reading.proofs.Pieces.{ArePieces, first_piece}
 use Rattle.trace_reading.proofs.ReadItems.{number_read, steps_read, until_read, replies_read, item_read, seat_of, aim_no_digit}
@@ -46,9 +48,9 @@ place_once place rest = record { good = tt; spelled = refl; only = λ other_plac
         (two_listed place ∙ both.0 ∙ sym (two_listed other_place), both.1)
 
 aim_once : (config : Config) (i : Item) (rest : List ℕ) → IsItem config i → NoDigit rest → BeginsWith aim (IsItemOf config (number_of i)) (aim i ++ rest) i rest
-aim_once config (Steps n k) rest good none = steps_read config n (58 ∷ (decimal k ++ rest)) (decimal k ++ rest) k rest good.0 refl (number_once 4000000000 k rest (lit< tt) good.1 none)
-aim_once config (Until n p) rest good none = until_read config n (64 ∷ (code_of p ++ rest)) (code_of p ++ rest) p rest good refl (place_once p rest)
-aim_once config (Replies n k) rest good none = replies_read config n (61 ∷ (decimal k ++ rest)) (decimal k ++ rest) k rest good.0 refl (number_once 4000000000 k rest (lit< tt) good.1 none)
+aim_once config (Steps number count) rest good none = steps_read config number (58 ∷ (decimal count ++ rest)) (decimal count ++ rest) count rest good.0 refl (number_once 4000000000 count rest (lit< tt) good.1 none)
+aim_once config (Until number place) rest good none = until_read config number (64 ∷ (code_of place ++ rest)) (code_of place ++ rest) place rest good refl (place_once place rest)
+aim_once config (Replies number count) rest good none = replies_read config number (61 ∷ (decimal count ++ rest)) (decimal count ++ rest) count rest good.0 refl (number_once 4000000000 count rest (lit< tt) good.1 none)
 
 item_once : (config : Config) (i : Item) (rest : List ℕ) → IsItem config i → NoDigit rest → BeginsWith item (IsItem config) (item i ++ rest) i rest
 item_once config i rest good none =
@@ -64,19 +66,16 @@ IsOnce {A} spelling IsGood = (x : A) (rest : List ℕ) → IsGood x → NoDigit 
 
 pieces_once : {A : Type 0} (spelling : A → List ℕ) (IsGood : A → Type 0) (IsTail : List ℕ → Type 0) → ArePieces spelling IsTail → IsOnce spelling IsGood
     → (xs ys : List A) (rest after : List ℕ) → AllByRecursion IsGood xs → AllByRecursion IsGood ys → IsTail rest → IsTail after → flat_map spelling xs ++ rest ≡ flat_map spelling ys ++ after → (xs ≡ ys) × (rest ≡ after)
-pieces_once spelling IsGood IsTail laws once [] [] rest after all_xs all_ys p q e = (refl, e)
-pieces_once spelling IsGood IsTail laws once [] (y ∷ ys) rest after all_xs all_ys p q e = absurd (laws.no_tail y (flat_map spelling ys ++ after) (subst IsTail (e ∙ first_piece spelling y ys after) p))
-pieces_once spelling IsGood IsTail laws once (x ∷ xs) [] rest after all_xs all_ys p q e = absurd (laws.no_tail x (flat_map spelling xs ++ rest) (subst IsTail (sym e ∙ first_piece spelling x xs rest) q))
-pieces_once {A} spelling IsGood IsTail laws once (x ∷ xs) (y ∷ ys) rest after all_xs all_ys p q e =
-    let one = (once x (flat_map spelling xs ++ rest) all_xs.0 (laws.ends xs rest p)).only y (flat_map spelling ys ++ after) all_ys.0 (laws.ends ys after q) (sym (first_piece spelling x xs rest) ∙ e ∙ first_piece spelling y ys after) in
-    let others = pieces_once spelling IsGood IsTail laws once xs ys rest after all_xs.1 all_ys.1 p q one.1 in
+pieces_once spelling IsGood IsTail laws once [] [] rest after all_xs all_ys tail q same = (refl, same)
+pieces_once spelling IsGood IsTail laws once [] (y ∷ ys) rest after all_xs all_ys tail q same = absurd (laws.no_tail y (flat_map spelling ys ++ after) (subst IsTail (same ∙ first_piece spelling y ys after) tail))
+pieces_once spelling IsGood IsTail laws once (x ∷ xs) [] rest after all_xs all_ys tail q same = absurd (laws.no_tail x (flat_map spelling xs ++ rest) (subst IsTail (sym same ∙ first_piece spelling x xs rest) q))
+pieces_once {A} spelling IsGood IsTail laws once (x ∷ xs) (y ∷ ys) rest after all_xs all_ys tail same e =
+    let one = (once x (flat_map spelling xs ++ rest) all_xs.0 (laws.ends xs rest tail)).only y (flat_map spelling ys ++ after) all_ys.0 (laws.ends ys after same) (sym (first_piece spelling x xs rest) ∙ e ∙ first_piece spelling y ys after) in
+    let others = pieces_once spelling IsGood IsTail laws once xs ys rest after all_xs.1 all_ys.1 tail same one.1 in
     (ap (λ (z : A). z ∷ xs) one.0 ∙ ap (λ (zs : List A). y ∷ zs) others.0, others.1)
 
 spaced_once : (config : Config) → IsOnce spaced_item (IsItem config)
 spaced_once config i rest good none = spaced config (32 ∷ (item i ++ rest)) (item i ++ rest) rest i refl (item_once config i rest good none)
-
-behind_mark : (a b : ℕ) (xs ys : List ℕ) → a ∷ xs ≡ b ∷ ys → xs ≡ ys
-behind_mark a b xs ys e = cc
 
 line_once : (config : Config) → IsOnce schedule_line (IsScheduleLine config)
 line_once config items rest good none = record {
@@ -84,50 +83,50 @@ line_once config items rest good none = record {
   spelled = refl;
   only = λ ys after other digit e.
       let both = pieces_once spaced_item (IsItem config) IsLineEnd items_are_pieces (spaced_once config) items ys (10 ∷ rest) (10 ∷ after) good.in_range other.in_range refl refl
-      (sym (with_end items rest) ∙ behind_mark 33 33 (items_and_end items ++ rest) (items_and_end ys ++ after) e ∙ with_end ys after) in
-      (both.0, behind_mark 10 10 rest after both.1);
+      (sym (with_end items rest) ∙ same_rest 33 33 (items_and_end items ++ rest) (items_and_end ys ++ after) e ∙ with_end ys after) in
+      (both.0, same_rest 10 10 rest after both.1);
 }
 
 pub turns_once : (config : Config) (xs ys : List (List Item)) → AllByRecursion (IsScheduleLine config) xs → AllByRecursion (IsScheduleLine config) ys → flat_map schedule_line xs ≡ flat_map schedule_line ys → xs ≡ ys
-turns_once config xs ys all_xs all_ys e =
-    (pieces_once schedule_line (IsScheduleLine config) IsEmpty lines_are_pieces (line_once config) xs ys [] [] all_xs all_ys refl refl (append-nil (flat_map schedule_line xs) ∙ e ∙ sym (append-nil (flat_map schedule_line ys)))).0
+turns_once config xs ys all_xs all_ys same =
+    (pieces_once schedule_line (IsScheduleLine config) IsEmpty lines_are_pieces (line_once config) xs ys [] [] all_xs all_ys refl refl (append-nil (flat_map schedule_line xs) ∙ same ∙ sym (append-nil (flat_map schedule_line ys)))).0
 
 -- ---- traces
 
-abbrev of : (r w m h e : ℕ) → IsInRange r w m h e → Config
-of r w m h e p = record { regions = r; region_words = w; mutators = m; helpers = h; reserve = e; in_range = p }
+abbrev of : (regions region_words mutators helpers reserve : ℕ) → IsInRange regions region_words mutators helpers reserve → Config
+of regions region_words mutators helpers reserve in_range = record { regions = regions; region_words = region_words; mutators = mutators; helpers = helpers; reserve = reserve; in_range = in_range }
 
-one_proof : (r w m h e : ℕ) → IsProp (IsInRange r w m h e)
-one_proof r w m h e = Prim.hlevel props
+one_proof : (regions region_words mutators helpers reserve : ℕ) → IsProp (IsInRange regions region_words mutators helpers reserve)
+one_proof regions region_words mutators helpers reserve = Prim.hlevel props
 
 -- a configuration is its numbers
 pub same_config : (config other_config : Config) → config.regions ≡ other_config.regions → config.region_words ≡ other_config.region_words → config.mutators ≡ other_config.mutators → config.helpers ≡ other_config.helpers → config.reserve ≡ other_config.reserve → config ≡ other_config
 same_config config other_config same_regions same_words same_mutators same_helpers same_reserve =
-    subst (λ (r : ℕ). (p : IsInRange r other_config.region_words other_config.mutators other_config.helpers other_config.reserve) → config ≡ of r other_config.region_words other_config.mutators other_config.helpers other_config.reserve p) same_regions
-    (subst (λ (w : ℕ). (p : IsInRange config.regions w other_config.mutators other_config.helpers other_config.reserve) → config ≡ of config.regions w other_config.mutators other_config.helpers other_config.reserve p) same_words
-    (subst (λ (m : ℕ). (p : IsInRange config.regions config.region_words m other_config.helpers other_config.reserve) → config ≡ of config.regions config.region_words m other_config.helpers other_config.reserve p) same_mutators
-    (subst (λ (h : ℕ). (p : IsInRange config.regions config.region_words config.mutators h other_config.reserve) → config ≡ of config.regions config.region_words config.mutators h other_config.reserve p) same_helpers
-    (subst (λ (e : ℕ). (p : IsInRange config.regions config.region_words config.mutators config.helpers e) → config ≡ of config.regions config.region_words config.mutators config.helpers e p) same_reserve
+    subst (λ (regions : ℕ). (p : IsInRange regions other_config.region_words other_config.mutators other_config.helpers other_config.reserve) → config ≡ of regions other_config.region_words other_config.mutators other_config.helpers other_config.reserve p) same_regions
+    (subst (λ (region_words : ℕ). (p : IsInRange config.regions region_words other_config.mutators other_config.helpers other_config.reserve) → config ≡ of config.regions region_words other_config.mutators other_config.helpers other_config.reserve p) same_words
+    (subst (λ (mutators : ℕ). (p : IsInRange config.regions config.region_words mutators other_config.helpers other_config.reserve) → config ≡ of config.regions config.region_words mutators other_config.helpers other_config.reserve p) same_mutators
+    (subst (λ (helpers : ℕ). (p : IsInRange config.regions config.region_words config.mutators helpers other_config.reserve) → config ≡ of config.regions config.region_words config.mutators helpers other_config.reserve p) same_helpers
+    (subst (λ (reserve : ℕ). (p : IsInRange config.regions config.region_words config.mutators config.helpers reserve) → config ≡ of config.regions config.region_words config.mutators config.helpers reserve p) same_reserve
     (λ p. ap (of config.regions config.region_words config.mutators config.helpers config.reserve) (one_proof config.regions config.region_words config.mutators config.helpers config.reserve config.in_range p)))))) other_config.in_range
 
 -- bytes are read as one trace at most
-pub read_once : (bytes : List ℕ) (v w : ℕ) (config d : Config) (xs ys : List (List Command)) (is js : List Item) → Reads bytes v config xs is → Reads bytes w d ys js → IsSameTrace v config xs is w d ys js
-read_once bytes v w other_config d xs ys is js p q =
-    let rest = flat_map line p.lines ++ flat_map schedule_line p.turns in
+pub read_once : (bytes : List ℕ) (version other_version : ℕ) (config other_config : Config) (scripts other_scripts : List (List Command)) (is js : List Item) → Reads bytes version config scripts is → Reads bytes other_version other_config other_scripts js → IsSameTrace version config scripts is other_version other_config other_scripts js
+read_once bytes v other_version other_config d scripts other_scripts is js reads q =
+    let rest = flat_map line reads.lines ++ flat_map schedule_line reads.turns in
     let after = flat_map line q.lines ++ flat_map schedule_line q.turns in
     let one : HeadNumbers × List ℕ = (numbers_in_head v other_config, rest) in
-    let two : HeadNumbers × List ℕ = (numbers_in_head w d, after) in
-    let same : one ≡ two = same_some one two (sym (sizes_again v other_config rest p.known p.narrow) ∙ ap sizes_at (sym p.spelled ∙ q.spelled) ∙ sizes_again w d after q.known q.narrow) in
-    let version : v ≡ w = ap (λ (x : HeadNumbers × List ℕ). x.0.version) same in
+    let two : HeadNumbers × List ℕ = (numbers_in_head other_version d, after) in
+    let same : one ≡ two = same_some one two (sym (sizes_again v other_config rest reads.known reads.narrow) ∙ ap sizes_at (sym reads.spelled ∙ q.spelled) ∙ sizes_again other_version d after q.known q.narrow) in
+    let version : v ≡ other_version = ap (λ (x : HeadNumbers × List ℕ). x.0.version) same in
     let config : other_config ≡ d = same_config other_config d (ap (λ (x : HeadNumbers × List ℕ). get_or x.0.heap 0 0) same) (ap (λ (x : HeadNumbers × List ℕ). get_or x.0.heap 1 0) same)
     (ap (λ (x : HeadNumbers × List ℕ). get_or x.0.threads 0 0) same) (ap (λ (x : HeadNumbers × List ℕ). get_or x.0.threads 1 0) same) (ap (λ (x : HeadNumbers × List ℕ). get_or x.0.heap 2 0) same) in
-    let in_range = subst (λ (u : ℕ). AllByRecursion (IsLine u other_config.mutators) q.lines) (sym version) (subst (λ (config : Config). AllByRecursion (IsLine w config.mutators) q.lines) (sym config) q.in_range) in
-    let lines = lines_once v other_config.mutators p.lines q.lines (flat_map schedule_line p.turns) (flat_map schedule_line q.turns) (omega arith) p.in_range in_range
-    (turns_behind p.turns) (turns_behind q.turns) (ap (λ (x : HeadNumbers × List ℕ). x.1) same) in
-    let turns = turns_once other_config p.turns q.turns p.turns_in_range (subst (λ (config : Config). AllByRecursion (IsScheduleLine config) q.turns) (sym config) q.turns_in_range) lines.1 in
+    let in_range = subst (λ (version : ℕ). AllByRecursion (IsLine version other_config.mutators) q.lines) (sym version) (subst (λ (config : Config). AllByRecursion (IsLine other_version config.mutators) q.lines) (sym config) q.in_range) in
+    let lines = lines_once v other_config.mutators reads.lines q.lines (flat_map schedule_line reads.turns) (flat_map schedule_line q.turns) (omega arith) reads.in_range in_range
+    (turns_behind reads.turns) (turns_behind q.turns) (ap (λ (x : HeadNumbers × List ℕ). x.1) same) in
+    let turns = turns_once other_config reads.turns q.turns reads.turns_in_range (subst (λ (config : Config). AllByRecursion (IsScheduleLine config) q.turns) (sym config) q.turns_in_range) lines.1 in
     record {
       version = version;
       config = config;
-      scripts = p.by_thread ∙ ap (scripts_of other_config.mutators) lines.0 ∙ ap (λ (config : Config). scripts_of config.mutators q.lines) config ∙ sym q.by_thread;
-      items = p.in_order ∙ ap items_of turns ∙ sym q.in_order;
+      scripts = reads.by_thread ∙ ap (scripts_of other_config.mutators) lines.0 ∙ ap (λ (config : Config). scripts_of config.mutators q.lines) config ∙ sym q.by_thread;
+      items = reads.in_order ∙ ap items_of turns ∙ sym q.in_order;
     }

@@ -4,6 +4,7 @@ use Rattle.std.specs.List.{flat_map, AllByRecursion}
 use Rattle.std.proofs.lemmas.List.{append-nil}
 use Rattle.std.proofs.lemmas.List.Concat.{flat_map-cons}
 use Rattle.std.proofs.lemmas.Grind.{flat_map-append}
+use Rattle.shen_graph.proofs.Lists.{all_with}
 use Rattle.trace_reading.specs.Front.{NoDigit, BeginsWith, BeginsWithNone}
 
 -- These pieces were taken, and every way to spell the bytes by pieces and a tail begins with them.
@@ -17,17 +18,13 @@ pub record ArePieces {A : Type 0} (spelling : A → List ℕ) (IsTail : List ℕ
   pub ends : (ys : List A) (tail : List ℕ) → IsTail tail → NoDigit (flat_map spelling ys ++ tail)
   pub no_tail : (y : A) (after : List ℕ) → IsTail (spelling y ++ after) → ⊥
 
-pub all_and : {A : Type 0} (P : A → Type 0) (xs : List A) (x : A) → AllByRecursion P xs → P x → AllByRecursion P (xs ++ x ∷ [])
-all_and P [] x all one = (one, tt)
-all_and P (y ∷ xs) x all one = (all.0, all_and P xs x all.1 one)
-
 pub first_piece : {A : Type 0} (spelling : A → List ℕ) (y : A) (ys : List A) (tail : List ℕ) → flat_map spelling (y ∷ ys) ++ tail ≡ spelling y ++ (flat_map spelling ys ++ tail)
 first_piece spelling y ys tail = ap (λ (bs : List ℕ). bs ++ tail) (flat_map-cons spelling y ys) ∙ append_assoc (spelling y) (flat_map spelling ys) tail
 
 pub one_taken : {A : Type 0} (spelling : A → List ℕ) (IsGood : A → Type 0) (IsTail : List ℕ → Type 0) (bytes rest after : List ℕ) (pieces : List A) (x : A) → ArePieces spelling IsTail
     → HasBegun spelling IsGood IsTail bytes rest pieces → (IsTail rest → ⊥) → BeginsWith spelling IsGood rest x after → HasBegun spelling IsGood IsTail bytes after (pieces ++ x ∷ [])
 one_taken {A} spelling IsGood IsTail bytes rest after pieces x laws begun more_left front = record {
-  good = all_and IsGood pieces x begun.good front.good;
+  good = all_with IsGood pieces x begun.good front.good;
   spelled = begun.spelled ∙ ap (λ (bs : List ℕ). flat_map spelling pieces ++ bs) front.spelled ∙ sym (append_assoc (flat_map spelling pieces) (spelling x) after) ∙ ap (λ (bs : List ℕ). bs ++ after) (sym (flat_map-append spelling pieces (x ∷ []) ∙ ap (λ (bs : List ℕ). flat_map spelling pieces ++ bs) (flat_map-cons spelling x [] ∙ append-nil (spelling x))));
   only = λ ys tail all is_tail e. let m = begun.only ys tail all is_tail e in by_more ys tail is_tail m.0 m.1 m.2 m.3;
 }

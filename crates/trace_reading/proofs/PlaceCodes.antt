@@ -9,10 +9,10 @@ use Rattle.trace_reading.proofs.RefusedPlaces.{two_letters}
 
 -- two letters at the front
 split_front : (a b : ℕ) (rest code after : List ℕ) → length code ≡ 2 → a ∷ b ∷ rest ≡ code ++ after → (code ≡ a ∷ b ∷ []) × (rest ≡ after)
-split_front a b rest [] after two e = absurd (omega arith)
-split_front a b rest (c ∷ []) after two e = absurd (omega arith)
-split_front a b rest (c ∷ d ∷ []) after two e = (cc, cc)
-split_front a b rest (c ∷ d ∷ x ∷ xs) after two e = absurd (omega arith)
+split_front a b rest [] after two same = absurd (omega arith)
+split_front a b rest (c ∷ []) after two same = absurd (omega arith)
+split_front a b rest (c ∷ d ∷ []) after two same = (cc, cc)
+split_front a b rest (c ∷ d ∷ x ∷ xs) after two same = absurd (omega arith)
 
 pub too_short : (bytes : List ℕ) → length bytes < 2 → BeginsWithNone code_of IsAny bytes
 too_short bytes below y after good none e = omega (arith, below, ap length e, length-append (code_of y) after, two_letters y)

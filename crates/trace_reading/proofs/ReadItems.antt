@@ -3,6 +3,8 @@ use Rattle.std.proofs.Common.{◌≡◌, ℕ, ◌+◌, ◌-◌, ◌^◌, ◌<◌
 use Rattle.std.specs.Fmt.{decimal}
 use Rattle.std.proofs.lemmas.List.{append-nil}
 use Rattle.std.proofs.lemmas.Bool.Decides.{nat_tests}
+use Rattle.shen_graph.proofs.Options.{same_some}
+use Rattle.shen_graph.proofs.Lists.{same_rest}
 use Rattle.heap_words.specs.declared.config.Config.{Config}
 use Rattle.heap_words.specs.declared.place.Place.{Place}
 use Rattle.heap_words.specs.declared.schedule.Item.{Item}
@@ -12,7 +14,7 @@ use Rattle.heap_words.specs.Ranges.{seat_count}
 use Rattle.trace_reading.specs.Spelling.{IsUpTo, number_of, aim, item, IsItem}
 use Rattle.trace_reading.specs.Scanning.{positive_at}
 use Rattle.trace_reading.specs.Front.{NoDigit, BeginsWith, BeginsWithNone, IsAny, IsItemOf}
-use Rattle.trace_reading.proofs.GrammarNumbers.{positive_takes, positive_again, same_some}
+use Rattle.trace_reading.proofs.GrammarNumbers.{positive_takes, positive_again}
 
 pub number_read : (limit : ℕ) (bytes : List ℕ) (n : ℕ) (rest : List ℕ) → limit < 2 ^ 64 → ◌≡◌ {A = Option (ℕ × List ℕ)} (Some (n, rest)) (positive_at limit bytes) → BeginsWith decimal (IsUpTo limit) bytes n rest
 number_read limit bytes n rest small e =
@@ -25,23 +27,20 @@ number_read limit bytes n rest small e =
     }
 
 pub no_number : (limit : ℕ) (bytes : List ℕ) → limit < 2 ^ 64 → None ≡ positive_at limit bytes → BeginsWithNone decimal (IsUpTo limit) bytes
-no_number limit bytes small e y after good none spelled = let again = positive_again limit y after good.0 good.1 small none in let here = ap (positive_at limit) spelled in cc
+no_number limit bytes small same y after good none spelled = let again = positive_again limit y after good.0 good.1 small none in let here = ap (positive_at limit) spelled in cc
 
 -- two marks at the front are one
 one_mark : (a b : ℕ) (xs ys : List ℕ) → a ∷ xs ≡ b ∷ ys → a ≡ b
-one_mark a b xs ys e = cc
-
-behind_mark : (a b : ℕ) (xs ys : List ℕ) → a ∷ xs ≡ b ∷ ys → xs ≡ ys
-behind_mark a b xs ys e = cc
+one_mark a b xs ys same = cc
 
 -- ---- what stands behind the number
 
-pub steps_read : (config : Config) (number : ℕ) (bytes rest : List ℕ) (k : ℕ) (after : List ℕ) → number < seat_count config.mutators config.helpers → bytes ≡ 58 ∷ rest
-    → BeginsWith decimal (IsUpTo 4000000000) rest k after → BeginsWith aim (IsItemOf config number) bytes (Steps number k) after
-steps_read config number bytes rest k after seat marked read = record { good = ((seat, read.good), refl); spelled = marked ∙ ap (λ (bs : List ℕ). 58 ∷ bs) read.spelled; only = only }
+pub steps_read : (config : Config) (number : ℕ) (bytes rest : List ℕ) (count : ℕ) (after : List ℕ) → number < seat_count config.mutators config.helpers → bytes ≡ 58 ∷ rest
+    → BeginsWith decimal (IsUpTo 4000000000) rest count after → BeginsWith aim (IsItemOf config number) bytes (Steps number count) after
+steps_read config number bytes rest count after seat marked read = record { good = ((seat, read.good), refl); spelled = marked ∙ ap (λ (bs : List ℕ). 58 ∷ bs) read.spelled; only = only }
   where
-    only : (y : Item) (end : List ℕ) → IsItemOf config number y → NoDigit end → bytes ≡ aim y ++ end → (Steps number k ≡ y) × (after ≡ end)
-    only (Steps m n) end good none e = let one = read.only n end good.0.1 none (behind_mark 58 58 rest (decimal n ++ end) (sym marked ∙ e)) in let a = good.1 in let b = one.0 in (cc, one.1)
+    only : (y : Item) (end : List ℕ) → IsItemOf config number y → NoDigit end → bytes ≡ aim y ++ end → (Steps number count ≡ y) × (after ≡ end)
+    only (Steps m n) end good none e = let one = read.only n end good.0.1 none (same_rest 58 58 rest (decimal n ++ end) (sym marked ∙ e)) in let a = good.1 in let b = one.0 in (cc, one.1)
     only (Until m p) end good none e = absurd (omega (arith, one_mark 58 64 rest (code_of p ++ end) (sym marked ∙ e)))
     only (Replies m n) end good none e = absurd (omega (arith, one_mark 58 61 rest (decimal n ++ end) (sym marked ∙ e)))
 
@@ -51,40 +50,40 @@ until_read config number bytes rest place after seat marked read = record { good
   where
     only : (y : Item) (end : List ℕ) → IsItemOf config number y → NoDigit end → bytes ≡ aim y ++ end → (Until number place ≡ y) × (after ≡ end)
     only (Steps m n) end good none e = absurd (omega (arith, one_mark 64 58 rest (decimal n ++ end) (sym marked ∙ e)))
-    only (Until m q) end good none e = let one = read.only q end tt none (behind_mark 64 64 rest (code_of q ++ end) (sym marked ∙ e)) in let a = good.1 in let b = one.0 in (cc, one.1)
+    only (Until m q) end good none e = let one = read.only q end tt none (same_rest 64 64 rest (code_of q ++ end) (sym marked ∙ e)) in let a = good.1 in let b = one.0 in (cc, one.1)
     only (Replies m n) end good none e = absurd (omega (arith, one_mark 64 61 rest (decimal n ++ end) (sym marked ∙ e)))
 
-pub replies_read : (config : Config) (number : ℕ) (bytes rest : List ℕ) (k : ℕ) (after : List ℕ) → number < config.mutators → bytes ≡ 61 ∷ rest
-    → BeginsWith decimal (IsUpTo 4000000000) rest k after → BeginsWith aim (IsItemOf config number) bytes (Replies number k) after
-replies_read config number bytes rest k after seat marked read = record { good = ((seat, read.good), refl); spelled = marked ∙ ap (λ (bs : List ℕ). 61 ∷ bs) read.spelled; only = only }
+pub replies_read : (config : Config) (number : ℕ) (bytes rest : List ℕ) (count : ℕ) (after : List ℕ) → number < config.mutators → bytes ≡ 61 ∷ rest
+    → BeginsWith decimal (IsUpTo 4000000000) rest count after → BeginsWith aim (IsItemOf config number) bytes (Replies number count) after
+replies_read config number bytes rest count after seat marked read = record { good = ((seat, read.good), refl); spelled = marked ∙ ap (λ (bs : List ℕ). 61 ∷ bs) read.spelled; only = only }
   where
-    only : (y : Item) (end : List ℕ) → IsItemOf config number y → NoDigit end → bytes ≡ aim y ++ end → (Replies number k ≡ y) × (after ≡ end)
+    only : (y : Item) (end : List ℕ) → IsItemOf config number y → NoDigit end → bytes ≡ aim y ++ end → (Replies number count ≡ y) × (after ≡ end)
     only (Steps m n) end good none e = absurd (omega (arith, one_mark 61 58 rest (decimal n ++ end) (sym marked ∙ e)))
     only (Until m p) end good none e = absurd (omega (arith, one_mark 61 64 rest (code_of p ++ end) (sym marked ∙ e)))
-    only (Replies m n) end good none e = let one = read.only n end good.0.1 none (behind_mark 61 61 rest (decimal n ++ end) (sym marked ∙ e)) in let a = good.1 in let b = one.0 in (cc, one.1)
+    only (Replies m n) end good none e = let one = read.only n end good.0.1 none (same_rest 61 61 rest (decimal n ++ end) (sym marked ∙ e)) in let a = good.1 in let b = one.0 in (cc, one.1)
 
 -- nothing of the kind that this mark shows
 pub no_steps : (config : Config) (number : ℕ) (bytes rest : List ℕ) → bytes ≡ 58 ∷ rest → BeginsWithNone decimal (IsUpTo 4000000000) rest → BeginsWithNone aim (IsItemOf config number) bytes
-no_steps config number bytes rest marked none (Steps m n) end good digit e = none n end good.0.1 digit (behind_mark 58 58 rest (decimal n ++ end) (sym marked ∙ e))
-no_steps config number bytes rest marked none (Until m p) end good digit e = absurd (omega (arith, one_mark 58 64 rest (code_of p ++ end) (sym marked ∙ e)))
-no_steps config number bytes rest marked none (Replies m n) end good digit e = absurd (omega (arith, one_mark 58 61 rest (decimal n ++ end) (sym marked ∙ e)))
+no_steps config number bytes rest marked none (Steps other_number count) end good digit e = none count end good.0.1 digit (same_rest 58 58 rest (decimal count ++ end) (sym marked ∙ e))
+no_steps config number bytes rest marked none (Until other_number place) end good digit e = absurd (omega (arith, one_mark 58 64 rest (code_of place ++ end) (sym marked ∙ e)))
+no_steps config number bytes rest marked none (Replies other_number count) end good digit e = absurd (omega (arith, one_mark 58 61 rest (decimal count ++ end) (sym marked ∙ e)))
 
 pub no_replies : (config : Config) (number : ℕ) (bytes rest : List ℕ) → bytes ≡ 61 ∷ rest → BeginsWithNone decimal (IsUpTo 4000000000) rest → BeginsWithNone aim (IsItemOf config number) bytes
-no_replies config number bytes rest marked none (Steps m n) end good digit e = absurd (omega (arith, one_mark 61 58 rest (decimal n ++ end) (sym marked ∙ e)))
-no_replies config number bytes rest marked none (Until m p) end good digit e = absurd (omega (arith, one_mark 61 64 rest (code_of p ++ end) (sym marked ∙ e)))
-no_replies config number bytes rest marked none (Replies m n) end good digit e = none n end good.0.1 digit (behind_mark 61 61 rest (decimal n ++ end) (sym marked ∙ e))
+no_replies config number bytes rest marked none (Steps other_number count) end good digit e = absurd (omega (arith, one_mark 61 58 rest (decimal count ++ end) (sym marked ∙ e)))
+no_replies config number bytes rest marked none (Until other_number place) end good digit e = absurd (omega (arith, one_mark 61 64 rest (code_of place ++ end) (sym marked ∙ e)))
+no_replies config number bytes rest marked none (Replies other_number count) end good digit e = none count end good.0.1 digit (same_rest 61 61 rest (decimal count ++ end) (sym marked ∙ e))
 
 -- ---- whole items
 
 pub aim_no_digit : (y : Item) (after : List ℕ) → NoDigit (aim y ++ after)
-aim_no_digit (Steps m n) after = refl
-aim_no_digit (Until m p) after = refl
-aim_no_digit (Replies m n) after = refl
+aim_no_digit (Steps number count) after = refl
+aim_no_digit (Until number place) after = refl
+aim_no_digit (Replies number count) after = refl
 
 pub seat_of : (config : Config) (y : Item) → IsItem config y → IsUpTo (seat_count config.mutators config.helpers) (number_of y + 1)
-seat_of config (Steps m n) good = (omega arith, omega arith)
-seat_of config (Until m p) good = (omega arith, omega arith)
-seat_of config (Replies m n) good = (omega arith, omega arith)
+seat_of config (Steps number count) good = (omega arith, omega arith)
+seat_of config (Until number place) good = (omega arith, omega arith)
+seat_of config (Replies number count) good = (omega arith, omega arith)
 
 pub item_read : (config : Config) (bytes rest : List ℕ) (n : ℕ) (i : Item) (after : List ℕ) → BeginsWith decimal (IsUpTo (seat_count config.mutators config.helpers)) bytes n rest
     → BeginsWith aim (IsItemOf config (n - 1)) rest i after → BeginsWith item (IsItem config) bytes i after
@@ -125,11 +124,11 @@ pub whole_number : (most : ℕ) (text : List ℕ) (n : ℕ) (rest : List ℕ) �
 whole_number most text n rest read none = (read.good, read.spelled ∙ ap (λ (bs : List ℕ). decimal n ++ bs) none ∙ append-nil (decimal n))
 
 pub no_whole_number : (most : ℕ) (text : List ℕ) → BeginsWithNone decimal (IsUpTo most) text → (n : ℕ) → IsUpTo most n → text ≡ decimal n → ⊥
-no_whole_number most text none n good e = none n [] good tt (e ∙ sym (append-nil (decimal n)))
+no_whole_number most text none n good same = none n [] good tt (same ∙ sym (append-nil (decimal n)))
 
 pub no_more_number : (most : ℕ) (text : List ℕ) (n : ℕ) (rest : List ℕ) → BeginsWith decimal (IsUpTo most) text n rest → (rest ≡ [] → ⊥) → (m : ℕ) → IsUpTo most m → text ≡ decimal m → ⊥
-no_more_number most text n rest read more m good e = more (read.only m [] good tt (e ∙ sym (append-nil (decimal m)))).1
+no_more_number most text n rest read more m good same = more (read.only m [] good tt (same ∙ sym (append-nil (decimal m)))).1
 
 pub no_bytes : (bytes : List ℕ) → eqb (length bytes) 0 ≡ true → bytes ≡ []
-no_bytes [] e = refl
-no_bytes (b ∷ bytes) e = absurd (grind (arith, nat_tests))
+no_bytes [] same = refl
+no_bytes (b ∷ bytes) same = absurd (grind (arith, nat_tests))

@@ -71,7 +71,7 @@ threads_ranges = (1, 8) ∷ (0, 3) ∷ []
 -- the kind among these that has this word
 unfoldable pub kind_named : List CommandKind → List ℕ → Option CommandKind
 kind_named [] w = None
-kind_named (k ∷ ks) w = if is_same w (word k) then Some k else kind_named ks w
+kind_named (kind ∷ rest) w = if is_same w (word kind) then Some kind else kind_named rest w
 
 -- the thread and numbers up to these limits
 abbrev pub ranges_of : ℕ → List ℕ → List (ℕ × ℕ)
@@ -79,7 +79,7 @@ ranges_of threads limits = (1, threads) ∷ map (λ limit. (0, limit)) limits
 
 abbrev pub numbers_of_kind : ℕ → List ℕ → Option CommandKind → List (List ℕ) → Option Why
 numbers_of_kind threads thread None ws = Some Command
-numbers_of_kind threads thread (Some k) ws = if length ws == length (limits k) then numbers_cause (ranges_of threads (limits k)) (thread ∷ ws) else Some Command
+numbers_of_kind threads thread (Some kind) ws = if length ws == length (limits kind) then numbers_cause (ranges_of threads (limits kind)) (thread ∷ ws) else Some Command
 
 -- a line of a command that the version has: the thread's word, the command's word, and its numbers
 unfoldable pub command_cause : (version threads : ℕ) → List ℕ → List (List ℕ) → Option Why

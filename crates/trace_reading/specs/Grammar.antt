@@ -23,7 +23,7 @@ scripts_of threads lines = map (commands_in lines) (range_with_len 1 threads)
 
 -- the scripts, with the command of one line more
 abbrev pub with_line : List (List Command) → TraceLine → List (List Command)
-with_line scripts l = slice_set scripts (l.thread - 1) (slice_index_or scripts (l.thread - 1) [] ++ l.command ∷ [])
+with_line scripts trace_line = slice_set scripts (trace_line.thread - 1) (slice_index_or scripts (trace_line.thread - 1) [] ++ trace_line.command ∷ [])
 
 -- these lines were taken from the front of the bytes, and what they say is in the scripts
 pub record HasReadLines (version threads : ℕ) (bytes rest : List ℕ) (scripts : List (List Command)) : Type 0 where

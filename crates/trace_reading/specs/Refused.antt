@@ -37,7 +37,7 @@ IsTurnItem config text = (items : List Item) × IsScheduleLine config items × (
 abbrev pub LineFollows : LineStage → List ℕ → LineStage → Type 0
 LineFollows Version text next = (version : ℕ) × IsVersion version × (text ++ newline ∷ [] ≡ titled (codes "shen") (version ∷ [])) × (next ≡ Heap version)
 LineFollows (Heap version) text next = (config : Config) × IsNarrow config × (text ++ newline ∷ [] ≡ titled (codes "heap") (config.regions ∷ config.region_words ∷ config.reserve ∷ [])) × (next ≡ Threads version config.regions config.region_words config.reserve)
-LineFollows (Threads version r w e) text next = (config : Config) × (config.regions ≡ r) × (config.region_words ≡ w) × (config.reserve ≡ e) × (text ++ newline ∷ [] ≡ titled (codes "threads") (config.mutators ∷ config.helpers ∷ [])) × (next ≡ Commands version config)
+LineFollows (Threads version regions region_words reserve) text next = (config : Config) × (config.regions ≡ regions) × (config.region_words ≡ region_words) × (config.reserve ≡ reserve) × (text ++ newline ∷ [] ≡ titled (codes "threads") (config.mutators ∷ config.helpers ∷ [])) × (next ≡ Commands version config)
 LineFollows (Commands version config) text next = (IsCommandLine version config text × (next ≡ Commands version config)) ⊎ (IsTurnItem config text × (next ≡ Turns config))
 LineFollows (Turns config) text next = IsTurnItem config text × (next ≡ Turns config)
 
@@ -61,15 +61,15 @@ command_line_cause version config (w ∷ ws) = command_cause version config.muta
 -- the first cause that holds for a line with these words
 unfoldable pub words_cause : LineStage → List (List ℕ) → Option Why
 words_cause Version ws = title_cause (codes "shen") version_ranges ws
-words_cause (Heap v) ws = title_cause (codes "heap") (heap_ranges ws) ws
-words_cause (Threads v r w e) ws = title_cause (codes "threads") threads_ranges ws
-words_cause (Commands v c) ws = body_cause c (command_line_cause v c ws) ws
-words_cause (Turns c) ws = body_cause c (Some ScheduleLast) ws
+words_cause (Heap version) ws = title_cause (codes "heap") (heap_ranges ws) ws
+words_cause (Threads version regions region_words reserve) ws = title_cause (codes "threads") threads_ranges ws
+words_cause (Commands version config) ws = body_cause config (command_line_cause version config ws) ws
+words_cause (Turns config) ws = body_cause config (Some ScheduleLast) ws
 
 -- the bytes end here, with this text behind the last end of a line
 abbrev pub end_cause : LineStage → List ℕ → Option Why
-end_cause (Commands v c) [] = None
-end_cause (Turns c) [] = None
+end_cause (Commands version config) [] = None
+end_cause (Turns config) [] = None
 end_cause _ text = Some EndOfLine
 
 -- the first cause that holds for the first of these lines; the last of them has no end

@@ -65,7 +65,7 @@ found kind (Some rest) others = Some (kind, rest)
 -- the first of these kinds whose word stands at the front
 unfoldable pub kind_among : List CommandKind → List ℕ → Option (CommandKind × List ℕ)
 kind_among [] bytes = None
-kind_among (k ∷ kinds) bytes = found k (behind (word k) bytes) (kind_among kinds bytes)
+kind_among (kind ∷ kinds) bytes = found kind (behind (word kind) bytes) (kind_among kinds bytes)
 
 -- the word of a command that the version has, and its numbers
 unfoldable pub spelled_command : ℕ → List ℕ → Option (Command × List ℕ)

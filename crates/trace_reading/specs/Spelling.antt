@@ -61,7 +61,7 @@ pub record TraceLine : Type 0 where
   pub command : Command
 
 abbrev pub line : TraceLine → List ℕ
-line l = decimal l.thread ++ space ∷ (command_word l.command ++ (numbers (numbers_of l.command) ++ newline ∷ []))
+line trace_line = decimal trace_line.thread ++ space ∷ (command_word trace_line.command ++ (numbers (numbers_of trace_line.command) ++ newline ∷ []))
 
 -- a number that is written fits 64 bits
 abbrev pub FitsWhenWritten : Command → Type 0

@@ -12,13 +12,13 @@ use Rattle.trace_runs.specs.CallEnds.{EndsWith}
 
 -- a text that goes with a status and was written fits it: none goes with a write fault
 written_fits : (words : List (List ℕ)) (input : Input) (output : Output) (status : Status) → IsWritten words input output status → StatusFits words input output status
-written_fits words input output Ok w = w
-written_fits words input output BadWords w = w
-written_fits words input output BadTrace w = w
-written_fits words input output Unfinished w = w
-written_fits words input output ReadFault w = w
-written_fits words input output WriteFault w = absurd w.allowed
-written_fits words input output NoMemory w = w
+written_fits words input output Ok written = written
+written_fits words input output BadWords written = written
+written_fits words input output BadTrace written = written
+written_fits words input output Unfinished written = written
+written_fits words input output ReadFault written = written
+written_fits words input output WriteFault written = absurd written.allowed
+written_fits words input output NoMemory written = written
 
 -- a text that goes with a status was written, or the sink failed
 pub said : (words : List (List ℕ)) (input : Input) (output : Output) (text : List ℕ) (status result : Status) → Allows words input status text
@@ -36,10 +36,10 @@ said words input output text status result allowed ends = by_end ends.written
 
 -- the row of Ok is the headline
 pub answered : (words : List (List ℕ)) (input : Input) (output : Output) (result : Status) → StatusFits words input output result → result ≡ Ok → HasAnswered words input output
-answered words input output result fits e = record { mode = w.allowed.0; asked = w.allowed.1; out = w.out; answer = w.allowed.2; written = w.appended }
+answered words input output result fits same = record { mode = w.allowed.0; asked = w.allowed.1; out = w.out; answer = w.allowed.2; written = w.appended }
   where
     w : IsWritten words input output Ok
-    w = subst (StatusFits words input output) e fits
+    w = subst (StatusFits words input output) same fits
 
 -- ---- one text behind another
 
@@ -47,8 +47,8 @@ rose_after : (before middle after : ℕ) → before ≤ middle → Rose middle a
 rose_after before middle after first rose = grind arith
 
 -- a front of the first text is one of both
-pub front_of_first : (before after : Outlet) (x y : List ℕ) → WritesFront before after x → WritesFront before after (x ++ y)
-front_of_first before after x y front = record {
+pub front_of_first : (before after : Outlet) (text y : List ℕ) → WritesFront before after text → WritesFront before after (text ++ y)
+front_of_first before after text y front = record {
   sent = front.sent;
   rest = front.rest ++ y;
   appended = front.appended;
@@ -57,8 +57,8 @@ front_of_first before after x y front = record {
 }
 
 -- so is the first text with a front of the second
-pub front_of_second : (before middle after : Outlet) (x y : List ℕ) → Appends before.written middle.written x → CalledAtMost (length x) before.calls middle.calls → WritesFront middle after y → WritesFront before after (x ++ y)
-front_of_second before middle after x y first few front =
+pub front_of_second : (before middle after : Outlet) (x text : List ℕ) → Appends before.written middle.written x → CalledAtMost (length x) before.calls middle.calls → WritesFront middle after text → WritesFront before after (x ++ text)
+front_of_second before middle after x text first few front =
     let long = length-append x front.sent in
     let more = front.few_calls in
     record {
@@ -70,14 +70,14 @@ front_of_second before middle after x y first few front =
     }
 
 -- the sink failed in the first text
-pub ends_in_first : (before after : Outlet) (x y : List ℕ) (status : Status) → WritesFront before after x → Rose before.faults after.faults → CalledAtMost (length x) before.calls after.calls → EndsWith (x ++ y) status WriteFault before after
-ends_in_first before after x y status front rose few =
-    let long = length-append x y in
-    record { written = inr (refl, rose, front_of_first before after x y front); few_calls = omega (arith, long, few) }
+pub ends_in_first : (before after : Outlet) (text y : List ℕ) (status : Status) → WritesFront before after text → Rose before.faults after.faults → CalledAtMost (length text) before.calls after.calls → EndsWith (text ++ y) status WriteFault before after
+ends_in_first before after text y status front rose few =
+    let long = length-append text y in
+    record { written = inr (refl, rose, front_of_first before after text y front); few_calls = omega (arith, long, few) }
 
 -- the sink failed in the second one
-pub ends_in_second : (before middle after : Outlet) (x y : List ℕ) (status : Status) → before.faults ≤ middle.faults → Appends before.written middle.written x → CalledAtMost (length x) before.calls middle.calls
-    → WritesFront middle after y → Rose middle.faults after.faults → CalledAtMost (length y) middle.calls after.calls → EndsWith (x ++ y) status WriteFault before after
-ends_in_second before middle after x y status never_fell first few front rose more =
-    let long = length-append x y in
-    record { written = inr (refl, rose_after before.faults middle.faults after.faults never_fell rose, front_of_second before middle after x y first few front); few_calls = omega (arith, long, more, few) }
+pub ends_in_second : (before middle after : Outlet) (x text : List ℕ) (status : Status) → before.faults ≤ middle.faults → Appends before.written middle.written x → CalledAtMost (length x) before.calls middle.calls
+    → WritesFront middle after text → Rose middle.faults after.faults → CalledAtMost (length text) middle.calls after.calls → EndsWith (x ++ text) status WriteFault before after
+ends_in_second before middle after x text status never_fell first few front rose more =
+    let long = length-append x text in
+    record { written = inr (refl, rose_after before.faults middle.faults after.faults never_fell rose, front_of_second before middle after x text first few front); few_calls = omega (arith, long, more, few) }

@@ -5,6 +5,7 @@ use Rattle.std.proofs.Math.Nat.{mul-le-mul_left, mul-le-mul_right, le_trans}
 use Rattle.std.proofs.lemmas.List.{length-append}
 use Rattle.std.proofs.lemmas.List.Elements.{All-from_recursion}
 use Rattle.std.proofs.lemmas.List.FromFn.{length-range_with_len}
+use Rattle.shen_graph.proofs.Lists.{all_append}
 use Rattle.heap_words.specs.declared.config.Config.{Config}
 use Rattle.shen_graph.specs.Valid.{IsValid}
 use Rattle.shen_graph.specs.Graph.{opening}
@@ -18,7 +19,6 @@ use Rattle.shen_core.specs.Progress.{Jobs, IsRunnable}
 use Rattle.table_heap.specs.declared.closed.Closed.{Closed}
 use Rattle.churn.specs.Script.{round, churn_script, churn_scripts}
 use Rattle.churn.specs.Laws as churn
-use Rattle.churn.proofs.Opening.{all_append}
 use Rattle.churn.proofs.Sums.{runs_can_be_summed_up}
 use Rattle.trace_runs.specs.Words.{most_seed, most_rounds}
 use Rattle.trace_runs.specs.Churned.{IsChurnHeap}
@@ -65,9 +65,9 @@ rounds_long : (seed : ℕ) (rounds : List ℕ) → length (flat_map (round seed)
 rounds_long seed [] = refl
 rounds_long seed (i ∷ rounds) = omega (arith, length-append (round seed i) (flat_map (round seed) rounds), rounds_long seed rounds)
 
-script_runnable : (seed count t : ℕ) → t ≤ 31 → count ≤ most_rounds → IsRunnable (churn_script seed count t)
-script_runnable seed count t low small = (
-  All-from_recursion IsValid (churn_script seed count t) ((omega arith, omega arith, omega arith), ((omega arith, omega arith, omega arith), rounds_valid seed (range_with_len 0 count))),
+script_runnable : (seed count thread : ℕ) → thread ≤ 31 → count ≤ most_rounds → IsRunnable (churn_script seed count thread)
+script_runnable seed count thread low small = (
+  All-from_recursion IsValid (churn_script seed count thread) ((omega arith, omega arith, omega arith), ((omega arith, omega arith, omega arith), rounds_valid seed (range_with_len 0 count))),
   omega (arith, rounds_long seed (range_with_len 0 count), length-range_with_len 0 count),
 )
 
@@ -91,14 +91,14 @@ module _ (seed count : ℕ) (config : Config) (scripts : Scripts) (jobs : Jobs) 
       record {
         follows = subst (λ (ss : Scripts). Follows ss entries) are whole.follows;
         legal = subst (λ (ss : Scripts). IsLegalHistory 16 256 ss entries) are
-            (subst (λ (n : ℕ). IsLegalHistory 16 n scripts entries) sizes.region_words
-            (subst (λ (n : ℕ). IsLegalHistory n config.region_words scripts entries) sizes.regions whole.legal));
+            (subst (λ (region_words : ℕ). IsLegalHistory 16 region_words scripts entries) sizes.region_words
+            (subst (λ (regions : ℕ). IsLegalHistory regions config.region_words scripts entries) sizes.regions whole.legal));
       }
 
   pub churn_tells : (text : Text) → texts.ShowsGraph text config.mutators (after (first_graph config) entries) → churn.TellsRun entries jobs text.rows
   churn_tells text shown =
       let shows : texts.ShowsGraph text 3 (after (opening 3) entries) =
-      subst (λ (n : ℕ). texts.ShowsGraph text n (after (opening n) entries)) sizes.mutators shown in
+      subst (λ (threads : ℕ). texts.ShowsGraph text threads (after (opening threads) entries)) sizes.mutators shown in
       record {
         names = names_of text;
         replies = λ m below. come_told config scripts jobs end done m (omega (arith, below, sizes.mutators));
@@ -112,7 +112,7 @@ module _ (seed count : ℕ) (config : Config) (scripts : Scripts) (jobs : Jobs) 
 
 -- the numbers of a churn are not large
 pub small_sum : (seed count : ℕ) → seed ≤ most_seed → count ≤ most_rounds → (6 + 24 * count) * (seed + count) ≤ 480006 * 1020000
-small_sum seed count small few =
-    let more : seed + count ≤ 1020000 = omega (arith, small, few) in
-    let long : 6 + 24 * count ≤ 480006 = omega (arith, few) in
+small_sum seed count small at_most =
+    let more : seed + count ≤ 1020000 = omega (arith, small, at_most) in
+    let long : 6 + 24 * count ≤ 480006 = omega (arith, at_most) in
     le_trans (mul-le-mul_left (6 + 24 * count) more) (mul-le-mul_right 1020000 long)

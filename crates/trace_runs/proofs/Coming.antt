@@ -2,8 +2,9 @@
 use Rattle.std.proofs.Common.{◌≡◌, ℕ, ◌+◌, ◌-◌, ◌<◌, ◌≤◌, ◌&&◌, true, List, length, Option, Some, None, refl, sym, ap, ◌∙◌, subst, arith, mod-lt}
 use Rattle.std.specs.Prelude.{◌%◌, nat_lt, nat_le, slice_get}
 use Rattle.std.specs.Option.{is_some}
-use Rattle.std.proofs.lemmas.Bool.{lt-ltb, false≢true}
+use Rattle.std.proofs.lemmas.Bool.{lt-ltb}
 use Rattle.std.proofs.lemmas.Bool.Decides.{nat_tests}
+use Rattle.shen_graph.proofs.Options.{some_if_is_some}
 use Rattle.heap_words.specs.declared.config.Config.{Config}
 use Rattle.heap_words.specs.declared.schedule.Item.{Item}
 use Rattle.heap_words.specs.Ranges.{seat_count}
@@ -42,10 +43,6 @@ use Rattle.trace_runs.specs.Replayed.{IsWhole, IsRun}
 use Rattle.trace_runs.specs.Running.{HasCome}
 use Rattle.trace_runs.proofs.Whole as ends
 
-some_from : {A : Type 0} (found : Option A) → is_some found ≡ true → (x : A) × (found ≡ Some x)
-some_from None e = absurd (false≢true e)
-some_from (Some x) e = (x, refl)
-
 -- all are dealt to some bundle
 all_dealt : (x w n m : ℕ) → x < w → n < m → (nat_lt n m && (nat_le 0 x && nat_lt x w)) ≡ true
 all_dealt x w n m low below = grind (arith, nat_tests)
@@ -65,12 +62,12 @@ module _ (heap : Heap) (assigned : Assigned) (w : ℕ) (all : Part) (some : 0 < 
   pub control_idle : IsControlIdle all.bundle
   control_idle a here = idle_takes a.machine (done.idle _ a here)
 
-  pub mutates : (t : ℕ) (actor : Actor) → machine_of (view_of all.bundle) t ≡ Some actor → t < (config_of heap).mutators → is_mutating actor.machine ≡ true
-  mutates t actor here below = role_at all.bundle t actor here ∙ ap (λ (config : Config). nat_lt t config.mutators) same ∙ lt-ltb t (config_of heap).mutators below
+  pub mutates : (number : ℕ) (actor : Actor) → machine_of (view_of all.bundle) number ≡ Some actor → number < (config_of heap).mutators → is_mutating actor.machine ≡ true
+  mutates number actor here below = role_at all.bundle number actor here ∙ ap (λ (config : Config). nat_lt number config.mutators) same ∙ lt-ltb number (config_of heap).mutators below
 
   -- each mutator is there
-  pub mutator_there : (t : ℕ) → t < (config_of heap).mutators → (actor : Actor) × (machine_of (view_of all.bundle) t ≡ Some actor)
-  mutator_there t below = some_from (machine_of (view_of all.bundle) t) (machine_there t (omega (arith, below)))
+  pub mutator_there : (seat : ℕ) → seat < (config_of heap).mutators → (actor : Actor) × (machine_of (view_of all.bundle) seat ≡ Some actor)
+  mutator_there seat below = some_if_is_some (machine_of (view_of all.bundle) seat) (machine_there seat (omega (arith, below)))
 
   module _ (end : Closed) (view : view_of all.bundle ≡ whole (closed.machines_of end)) where
     pub at : (index : ℕ) → machine_of (view_of all.bundle) index ≡ slice_get (closed.machines_of end) index
@@ -136,18 +133,18 @@ module _ (config : Config) (scripts : Scripts) (jobs : Jobs) (end : Closed) (don
 
 -- ---- the answer
 
-pub answered : (bytes : List ℕ) (v : ℕ) (config : Config) (scripts : Scripts) (items : List Item) (jobs : Jobs) (end : Closed) (text : Text)
-    → Reads bytes v config scripts items → length scripts ≡ config.mutators → (done : HasCome config scripts jobs end) → length text.roots ≡ config.mutators → texts.ShowsGraph text config.mutators (after (first_graph config) (come_past config scripts jobs end done))
-    → IsRun bytes (answer_text v (length text.roots) (λ thread. work.replies_of jobs (thread - 1)) text.rows (root_of text) (pin_of text))
-answered bytes v config scripts items jobs end text reads count done roots shows = record {
-  version = v;
+pub answered : (bytes : List ℕ) (version : ℕ) (config : Config) (scripts : Scripts) (items : List Item) (jobs : Jobs) (end : Closed) (text : Text)
+    → Reads bytes version config scripts items → length scripts ≡ config.mutators → (done : HasCome config scripts jobs end) → length text.roots ≡ config.mutators → texts.ShowsGraph text config.mutators (after (first_graph config) (come_past config scripts jobs end done))
+    → IsRun bytes (answer_text version (length text.roots) (λ thread. work.replies_of jobs (thread - 1)) text.rows (root_of text) (pin_of text))
+answered bytes version config scripts items jobs end text reads count done roots shows = record {
+  version = version;
   config = config;
   scripts = scripts;
   items = items;
   reads = reads;
   events = done.reached.events;
   whole = come_whole config scripts jobs end done count;
-  text = record { names = names_of text; reach = shows.reach; text = ends.text_shown v config.mutators jobs (come_past config scripts jobs end done) text roots shows replies };
+  text = record { names = names_of text; reach = shows.reach; text = ends.text_shown version config.mutators jobs (come_past config scripts jobs end done) text roots shows replies };
 }
   where
     replies : (thread : ℕ) → 1 ≤ thread → thread ≤ config.mutators → work.replies_of jobs (thread - 1) ≡ history.replies_of (of_thread (come_past config scripts jobs end done) thread)

@@ -64,9 +64,9 @@ takes_or_large ReadTrace bytes takes large = large
 takes_or_large ReadPair bytes takes large = large
 takes_or_large ReadDump bytes takes large =
     let a = takes.0 in
-    let b = large.read in
-    let same = reread.read_once bytes (dumped a.config a.counts a.graph) (dumped b.config b.counts b.graph) a.scripts b.scripts a.items b.items a.resumes b.resumes in
-    large.too_large (fits_alike a.config b.config a.counts b.counts a.graph b.graph same.dump takes.1)
+    let read = large.read in
+    let same = reread.read_once bytes (dumped a.config a.counts a.graph) (dumped read.config read.counts read.graph) a.scripts read.scripts a.items read.items a.resumes read.resumes in
+    large.too_large (fits_alike a.config read.config a.counts read.counts a.graph read.graph same.dump takes.1)
 
 not_turned_down : (reading : Reading) (input : Input) (out bytes : List ℕ) → Takes reading bytes → input.before ≡ Some bytes → IsTurnedDown reading input out → ⊥
 not_turned_down reading input out bytes takes told down = by_cause down.1
@@ -96,10 +96,10 @@ complete words input output NoMemory fits bytes asked told read_fine written_fin
 
 -- a mode of which the steps are bounded reads something
 limited_reads : (mode : Mode) (steps : ℕ) → bound_of mode ≡ Some steps → ReadsInput mode
-limited_reads (Replay n) steps limited = tt
-limited_reads (Noted n) steps limited = tt
-limited_reads (Dump n) steps limited = tt
-limited_reads (Resume n) steps limited = tt
+limited_reads (Replay other_steps) steps limited = tt
+limited_reads (Noted other_steps) steps limited = tt
+limited_reads (Dump other_steps) steps limited = tt
+limited_reads (Resume other_steps) steps limited = tt
 limited_reads (Run workers) steps limited = tt
 limited_reads (Churn load) steps limited = absurd cc
 limited_reads (Queue count) steps limited = absurd cc

@@ -47,12 +47,12 @@ and_false true = refl
 and_false false = refl
 
 one_dealt : {A : Type 0} (found : Option A) (holds : Bool) (x k : ℕ) → is_some found ≡ holds → is_some (if x == k then found else None) ≡ (holds && (nat_le k x && nat_lt x (k + 1)))
-one_dealt found holds x k e = by_test (x == k) refl
+one_dealt found holds x k same = by_test (x == k) refl
   where
     by_test : (other_holds : Bool) → (x == k) ≡ other_holds → is_some (if x == k then found else None) ≡ (holds && (nat_le k x && nat_lt x (k + 1)))
     by_test true is =
         let inside : (nat_le k x && nat_lt x (k + 1)) ≡ true = grind (arith, nat_tests) in
-        ap (λ other_holds. is_some (if other_holds then found else None)) is ∙ e ∙ and_true holds ∙ sym (ap (λ d. holds && d) inside)
+        ap (λ other_holds. is_some (if other_holds then found else None)) is ∙ same ∙ and_true holds ∙ sym (ap (λ d. holds && d) inside)
     by_test false is =
         let outside : (nat_le k x && nat_lt x (k + 1)) ≡ false = grind (arith, nat_tests) in
         ap (λ other_holds. is_some (if other_holds then found else None)) is ∙ and_false holds ∙ sym (ap (λ d. holds && d) outside)
@@ -113,7 +113,7 @@ module _ (heap : Heap) (scripts : Scripts) (first : Jobs) (bundles : List Bundle
           ap is_some (job_at n)
           ∙ one_dealt (option_map begun (slice_get scripts n)) (nat_lt n (config_of heap).mutators) (n % workers) index
           (some_begun (slice_get scripts n) ∙ some_within scripts n [] ∙ ap (nat_lt n) can.count);
-      scripts_are = λ n has. script_at n (n % workers == index) (slice_get scripts n) refl (progress_of (parted workers index now) n) (job_at n) has;
+      scripts_are = λ other_index has. script_at other_index (other_index % workers == index) (slice_get scripts other_index) refl (progress_of (parted workers index now) other_index) (job_at other_index) has;
     };
     start = fresh_can_start heap bundle (config_of heap) workers index (parted workers index now) fresh (λ n below dealt.
         let within : n < length scripts = omega (arith, below, can.count) in (

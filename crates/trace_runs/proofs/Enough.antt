@@ -79,20 +79,20 @@ enough config scripts (suc few) (suc many) todo stage le none = by_next (next co
 
 -- A trace that is replayed by so many steps is replayed by more, with the same answer.
 pub more_steps : (bytes : List ℕ) (few many : ℕ) (out : List ℕ) → few ≤ many → IsReplayed bytes few out → IsReplayed bytes many out
-more_steps bytes few many out le r = record {
-  version = r.version;
-  config = r.config;
-  scripts = r.scripts;
-  items = r.items;
-  reads = r.reads;
-  whole = subst (λ events. IsWhole r.config r.scripts events) (sym same) r.whole;
-  text = subst (λ events. IsAnswerText r.version r.config.mutators (past pause_image r.config events) out) (sym same) r.text;
+more_steps bytes few many out le replayed = record {
+  version = replayed.version;
+  config = replayed.config;
+  scripts = replayed.scripts;
+  items = replayed.items;
+  reads = replayed.reads;
+  whole = subst (λ events. IsWhole replayed.config replayed.scripts events) (sym same) replayed.whole;
+  text = subst (λ events. IsAnswerText replayed.version replayed.config.mutators (past pause_image replayed.config events) out) (sym same) replayed.text;
 }
   where
     end : ℕ → List (Event Order)
-    end limit = events_of r.config r.scripts r.items limit
+    end limit = events_of replayed.config replayed.scripts replayed.items limit
 
     same : end many ≡ end few
     same =
-        enough r.config r.scripts few many (agenda_of r.items) (opening r.config) le
-        (still r.config r.scripts (go (kind pause_image r.config) (opening r.config) (end few)) (every_list pause_image heap_pauses r.config (end few)).of_heap.machines r.whole.idle)
+        enough replayed.config replayed.scripts few many (agenda_of replayed.items) (opening replayed.config) le
+        (still replayed.config replayed.scripts (go (kind pause_image replayed.config) (opening replayed.config) (end few)) (every_list pause_image heap_pauses replayed.config (end few)).of_heap.machines replayed.whole.idle)

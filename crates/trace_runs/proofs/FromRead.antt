@@ -6,7 +6,7 @@ use Rattle.heap_words.specs.declared.config.Config.{Config}
 use Rattle.heap_words.specs.declared.schedule.Item.{Item}
 use Rattle.graph_placing.specs.ByName.{Fits}
 use Rattle.heap_dump.specs.Dumped.{dumped}
-use Rattle.heap_dump.specs.Resumes.{Resumes}
+use Rattle.heap_dump.specs.DumpsToRun.{Resumes}
 use Rattle.heap_dump.specs.Resumed.{IsResumed, IsCutFrom}
 use Rattle.trace_runs.specs.FromDumps.{IsDumpAndMore, IsAnswerFromDump, IsCutFromDump, IsTooLargeDump}
 

@@ -31,7 +31,7 @@ use Rattle.table_heap.specs.declared.heap.Heap.{Heap}
 use Rattle.table_heap.specs.declared.closed.Closed.{Closed}
 use Rattle.table_heap.specs.Closed as closed
 use Rattle.table_heap.specs.Core.{heap_kind, heap_opening, nobody}
-use Rattle.table_heap.specs.Driven.{IsDrivenFrom, driver_after}
+use Rattle.table_heap.specs.Drivers.{IsDrivenFrom, driver_after}
 use Rattle.table_heap.specs.State.{config_of, view_of, IsFresh}
 use Rattle.trace_text.specs.Message.{line_text}
 use Rattle.trace_text.specs.declared.message.Line.TheVariants as line
@@ -51,8 +51,8 @@ use Rattle.trace_runs.proofs.Whole as ends
 -- ---- the users of a heap
 
 -- no user is to make more than 392 objects
-few_to_come : (count : ℕ) → count ≤ most_numbers → All (λ (u : Use). to_come u < most_objects) (queue_users count)
-few_to_come count small = All-from_recursion (λ (u : Use). to_come u < most_objects) (queue_users count) (omega (arith, small), (omega (arith, small), (omega arith, (omega arith, tt))))
+few_to_come : (count : ℕ) → count ≤ most_numbers → All (λ (use_of : Use). to_come use_of < most_objects) (queue_users count)
+few_to_come count small = All-from_recursion (λ (use_of : Use). to_come use_of < most_objects) (queue_users count) (omega (arith, small), (omega (arith, small), (omega arith, (omega arith, tt))))
 
 -- the scripts of mutators that have nothing to do
 abbrev idle_scripts : Scripts
@@ -62,9 +62,9 @@ none_runnable : IsRunnable []
 none_runnable = (All-nil IsValid, omega arith)
 
 -- the part of a bundle, with the user of its one machine
-pub crewed_part : (heap : Heap) (count : ℕ) (bundles : List Bundle) (w index : ℕ) (bundle : Bundle) (crew : ArrayVec Use) → count ≤ most_numbers → CanBeCrewed heap bundles → w ≡ length bundles → slice_get bundles index ≡ Some bundle
-    → crew.items ≡ crew_of (queue_users count) index (index + 1) → PartIsReady heap (users (queue_users count)) w index (index + 1) (record { bundle = bundle; load = Driven crew })
-crewed_part heap count bundles w index bundle crew small can many here are = record {
+pub crewed_part : (heap : Heap) (count : ℕ) (bundles : List Bundle) (workers index : ℕ) (bundle : Bundle) (crew : ArrayVec Use) → count ≤ most_numbers → CanBeCrewed heap bundles → workers ≡ length bundles → slice_get bundles index ≡ Some bundle
+    → crew.items ≡ crew_of (queue_users count) index (index + 1) → PartIsReady heap (users (queue_users count)) workers index (index + 1) (record { bundle = bundle; load = Driven crew })
+crewed_part heap count bundles workers index bundle crew small can many here are = record {
   has = part;
   load = (crewed, are);
   start = record {
@@ -72,13 +72,13 @@ crewed_part heap count bundles w index bundle crew small can many here are = rec
     mutators = λ n a there role.
         let can_start = idle.start.mutators n a there role in
         record { calls = can_start.calls; rest = can_start.rest; free = can_start.free; made = can_start.made };
-    count = ap length are ∙ crew_counts heap w index (index + 1) (record { bundle = bundle; load = Driven crew }) part (omega arith) crewed.single (queue_users count) crewed;
-    few = subst (λ us. All (λ (u : Use). to_come u < most_objects) us) (sym are)
-        (All-drop (λ (u : Use). to_come u < most_objects) index (take (index + 1) (queue_users count)) (All-take (λ (u : Use). to_come u < most_objects) (index + 1) (queue_users count) (few_to_come count small)));
+    count = ap length are ∙ crew_counts heap workers index (index + 1) (record { bundle = bundle; load = Driven crew }) part (omega arith) crewed.single (queue_users count) crewed;
+    few = subst (λ us. All (λ (use_of : Use). to_come use_of < most_objects) us) (sym are)
+        (All-drop (λ (use_of : Use). to_come use_of < most_objects) index (take (index + 1) (queue_users count)) (All-take (λ (use_of : Use). to_come use_of < most_objects) (index + 1) (queue_users count) (few_to_come count small)));
   };
 }
   where
-    crewed : IsCrewed (config_of heap) (queue_users count) w
+    crewed : IsCrewed (config_of heap) (queue_users count) workers
     crewed = record { single = many ∙ can.single; count = sym can.heap.mutators }
 
     can_idle : CanBeDealt heap idle_scripts (opened idle_scripts) bundles
@@ -89,10 +89,10 @@ crewed_part heap count bundles w index bundle crew small can many here are = rec
       runnable = All-from_recursion IsRunnable idle_scripts (none_runnable, (none_runnable, (none_runnable, (none_runnable, tt))));
     }
 
-    idle : PartIsReady heap (by_scripts idle_scripts) w index (index + 1) (record { bundle = bundle; load = Scripted (parted w index (left_after w index idle_scripts)) })
-    idle = ready_part heap idle_scripts (opened idle_scripts) bundles can_idle w index bundle (left_after w index idle_scripts) many here refl
+    idle : PartIsReady heap (by_scripts idle_scripts) workers index (index + 1) (record { bundle = bundle; load = Scripted (parted workers index (left_after workers index idle_scripts)) })
+    idle = ready_part heap idle_scripts (opened idle_scripts) bundles can_idle workers index bundle (left_after workers index idle_scripts) many here refl
 
-    part : IsPart heap w index (index + 1) (record { bundle = bundle; load = Driven crew })
+    part : IsPart heap workers index (index + 1) (record { bundle = bundle; load = Driven crew })
     part = record { of = idle.has.of; machines = idle.has.machines }
 
 -- the bundles that a heap was opened with
@@ -108,13 +108,13 @@ can_be_crewed heap other_config bundles w config sizes count seats fresh = recor
 
 -- ---- what a driver's calls are to a user
 
-as_driven : (u : Use) (es : List Entry) → IsDrivenFrom next_of used u es → IsDriven u es
-as_driven u [] driven = tt
-as_driven u (e ∷ es) driven = (driven.0, as_driven (used u e.reply) es driven.1)
+as_driven : (use_of : Use) (entries : List Entry) → IsDrivenFrom next_of used use_of entries → IsDriven use_of entries
+as_driven use_of [] driven = tt
+as_driven use_of (entry ∷ entries) driven = (driven.0, as_driven (used use_of entry.reply) entries driven.1)
 
-as_after : (u : Use) (es : List Entry) → driver_after used u es ≡ use_after u es
-as_after u [] = refl
-as_after u (e ∷ es) = as_after (used u e.reply) es
+as_after : (use_of : Use) (entries : List Entry) → driver_after used use_of entries ≡ use_after use_of entries
+as_after use_of [] = refl
+as_after use_of (entry ∷ entries) = as_after (used use_of entry.reply) entries
 
 user_at : (count index : ℕ) → index < 4 → slice_get (queue_users count) index ≡ Some (queue_user count index)
 user_at count zero below = refl
@@ -123,8 +123,8 @@ user_at count (suc (suc zero)) below = refl
 user_at count (suc (suc (suc zero))) below = refl
 user_at count (suc (suc (suc (suc index)))) below = absurd (omega (arith, below))
 
-same_user : (u v : Use) → Some u ≡ Some v → u ≡ v
-same_user u v e = cc
+same_user : (use_of other_use_of : Use) → Some use_of ≡ Some other_use_of → use_of ≡ other_use_of
+same_user use_of other_use_of found = cc
 
 -- ---- the history
 
@@ -168,7 +168,7 @@ module _ (heap : Heap) (count w : ℕ) (all : Part) (crew : ArrayVec Use) (some 
   called : AllHaveCalled (config_of heap) called_scripts (reached pause_image (config_of heap) leads.events)
   called = subst (λ s. AllHaveCalled (config_of heap) called_scripts s) (sym leads.ends) called_in_end
 
-  used_in : (t : ℕ) (actor : Actor) → t < (config_of heap).mutators → slice_get (reached pause_image (config_of heap) leads.events).machines t ≡ Some actor → HasUsed (queue_users count) crew.items 0 t actor
+  used_in : (number : ℕ) (actor : Actor) → number < (config_of heap).mutators → slice_get (reached pause_image (config_of heap) leads.events).machines number ≡ Some actor → HasUsed (queue_users count) crew.items 0 number actor
   used_in = subst (λ (stage : Stage Actor). (t : ℕ) (actor : Actor) → t < (config_of heap).mutators → slice_get stage.machines t ≡ Some actor → HasUsed (queue_users count) crew.items 0 t actor) (sym leads.ends) used_in_end
 
   whole_run : IsWhole (config_of heap) called_scripts leads.events
@@ -182,18 +182,18 @@ module _ (heap : Heap) (count w : ℕ) (all : Part) (crew : ArrayVec Use) (some 
     ended : next_of (use_after (queue_user count t) (of_thread history (t + 1))) ≡ None
     there : slice_get crew.items t ≡ Some (use_after (queue_user count t) (of_thread history (t + 1)))
 
-  played_out : (t : ℕ) → t < 4 → IsPlayedOut t
-  played_out t below =
-      let within : t < (config_of heap).mutators = omega (arith, below, sizes.mutators) in
-      let call = called t within in
-      let its = used_in t call.actor within call.here in
-      let calls : of_thread history (t + 1) ≡ call.actor.calls = ends.entries_called (config_of heap) called_scripts leads.events t call in
-      let begun : its.begun ≡ queue_user count t = same_user its.begun (queue_user count t) (sym its.begun_is ∙ user_at count t below) in
-      let last : its.ended ≡ use_after (queue_user count t) (of_thread history (t + 1)) =
-      its.driven.state ∙ as_after its.begun call.actor.calls ∙ ap (λ u. use_after u call.actor.calls) begun ∙ ap (use_after (queue_user count t)) (sym calls) in
-      let back : t - 0 ≡ t = omega arith in
+  played_out : (index : ℕ) → index < 4 → IsPlayedOut index
+  played_out index below =
+      let within : index < (config_of heap).mutators = omega (arith, below, sizes.mutators) in
+      let call = called index within in
+      let its = used_in index call.actor within call.here in
+      let calls : of_thread history (index + 1) ≡ call.actor.calls = ends.entries_called (config_of heap) called_scripts leads.events index call in
+      let begun : its.begun ≡ queue_user count index = same_user its.begun (queue_user count index) (sym its.begun_is ∙ user_at count index below) in
+      let last : its.ended ≡ use_after (queue_user count index) (of_thread history (index + 1)) =
+      its.driven.state ∙ as_after its.begun call.actor.calls ∙ ap (λ u. use_after u call.actor.calls) begun ∙ ap (use_after (queue_user count index)) (sym calls) in
+      let back : index - 0 ≡ index = omega arith in
       record {
-        driven = subst (λ es. IsDriven (queue_user count t) es) (sym calls) (subst (λ u. IsDriven u call.actor.calls) begun (as_driven its.begun call.actor.calls its.driven.driven));
+        driven = subst (λ es. IsDriven (queue_user count index) es) (sym calls) (subst (λ u. IsDriven u call.actor.calls) begun (as_driven its.begun call.actor.calls its.driven.driven));
         ended = subst (λ u. next_of u ≡ None) last its.driven.ended;
         there = ap (slice_get crew.items) (sym back) ∙ its.ended_is ∙ ap Some last;
       }
@@ -203,8 +203,8 @@ module _ (heap : Heap) (count w : ℕ) (all : Part) (crew : ArrayVec Use) (some 
     scripts = called_scripts;
     threads = many ∙ sizes.mutators;
     follows = whole_run.follows;
-    legal = subst (λ (n : ℕ). IsLegalHistory 16 n called_scripts history) sizes.region_words
-        (subst (λ (n : ℕ). IsLegalHistory n (config_of heap).region_words called_scripts history) sizes.regions whole_run.legal);
+    legal = subst (λ (region_words : ℕ). IsLegalHistory 16 region_words called_scripts history) sizes.region_words
+        (subst (λ (regions : ℕ). IsLegalHistory regions (config_of heap).region_words called_scripts history) sizes.regions whole_run.legal);
     driven = λ t below. (played_out t below).driven;
     ended = λ t below. (played_out t below).ended;
   }
@@ -236,5 +236,5 @@ module _ (heap : Heap) (count w : ℕ) (all : Part) (crew : ArrayVec Use) (some 
     run = queue_run;
     whole = whole_run;
     tells = queue_tells small;
-    text = ap (λ n. line_text (line.Queue count n sum)) items_are ∙ ap (λ n. line_text (line.Queue count ((got_in count history 2).items + (got_in count history 3).items) n)) sum_is;
+    text = ap (λ items. line_text (line.Queue count items sum)) items_are ∙ ap (λ sum. line_text (line.Queue count ((got_in count history 2).items + (got_in count history 3).items) sum)) sum_is;
   }

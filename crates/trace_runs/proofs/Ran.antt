@@ -35,8 +35,8 @@ can_run plain config scripts jobs same shows orders count served opened =
 has_run : (plain other_plain : Plain) (config : Config) (scripts : Scripts) (items : List Item) (limit : ℕ) (jobs later : Jobs) (result : Ran) → config_of plain ≡ config → Shows plain (opening config) → length scripts ≡ config.mutators → jobs ≡ work.opened scripts
     → RunsSchedule plain jobs items limit other_plain later result → HasRun config scripts (opening config) (agenda_of items) limit other_plain later result
 has_run plain other_plain config scripts items limit jobs later result same shows count opened runs =
-    subst (λ (d : Config). HasRun d scripts (opening config) (agenda_of items) limit other_plain later result) same
-    (runs scripts (opening config) shows (subst (λ (d : Config). Tells d scripts jobs (opening config)) (sym same) (subst (λ (js : Jobs). Tells config scripts js (opening config)) (sym opened) (tells_first config scripts (sym count) (omega (arith, count))))))
+    subst (λ (other_config : Config). HasRun other_config scripts (opening config) (agenda_of items) limit other_plain later result) same
+    (runs scripts (opening config) shows (subst (λ (other_config : Config). Tells other_config scripts jobs (opening config)) (sym same) (subst (λ (js : Jobs). Tells config scripts js (opening config)) (sym opened) (tells_first config scripts (sym count) (omega (arith, count))))))
 
 pub finished : (plain other_plain : Plain) (config : Config) (scripts : Scripts) (items : List Item) (limit : ℕ) (jobs later : Jobs) → config_of plain ≡ config → Shows plain (opening config) → length scripts ≡ config.mutators → jobs ≡ work.opened scripts
     → RunsSchedule plain jobs items limit other_plain later Finished → config_of other_plain ≡ config_of plain → CanRun other_plain later → HasFinished config scripts items limit later other_plain
@@ -51,11 +51,11 @@ finished plain other_plain config scripts items limit jobs later same shows coun
       jobs_are = λ t below. can.jobs_are t (subst (λ (config : Config). t < config.mutators) (sym (kept ∙ same)) below);
     }
 
-pub unfinished : (plain other_plain : Plain) (bytes : List ℕ) (v : ℕ) (config : Config) (scripts : Scripts) (items : List Item) (limit : ℕ) (jobs later : Jobs) → config_of plain ≡ config → Shows plain (opening config) → length scripts ≡ config.mutators → jobs ≡ work.opened scripts
-    → RunsSchedule plain jobs items limit other_plain later Unfinished → Reads bytes v config scripts items → IsUnfinished bytes limit
-unfinished plain other_plain bytes v config scripts items limit jobs later same shows count opened runs reads =
+pub unfinished : (plain other_plain : Plain) (bytes : List ℕ) (version : ℕ) (config : Config) (scripts : Scripts) (items : List Item) (limit : ℕ) (jobs later : Jobs) → config_of plain ≡ config → Shows plain (opening config) → length scripts ≡ config.mutators → jobs ≡ work.opened scripts
+    → RunsSchedule plain jobs items limit other_plain later Unfinished → Reads bytes version config scripts items → IsUnfinished bytes limit
+unfinished plain other_plain bytes version config scripts items limit jobs later same shows count opened runs reads =
     let ran = has_run plain other_plain config scripts items limit jobs later Unfinished same shows count opened runs in
-    record { version = v; config = config; scripts = scripts; items = items; reads = reads; cut = record { busy = ran.ended.0; count = ran.ended.1 } }
+    record { version = version; config = config; scripts = scripts; items = items; reads = reads; cut = record { busy = ran.ended.0; count = ran.ended.1 } }
 
 -- ---- a run that is noted
 
@@ -89,7 +89,7 @@ opening_ends config = (opening_run config [], refl)
 pub noted_history : (plain : Plain) (config : Config) (scripts : Scripts) (items : List Item) (limit : ℕ) (jobs : Jobs) (old new : Noting) → config_of plain ≡ config → Shows plain (opening config) → length scripts ≡ config.mutators → jobs ≡ work.opened scripts
     → old.list ≡ [] → NotesSchedule plain jobs items limit old new → new.list ≡ history_of config scripts items limit
 noted_history plain config scripts items limit jobs old new same shows count opened none notes =
-    let is : IsHistory config scripts (opening config) items limit old new = subst (λ (d : Config). IsHistory d scripts (opening config) items limit old new) same
-    (notes scripts (opening config) shows (subst (λ (d : Config). Tells d scripts jobs (opening config)) (sym same) (subst (λ (js : Jobs). Tells config scripts js (opening config)) (sym opened) (tells_first config scripts (sym count) (omega (arith, count)))))
-    (subst (λ (d : Config). IsEnding d (opening config)) (sym same) (opening_ends config))) in
+    let is : IsHistory config scripts (opening config) items limit old new = subst (λ (other_config : Config). IsHistory other_config scripts (opening config) items limit old new) same
+    (notes scripts (opening config) shows (subst (λ (other_config : Config). Tells other_config scripts jobs (opening config)) (sym same) (subst (λ (js : Jobs). Tells config scripts js (opening config)) (sym opened) (tells_first config scripts (sym count) (omega (arith, count)))))
+    (subst (λ (other_config : Config). IsEnding other_config (opening config)) (sym same) (opening_ends config))) in
     is.entries ∙ ap (λ es. es ++ history_of config scripts items limit) none

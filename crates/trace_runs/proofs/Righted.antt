@@ -15,23 +15,23 @@ use Rattle.trace_runs.specs.Replayed.{history_of, IsReplayedNoted}
 use Rattle.trace_runs.specs.Checked.{IsChecked}
 
 pub noted_is_right : (bytes : List ℕ) (limit : ℕ) (out : List ℕ) → IsReplayedNoted bytes limit out → length (bytes ++ (codes "answer\n" ++ out)) ≤ most_bytes → IsChecked (bytes ++ (codes "answer\n" ++ out)) (line_text line.Yes)
-noted_is_right bytes limit out r short =
-    let c = r.config in
-    let entries = history_of c r.scripts r.items limit in
-    let count : length r.scripts ≡ c.mutators = ap length r.reads.by_thread ∙ length-map-range_with_len (commands_in r.reads.lines) 1 c.mutators in
-    let each : EachIsLegal c.regions c.region_words (opening c.mutators) entries = subst (λ (n : ℕ). EachIsLegal c.regions c.region_words (opening n) entries) count r.whole.legal.each in
-    let behind : codes "answer\n" ++ out ≡ codes "answer\n" ++ (r.answer ++ history_text entries) = ap (λ (t : List ℕ). codes "answer\n" ++ t) r.out_is in
-    let pair : IsPair (bytes ++ (codes "answer\n" ++ (r.answer ++ history_text entries))) r.version c r.scripts r.items r.answer entries =
-    made_pair bytes r.answer r.version c r.scripts r.items entries r.reads each r.whole.follows r.text (subst (λ (t : List ℕ). length (bytes ++ t) ≤ most_bytes) behind short) in
+noted_is_right bytes limit out replayed_noted short =
+    let config = replayed_noted.config in
+    let entries = history_of config replayed_noted.scripts replayed_noted.items limit in
+    let count : length replayed_noted.scripts ≡ config.mutators = ap length replayed_noted.reads.by_thread ∙ length-map-range_with_len (commands_in replayed_noted.reads.lines) 1 config.mutators in
+    let each : EachIsLegal config.regions config.region_words (opening config.mutators) entries = subst (λ (n : ℕ). EachIsLegal config.regions config.region_words (opening n) entries) count replayed_noted.whole.legal.each in
+    let behind : codes "answer\n" ++ out ≡ codes "answer\n" ++ (replayed_noted.answer ++ history_text entries) = ap (λ (t : List ℕ). codes "answer\n" ++ t) replayed_noted.out_is in
+    let pair : IsPair (bytes ++ (codes "answer\n" ++ (replayed_noted.answer ++ history_text entries))) replayed_noted.version config replayed_noted.scripts replayed_noted.items replayed_noted.answer entries =
+    made_pair bytes replayed_noted.answer replayed_noted.version config replayed_noted.scripts replayed_noted.items entries replayed_noted.reads each replayed_noted.whole.follows replayed_noted.text (subst (λ (t : List ℕ). length (bytes ++ t) ≤ most_bytes) behind short) in
     record {
-      version = r.version;
-      config = c;
-      scripts = r.scripts;
-      items = r.items;
-      body = r.answer;
+      version = replayed_noted.version;
+      config = config;
+      scripts = replayed_noted.scripts;
+      items = replayed_noted.items;
+      body = replayed_noted.answer;
       entries = entries;
-      pair = subst (λ (t : List ℕ). IsPair (bytes ++ t) r.version c r.scripts r.items r.answer entries) (sym behind) pair;
+      pair = subst (λ (t : List ℕ). IsPair (bytes ++ t) replayed_noted.version config replayed_noted.scripts replayed_noted.items replayed_noted.answer entries) (sym behind) pair;
       verdict = Yes;
-      is = record { legal = r.whole.legal; follows = r.whole.follows; text = subst (λ (n : ℕ). IsAnswerText r.version n entries r.answer) (sym count) r.text };
+      is = record { legal = replayed_noted.whole.legal; follows = replayed_noted.whole.follows; text = subst (λ (threads : ℕ). IsAnswerText replayed_noted.version threads entries replayed_noted.answer) (sym count) replayed_noted.text };
       text = refl;
     }

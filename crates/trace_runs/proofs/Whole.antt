@@ -9,6 +9,7 @@ use Rattle.std.proofs.lemmas.List.{append-nil, ext_get_or, get_or_past}
 use Rattle.std.proofs.lemmas.List.Elements.{All-head, All-tail}
 use Rattle.std.proofs.lemmas.List.FromFn.{get_or-map-range_with_len}
 use Rattle.std.proofs.lemmas.Option.{slice_get-map, slice_get-get_or, get_or_from_slice_get}
+use Rattle.shen_graph.proofs.Options.{none_before_map}
 use Rattle.heap_words.specs.declared.config.Config.{Config}
 use Rattle.heap_words.specs.declared.schedule.Item.{Item}
 use Rattle.heap_words.specs.Ranges.{seat_count}
@@ -65,10 +66,10 @@ entries_called config scripts events t called = entries_at_rest config (opening_
 -- a thread that is none has no entry
 none_of : (threads : ℕ) (entries : List Entry) (thread : ℕ) → All (IsSettled threads) entries → (thread ≡ 0) ⊎ (threads < thread) → of_thread entries thread ≡ []
 none_of threads [] thread all out = refl
-none_of threads (e ∷ entries) thread all out = rw (other e.thread (All-head (IsSettled threads) e entries all).least (All-head (IsSettled threads) e entries all).most out) (none_of threads entries thread (All-tail (IsSettled threads) e entries all) out)
+none_of threads (entry ∷ entries) thread all out = rw (other entry.thread (All-head (IsSettled threads) entry entries all).least (All-head (IsSettled threads) entry entries all).most out) (none_of threads entries thread (All-tail (IsSettled threads) entry entries all) out)
   where
     other : (n : ℕ) → 1 ≤ n → n ≤ threads → (thread ≡ 0) ⊎ (threads < thread) → eqb n thread ≡ false
-    other n least most (inl e) = grind (arith, nat_tests)
+    other n least most (inl entry) = grind (arith, nat_tests)
     other n least most (inr lt) = grind (arith, nat_tests)
 
 -- ---- the whole history
@@ -132,21 +133,17 @@ gone_stores_none _ image idle = refl
 
 -- a machine that is idle stores no image
 idle_stores_none : (script : List Command) (calls : List Entry) (machine : Machine) → order_by script calls machine ≡ None → image_read machine ≡ None
-idle_stores_none script calls (controlling k) idle = gone_stores_none k.spot k.image idle
+idle_stores_none script calls (controlling control) idle = gone_stores_none control.spot control.image idle
 idle_stores_none script calls _ idle = refl
-
-nothing_of : {A B : Type 0} (f : A → B) (found : Option A) → option_map f found ≡ None → found ≡ None
-nothing_of f None h = refl
-nothing_of f (Some x) h = absurd cc
 
 -- in the end no image is stored
 none_stored : (config : Config) (scripts : Scripts) (stage : Stage Actor) (plain : Plain) → length stage.machines ≡ seat_count config.mutators config.helpers → AreIdle config scripts stage → Shows plain stage → image_read (machine_at plain (control_number config)) ≡ None
 none_stored config scripts stage plain seats idle shows =
-    let a : Actor = get_or stage.machines (control_number config) other in
-    let here : slice_get stage.machines (control_number config) ≡ Some a = slice_get-get_or stage.machines (control_number config) other (omega (arith, seats)) in
+    let actor : Actor = get_or stage.machines (control_number config) other in
+    let here : slice_get stage.machines (control_number config) ≡ Some actor = slice_get-get_or stage.machines (control_number config) other (omega (arith, seats)) in
     let no_turn = ap (turn_of scripts (control_number config)) (sym here) ∙ idle (control_number config) (omega arith) in
-    ap image_read (machine_shown plain stage (control_number config) a shows here)
-    ∙ idle_stores_none (nth_script scripts (control_number config)) a.calls a.machine (nothing_of _ (order_by (nth_script scripts (control_number config)) a.calls a.machine) no_turn)
+    ap image_read (machine_shown plain stage (control_number config) actor shows here)
+    ∙ idle_stores_none (nth_script scripts (control_number config)) actor.calls actor.machine (none_before_map _ (order_by (nth_script scripts (control_number config)) actor.calls actor.machine) no_turn)
   where
     other : Actor
     other = record { machine = no_machine; command = Gc; calls = [] }
@@ -173,60 +170,60 @@ replies_shown config scripts items limit jobs plain done thread low high =
 -- ---- the text
 
 root_shown : (text : Text) (graph : Graph) (thread other_thread index : ℕ) → 1 ≤ other_thread → other_thread ≤ thread → index < 16 → text.roots ≡ root_rows graph.root thread → root_of text other_thread index ≡ graph.root other_thread index
-root_shown text graph thread other_thread index low high lt e =
+root_shown text graph thread other_thread index low high lt same =
     let none : List Reference = [] in
-    ap (λ (rows : List (List Reference)). get_or (get_or rows (other_thread - 1) none) index None) e
-    ∙ ap (λ (row : List Reference). get_or row index None) (get_or-map-range_with_len (λ k. map (graph.root k) (range_with_len 0 16)) 1 thread (other_thread - 1) other_thread none (omega arith) (omega arith))
+    ap (λ (rows : List (List Reference)). get_or (get_or rows (other_thread - 1) none) index None) same
+    ∙ ap (λ (row : List Reference). get_or row index None) (get_or-map-range_with_len (λ thread. map (graph.root thread) (range_with_len 0 16)) 1 thread (other_thread - 1) other_thread none (omega arith) (omega arith))
     ∙ get_or-map-range_with_len (graph.root other_thread) 0 16 index index None lt (omega arith)
 
-pin_shown : (text : Text) (graph : Graph) (n thread index : ℕ) → 1 ≤ thread → thread ≤ n → index < 4 → text.pins ≡ pin_rows (λ u slot. name_in (graph.pin u slot)) n → pin_of text thread index ≡ name_in (graph.pin thread index)
-pin_shown text graph n thread index low high lt e =
+pin_shown : (text : Text) (graph : Graph) (n thread index : ℕ) → 1 ≤ thread → thread ≤ n → index < 4 → text.pins ≡ pin_rows (λ thread slot. name_in (graph.pin thread slot)) n → pin_of text thread index ≡ name_in (graph.pin thread index)
+pin_shown text graph n thread index low high lt same =
     let none : List Reference = [] in
-    ap (λ (rows : List (List Reference)). get_or (get_or rows (thread - 1) none) index None) e
-    ∙ ap (λ (row : List Reference). get_or row index None) (get_or-map-range_with_len (λ k. map (λ slot. name_in (graph.pin k slot)) (range_with_len 0 4)) 1 n (thread - 1) thread none (omega arith) (omega arith))
+    ap (λ (rows : List (List Reference)). get_or (get_or rows (thread - 1) none) index None) same
+    ∙ ap (λ (row : List Reference). get_or row index None) (get_or-map-range_with_len (λ thread. map (λ slot. name_in (graph.pin thread slot)) (range_with_len 0 4)) 1 n (thread - 1) thread none (omega arith) (omega arith))
     ∙ get_or-map-range_with_len (λ slot. name_in (graph.pin thread slot)) 0 4 index index None lt (omega arith)
 
-pub text_shown : (v n : ℕ) (jobs : Jobs) (entries : List Entry) (text : Text) → length text.roots ≡ n → texts.ShowsGraph text n (after (graph_opening n) entries)
-    → ((thread : ℕ) → 1 ≤ thread → thread ≤ n → work.replies_of jobs (thread - 1) ≡ history.replies_of (of_thread entries thread))
-    → answer_text v (length text.roots) (λ thread. work.replies_of jobs (thread - 1)) text.rows (root_of text) (pin_of text)
-    ≡ answer_text v n (λ thread. history.replies_of (of_thread entries thread)) (map (row_in (after (graph_opening n) entries)) (names_of text)) (after (graph_opening n) entries).root (λ thread slot. name_in ((after (graph_opening n) entries).pin thread slot))
-text_shown v n jobs entries text count shows told =
-    let g = after (graph_opening n) entries in
+pub text_shown : (version threads : ℕ) (jobs : Jobs) (entries : List Entry) (text : Text) → length text.roots ≡ threads → texts.ShowsGraph text threads (after (graph_opening threads) entries)
+    → ((thread : ℕ) → 1 ≤ thread → thread ≤ threads → work.replies_of jobs (thread - 1) ≡ history.replies_of (of_thread entries thread))
+    → answer_text version (length text.roots) (λ thread. work.replies_of jobs (thread - 1)) text.rows (root_of text) (pin_of text)
+    ≡ answer_text version threads (λ thread. history.replies_of (of_thread entries thread)) (map (row_in (after (graph_opening threads) entries)) (names_of text)) (after (graph_opening threads) entries).root (λ thread slot. name_in ((after (graph_opening threads) entries).pin thread slot))
+text_shown version threads jobs entries text count shows told =
+    let g = after (graph_opening threads) entries in
     let rows : text.rows ≡ map (row_in g) (names_of text) = shows.rows in
     let pin : ℕ → ℕ → Reference = λ thread slot. name_in (g.pin thread slot) in
-    ap (λ (k : ℕ). answer_text v k (λ thread. work.replies_of jobs (thread - 1)) text.rows (root_of text) (pin_of text)) count
-    ∙ ap (λ (rs : List Row). answer_text v n (λ thread. work.replies_of jobs (thread - 1)) rs (root_of text) (pin_of text)) rows
-    ∙ answer_text_same v n (λ thread. work.replies_of jobs (thread - 1)) (λ thread. history.replies_of (of_thread entries thread)) (map (row_in g) (names_of text)) (root_of text) g.root (pin_of text) pin
+    ap (λ (threads : ℕ). answer_text version threads (λ thread. work.replies_of jobs (thread - 1)) text.rows (root_of text) (pin_of text)) count
+    ∙ ap (λ (rs : List Row). answer_text version threads (λ thread. work.replies_of jobs (thread - 1)) rs (root_of text) (pin_of text)) rows
+    ∙ answer_text_same version threads (λ thread. work.replies_of jobs (thread - 1)) (λ thread. history.replies_of (of_thread entries thread)) (map (row_in g) (names_of text)) (root_of text) g.root (pin_of text) pin
     (λ thread low high. told thread (omega arith) (omega arith))
-    (λ thread i low high lt. root_shown text g n thread i (omega arith) (omega arith) lt shows.roots)
-    (λ thread i low high lt. pin_shown text g n thread i (omega arith) (omega arith) lt shows.pins)
+    (λ thread index low high lt. root_shown text g threads thread index (omega arith) (omega arith) lt shows.roots)
+    (λ thread index low high lt. pin_shown text g threads thread index (omega arith) (omega arith) lt shows.pins)
 
-pub replayed : (bytes : List ℕ) (v : ℕ) (config : Config) (scripts : Scripts) (items : List Item) (limit : ℕ) (jobs : Jobs) (plain : Plain) (text : Text)
-    → Reads bytes v config scripts items → length scripts ≡ config.mutators → HasFinished config scripts items limit jobs plain → length text.roots ≡ config.mutators → texts.ShowsGraph text config.mutators (after (first_graph config) (history_of config scripts items limit))
-    → IsReplayed bytes limit (answer_text v (length text.roots) (λ t. work.replies_of jobs (t - 1)) text.rows (root_of text) (pin_of text))
-replayed bytes v config scripts items limit jobs plain text reads count done roots shows = record {
-  version = v;
+pub replayed : (bytes : List ℕ) (version : ℕ) (config : Config) (scripts : Scripts) (items : List Item) (limit : ℕ) (jobs : Jobs) (plain : Plain) (text : Text)
+    → Reads bytes version config scripts items → length scripts ≡ config.mutators → HasFinished config scripts items limit jobs plain → length text.roots ≡ config.mutators → texts.ShowsGraph text config.mutators (after (first_graph config) (history_of config scripts items limit))
+    → IsReplayed bytes limit (answer_text version (length text.roots) (λ t. work.replies_of jobs (t - 1)) text.rows (root_of text) (pin_of text))
+replayed bytes version config scripts items limit jobs plain text reads count done roots shows = record {
+  version = version;
   config = config;
   scripts = scripts;
   items = items;
   reads = reads;
   whole = whole config scripts (events_of config scripts items limit) count done.idle done.called;
-  text = record { names = names_of text; reach = shows.reach; text = text_shown v config.mutators jobs (history_of config scripts items limit) text roots shows (replies_shown config scripts items limit jobs plain done) };
+  text = record { names = names_of text; reach = shows.reach; text = text_shown version config.mutators jobs (history_of config scripts items limit) text roots shows (replies_shown config scripts items limit jobs plain done) };
 }
 
 -- the same, with the history behind it
-pub replayed_noted : (bytes : List ℕ) (v : ℕ) (config : Config) (scripts : Scripts) (items : List Item) (limit : ℕ) (jobs : Jobs) (plain : Plain) (text : Text) (noted : List Entry)
-    → Reads bytes v config scripts items → length scripts ≡ config.mutators → HasFinished config scripts items limit jobs plain → length text.roots ≡ config.mutators → texts.ShowsGraph text config.mutators (after (first_graph config) (history_of config scripts items limit))
-    → noted ≡ history_of config scripts items limit → IsReplayedNoted bytes limit (answer_text v (length text.roots) (λ t. work.replies_of jobs (t - 1)) text.rows (root_of text) (pin_of text) ++ history_text noted)
+pub replayed_noted : (bytes : List ℕ) (version : ℕ) (config : Config) (scripts : Scripts) (items : List Item) (limit : ℕ) (jobs : Jobs) (plain : Plain) (text : Text) (noted : List Entry)
+    → Reads bytes version config scripts items → length scripts ≡ config.mutators → HasFinished config scripts items limit jobs plain → length text.roots ≡ config.mutators → texts.ShowsGraph text config.mutators (after (first_graph config) (history_of config scripts items limit))
+    → noted ≡ history_of config scripts items limit → IsReplayedNoted bytes limit (answer_text version (length text.roots) (λ t. work.replies_of jobs (t - 1)) text.rows (root_of text) (pin_of text) ++ history_text noted)
 unfolding replayed
-replayed_noted bytes v config scripts items limit jobs plain text noted reads count done roots shows are = record {
-  version = v;
+replayed_noted bytes version config scripts items limit jobs plain text noted reads count done roots shows are = record {
+  version = version;
   config = config;
   scripts = scripts;
   items = items;
   reads = reads;
   whole = whole config scripts (events_of config scripts items limit) count done.idle done.called;
-  answer = answer_text v (length text.roots) (λ t. work.replies_of jobs (t - 1)) text.rows (root_of text) (pin_of text);
-  text = (replayed bytes v config scripts items limit jobs plain text reads count done roots shows).text;
-  out_is = ap (λ h. answer_text v (length text.roots) (λ t. work.replies_of jobs (t - 1)) text.rows (root_of text) (pin_of text) ++ history_text h) are;
+  answer = answer_text version (length text.roots) (λ t. work.replies_of jobs (t - 1)) text.rows (root_of text) (pin_of text);
+  text = (replayed bytes version config scripts items limit jobs plain text reads count done roots shows).text;
+  out_is = ap (λ h. answer_text version (length text.roots) (λ t. work.replies_of jobs (t - 1)) text.rows (root_of text) (pin_of text) ++ history_text h) are;
 }

@@ -11,34 +11,31 @@ use Rattle.trace_runs.specs.declared.mode.Mode.{Mode}
 use Rattle.trace_runs.specs.declared.mode.Mode.TheVariants.{Replay, Noted, Dump, Resume, Run, Churn, Queue, Check}
 use Rattle.trace_runs.specs.Words.{most_seed, most_rounds, most_numbers, most_steps, usual_steps, most_machines, IsNumbered, IsReplay, IsReplayThen, IsRunBy, IsChurn, IsQueue, IsCheck, IsResume, Asks, Ask}
 use Rattle.trace_runs.specs.Readings.{Reading, ReadNothing, ReadTrace, ReadPair, ReadDump, reading_of, HasInput, ReadsInput, ReadsNothing}
-use Rattle.std.proofs.lemmas.Bool.Decides.{nat_tests}
+use Rattle.shen_graph.proofs.Numbers.{eqb_itself}
 
 same_from_test : (xs ys : List ℕ) → pointwise eqb xs ys ≡ true → xs ≡ ys
-same_from_test [] [] e = refl
-same_from_test [] (y ∷ ys) e = absurd cc
-same_from_test (x ∷ xs) [] e = absurd cc
-same_from_test (x ∷ xs) (y ∷ ys) e = by_head (eqb x y) refl (same_from_test xs ys) e
+same_from_test [] [] same = refl
+same_from_test [] (y ∷ ys) same = absurd cc
+same_from_test (x ∷ xs) [] same = absurd cc
+same_from_test (x ∷ xs) (y ∷ ys) same = by_head (eqb x y) refl (same_from_test xs ys) same
   where
     by_head : (holds : Bool) → eqb x y ≡ holds → (pointwise eqb xs ys ≡ true → xs ≡ ys) → (holds && pointwise eqb xs ys) ≡ true → x ∷ xs ≡ y ∷ ys
     by_head true h rest t = rw (eqb-true x y h) (ap (λ (zs : List ℕ). y ∷ zs) (rest t))
     by_head false h rest t = absurd cc
 
-same_number : (n : ℕ) → eqb n n ≡ true
-same_number n = grind (arith, nat_tests)
-
 test_itself : (xs : List ℕ) → pointwise eqb xs xs ≡ true
 test_itself [] = refl
-test_itself (x ∷ xs) = rw (same_number x) (test_itself xs)
+test_itself (x ∷ xs) = rw (eqb_itself x) (test_itself xs)
 
 -- a list of one, and what its one element is
 pub one_word : {X : Type 0} (f : X → List ℕ) (words : List X) (w : X) (text : List ℕ) (holds : Bool) → 1 ≤ length words → length words < 2 → w ≡ get_or words 0 w → holds ≡ pointwise eqb (f w) text
     → (holds ≡ true → map f words ≡ text ∷ []) × (map f words ≡ text ∷ [] → holds ≡ true)
-one_word f [] w text holds some few is e = absurd (omega arith)
-one_word f (x ∷ []) w text holds some few is e = (
+one_word f [] w text holds positive below is same = absurd (omega arith)
+one_word f (x ∷ []) w text holds positive below is e = (
   (λ h. ap (λ (t : List ℕ). t ∷ []) (sym (ap f is) ∙ same_from_test (f w) text (sym e ∙ h))),
   (λ h. let same : f w ≡ text = ap f is ∙ cc in e ∙ ap (λ (t : List ℕ). pointwise eqb t text) same ∙ test_itself text),
 )
-one_word f (x ∷ y ∷ words) w text holds some few is e = absurd (omega arith)
+one_word f (x ∷ y ∷ words) w text holds positive below is same = absurd (omega arith)
 
 -- what a test says of that which it tests
 pub decided : (holds : Bool) (P : Type 0) → (holds ≡ true → P) × (P → holds ≡ true) → MatchBool holds P (P → ⊥)
@@ -48,35 +45,35 @@ decided false P both = λ p. false≢true (both.1 p)
 -- a list of three, of which the first is known
 pub word_and_two : {X : Type 0} (f : X → List ℕ) (words : List X) (a b c : X) (first : List ℕ) → 3 ≤ length words → length words < 4 → a ≡ get_or words 0 a → b ≡ get_or words 1 b → c ≡ get_or words 2 c
     → true ≡ pointwise eqb (f a) first → map f words ≡ first ∷ f b ∷ f c ∷ []
-word_and_two f [] a b c first some few at_a at_b at_c e = absurd (omega arith)
-word_and_two f (x ∷ []) a b c first some few at_a at_b at_c e = absurd (omega arith)
-word_and_two f (x ∷ y ∷ []) a b c first some few at_a at_b at_c e = absurd (omega arith)
-word_and_two f (x ∷ y ∷ z ∷ []) a b c first some few at_a at_b at_c e =
-    ap (λ (t : List ℕ). t ∷ f y ∷ f z ∷ []) (sym (ap f at_a) ∙ same_from_test (f a) first (sym e))
+word_and_two f [] a b c first at_most below at_a at_b at_c same = absurd (omega arith)
+word_and_two f (x ∷ []) a b c first at_most below at_a at_b at_c same = absurd (omega arith)
+word_and_two f (x ∷ y ∷ []) a b c first at_most below at_a at_b at_c same = absurd (omega arith)
+word_and_two f (x ∷ y ∷ z ∷ []) a b c first at_most below at_a at_b at_c same =
+    ap (λ (t : List ℕ). t ∷ f y ∷ f z ∷ []) (sym (ap f at_a) ∙ same_from_test (f a) first (sym same))
     ∙ ap (λ (t : List ℕ). first ∷ t ∷ f z ∷ []) (sym (ap f at_b))
     ∙ ap (λ (t : List ℕ). first ∷ f b ∷ t ∷ []) (sym (ap f at_c))
-word_and_two f (x ∷ y ∷ z ∷ w ∷ words) a b c first some few at_a at_b at_c e = absurd (omega arith)
+word_and_two f (x ∷ y ∷ z ∷ w ∷ words) a b c first at_most below at_a at_b at_c same = absurd (omega arith)
 
 -- a list of two, of which the first is known
 pub word_and_one : {X : Type 0} (f : X → List ℕ) (words : List X) (a b : X) (first : List ℕ) → 2 ≤ length words → length words < 3 → a ≡ get_or words 0 a → b ≡ get_or words 1 b → true ≡ pointwise eqb (f a) first
     → map f words ≡ first ∷ f b ∷ []
-word_and_one f [] a b first some few at_a at_b e = absurd (omega arith)
-word_and_one f (x ∷ []) a b first some few at_a at_b e = absurd (omega arith)
-word_and_one f (x ∷ y ∷ []) a b first some few at_a at_b e =
-    ap (λ (t : List ℕ). t ∷ f y ∷ []) (sym (ap f at_a) ∙ same_from_test (f a) first (sym e)) ∙ ap (λ (t : List ℕ). first ∷ t ∷ []) (sym (ap f at_b))
-word_and_one f (x ∷ y ∷ z ∷ words) a b first some few at_a at_b e = absurd (omega arith)
+word_and_one f [] a b first at_most below at_a at_b same = absurd (omega arith)
+word_and_one f (x ∷ []) a b first at_most below at_a at_b same = absurd (omega arith)
+word_and_one f (x ∷ y ∷ []) a b first at_most below at_a at_b same =
+    ap (λ (t : List ℕ). t ∷ f y ∷ []) (sym (ap f at_a) ∙ same_from_test (f a) first (sym same)) ∙ ap (λ (t : List ℕ). first ∷ t ∷ []) (sym (ap f at_b))
+word_and_one f (x ∷ y ∷ z ∷ words) a b first at_most below at_a at_b same = absurd (omega arith)
 
 -- a list of three, of which the first two are known
 pub three_words : {X : Type 0} (f : X → List ℕ) (words : List X) (a b c : X) (first second : List ℕ) → 3 ≤ length words → length words < 4 → a ≡ get_or words 0 a → b ≡ get_or words 1 b → c ≡ get_or words 2 c
     → true ≡ pointwise eqb (f a) first → true ≡ pointwise eqb (f b) second → map f words ≡ first ∷ second ∷ f c ∷ []
-three_words f [] a b c first second some few at_a at_b at_c e h = absurd (omega arith)
-three_words f (x ∷ []) a b c first second some few at_a at_b at_c e h = absurd (omega arith)
-three_words f (x ∷ y ∷ []) a b c first second some few at_a at_b at_c e h = absurd (omega arith)
-three_words f (x ∷ y ∷ z ∷ []) a b c first second some few at_a at_b at_c e h =
-    ap (λ (t : List ℕ). t ∷ f y ∷ f z ∷ []) (sym (ap f at_a) ∙ same_from_test (f a) first (sym e))
+three_words f [] a b c first second at_most below at_a at_b at_c same h = absurd (omega arith)
+three_words f (x ∷ []) a b c first second at_most below at_a at_b at_c same h = absurd (omega arith)
+three_words f (x ∷ y ∷ []) a b c first second at_most below at_a at_b at_c same h = absurd (omega arith)
+three_words f (x ∷ y ∷ z ∷ []) a b c first second at_most below at_a at_b at_c same h =
+    ap (λ (t : List ℕ). t ∷ f y ∷ f z ∷ []) (sym (ap f at_a) ∙ same_from_test (f a) first (sym same))
     ∙ ap (λ (t : List ℕ). first ∷ t ∷ f z ∷ []) (sym (ap f at_b) ∙ same_from_test (f b) second (sym h))
     ∙ ap (λ (t : List ℕ). first ∷ second ∷ t ∷ []) (sym (ap f at_c))
-three_words f (x ∷ y ∷ z ∷ w ∷ words) a b c first second some few at_a at_b at_c e h = absurd (omega arith)
+three_words f (x ∷ y ∷ z ∷ w ∷ words) a b c first second at_most below at_a at_b at_c same h = absurd (omega arith)
 
 -- what the third word says
 pub number_named : (command option : List ℕ) (usual most : ℕ) (words : List (List ℕ)) (number : List ℕ) (found : Option ℕ) → words ≡ command ∷ option ∷ number ∷ []
@@ -95,7 +92,7 @@ number_named command option usual most words number None are none = λ asked. by
 -- a seed is 0, or a number from 1 on
 
 pub zero_named : (word : List ℕ) → true ≡ pointwise eqb word (codes "0") → (0 ≤ most_seed) × (word ≡ decimal 0)
-zero_named word e = (omega arith, same_from_test word (codes "0") (sym e) ∙ sym (decimal_digit 0 (omega arith)))
+zero_named word same = (omega arith, same_from_test word (codes "0") (sym same) ∙ sym (decimal_digit 0 (omega arith)))
 
 pub seed_named : (word : List ℕ) (found : Option ℕ) → false ≡ pointwise eqb word (codes "0") → MatchOption found ((n : ℕ) → IsUpTo most_seed n → word ≡ decimal n → ⊥) (λ n. IsUpTo most_seed n × (word ≡ decimal n))
     → MatchOption found ((n : ℕ) → n ≤ most_seed → word ≡ decimal n → ⊥) (λ n. (n ≤ most_seed) × (word ≡ decimal n))
@@ -178,8 +175,8 @@ one_first a b [] begins other = absurd begins
 one_first a b (word ∷ words) begins other = sym begins ∙ other
 
 -- modes that words ask for are of one command
-pub one_name : (words : List (List ℕ)) (a b : Mode) → Asks words a → Asks words b → name_of a ≡ name_of b
-one_name words a b asked also = one_first (name_of a) (name_of b) words (begins_with_name words a asked) (begins_with_name words b also)
+pub one_name : (words : List (List ℕ)) (mode other_mode : Mode) → Asks words mode → Asks words other_mode → name_of mode ≡ name_of other_mode
+one_name words mode other_mode asked also = one_first (name_of mode) (name_of other_mode) words (begins_with_name words mode asked) (begins_with_name words other_mode also)
 
 -- the sum of two letters, by which a command is told
 abbrev letters_of : List ℕ → ℕ
@@ -199,36 +196,36 @@ reading_named (Queue count) = refl
 reading_named Check = refl
 
 -- modes that words ask for read alike
-pub one_reading : (words : List (List ℕ)) (a b : Mode) → Asks words a → Asks words b → reading_of a ≡ reading_of b
-one_reading words a b asked also = reading_named a ∙ ap (λ (word : List ℕ). reading_at (letters_of word)) (one_name words a b asked also) ∙ sym (reading_named b)
+pub one_reading : (words : List (List ℕ)) (mode other_mode : Mode) → Asks words mode → Asks words other_mode → reading_of mode ≡ reading_of other_mode
+one_reading words mode other_mode asked also = reading_named mode ∙ ap (λ (word : List ℕ). reading_at (letters_of word)) (one_name words mode other_mode asked also) ∙ sym (reading_named other_mode)
 
 -- so words ask for what reads something, or for what reads nothing
-pub asks_alike : (words : List (List ℕ)) (a b : Mode) → Asks words a → Asks words b → ReadsInput a → ReadsNothing b → ⊥
-asks_alike words a b asked also reads none = subst HasInput (one_reading words a b asked also ∙ none) reads
+pub asks_alike : (words : List (List ℕ)) (mode b : Mode) → Asks words mode → Asks words b → ReadsInput mode → ReadsNothing b → ⊥
+asks_alike words mode b asked also reads none = subst HasInput (one_reading words mode b asked also ∙ none) reads
 
 -- a list that is not empty begins with its first word
 pub first_word : {X : Type 0} (f : X → List ℕ) (words : List X) (w : X) (text : List ℕ) (holds : Bool) → 1 ≤ length words → w ≡ get_or words 0 w → holds ≡ pointwise eqb (f w) text
     → (holds ≡ true → BeginWith text (map f words)) × (BeginWith text (map f words) → holds ≡ true)
-first_word f [] w text holds some is e = absurd (omega arith)
-first_word f (x ∷ xs) w text holds some is e = (
-  (λ h. sym (ap f is) ∙ same_from_test (f w) text (sym e ∙ h)),
-  (λ begins. e ∙ ap (λ (t : List ℕ). pointwise eqb t text) (ap f is ∙ begins) ∙ test_itself text),
+first_word f [] w text holds positive is same = absurd (omega arith)
+first_word f (x ∷ xs) w text holds positive is same = (
+  (λ h. sym (ap f is) ∙ same_from_test (f w) text (sym same ∙ h)),
+  (λ begins. same ∙ ap (λ (t : List ℕ). pointwise eqb t text) (ap f is ∙ begins) ∙ test_itself text),
 )
 
 -- words of which the second is another one name no number behind an option
 pub other_option : {X : Type 0} (f : X → List ℕ) (command option : List ℕ) (usual most : ℕ) (words : List X) (b : X) (holds : Bool) → 2 ≤ length words → b ≡ get_or words 1 b → holds ≡ pointwise eqb (f b) option → holds ≡ false
     → (n : ℕ) → IsNumbered command option usual most (map f words) n → ⊥
-other_option f command option usual most [] b holds some is e differs n asked = absurd (omega arith)
-other_option f command option usual most (x ∷ []) b holds some is e differs n asked = absurd (omega arith)
-other_option f command option usual most (x ∷ y ∷ words) b holds some is e differs n (inl one) = absurd (omega (arith, ap length one.0))
-other_option f command option usual most (x ∷ y ∷ words) b holds some is e differs n (inr three) =
+other_option f command option usual most [] b holds at_most is same differs n asked = absurd (omega arith)
+other_option f command option usual most (x ∷ []) b holds at_most is same differs n asked = absurd (omega arith)
+other_option f command option usual most (x ∷ y ∷ words) b holds at_most is same differs n (inl one) = absurd (omega (arith, ap length one.0))
+other_option f command option usual most (x ∷ y ∷ words) b holds at_most is same differs n (inr three) =
     let second : f y ≡ option = ap (λ (ws : List (List ℕ)). get_or ws 1 []) three.0 in
-    false≢true (sym differs ∙ e ∙ ap (λ (t : List ℕ). pointwise eqb t option) (ap f is ∙ second) ∙ test_itself option)
+    false≢true (sym differs ∙ same ∙ ap (λ (t : List ℕ). pointwise eqb t option) (ap f is ∙ second) ∙ test_itself option)
 
 -- no words have no first word
 pub none_begins : {X : Type 0} (f : X → List ℕ) (words : List X) (text : List ℕ) → length words < 1 → BeginWith text (map f words) → ⊥
-none_begins f [] text few begins = begins
-none_begins f (x ∷ xs) text few begins = absurd (omega arith)
+none_begins f [] text below begins = begins
+none_begins f (x ∷ xs) text below begins = absurd (omega arith)
 
 -- ---- the last word
 
@@ -258,22 +255,22 @@ last_of f (x ∷ y ∷ words) w (a ∷ front) text (suc index) long is same =
 -- what is asked for where this is the last word: a replay by the words before it
 pub then_by_front : {X : Type 0} (f : X → List ℕ) (words front : List X) (w : X) (text : List ℕ) (index : ℕ) (found : Option ℕ) → length words ≡ suc index → w ≡ get_or words index w → front ≡ take index words
     → true ≡ pointwise eqb (f w) text → MatchOption found (((steps : ℕ) × IsReplay (map f front) steps) → ⊥) (IsReplay (map f front)) → MatchOption found (((steps : ℕ) × IsReplayThen text (map f words) steps) → ⊥) (IsReplayThen text (map f words))
-then_by_front f words front w text index (Some steps) long is are e asked =
-    (map f front, last_added f words w text index long is (same_from_test (f w) text (sym e)) ∙ ap (λ ws. map f ws ++ text ∷ []) (sym are), asked)
-then_by_front f words front w text index None long is are e none = λ asked.
+then_by_front f words front w text index (Some steps) long is are same asked =
+    (map f front, last_added f words w text index long is (same_from_test (f w) text (sym same)) ∙ ap (λ ws. map f ws ++ text ∷ []) (sym are), asked)
+then_by_front f words front w text index None long is are same none = λ asked.
     let parts = last_of f words w asked.1.0 text index long is asked.1.1 in
     none (asked.0, subst (λ (ws : List (List ℕ)). IsReplay ws asked.0) (sym parts.1 ∙ ap (λ ws. map f ws) (sym are)) asked.1.2)
 
 -- nothing is asked for by that last word where the last one differs
 pub then_other : {X : Type 0} (f : X → List ℕ) (words : List X) (w : X) (text : List ℕ) (index : ℕ) (holds : Bool) → length words ≡ suc index → w ≡ get_or words index w → holds ≡ pointwise eqb (f w) text → holds ≡ false
     → (steps : ℕ) → IsReplayThen text (map f words) steps → ⊥
-then_other f words w text index holds long is e differs steps asked =
+then_other f words w text index holds long is same differs steps asked =
     let parts = last_of f words w asked.0 text index long is asked.1 in
-    false≢true (sym differs ∙ e ∙ ap (λ (t : List ℕ). pointwise eqb t text) parts.0 ∙ test_itself text)
+    false≢true (sym differs ∙ same ∙ ap (λ (t : List ℕ). pointwise eqb t text) parts.0 ∙ test_itself text)
 
 -- words that ask for none of the modes ask for nothing
-pub none_asked : (words : List (List ℕ)) → ((n : ℕ) × IsReplay words n → ⊥) → ((n : ℕ) × IsReplayThen (codes "--history") words n → ⊥) → ((n : ℕ) × IsReplayThen (codes "--dump") words n → ⊥) → ((n : ℕ) × IsResume words n → ⊥)
-    → ((n : ℕ) × IsRunBy words n → ⊥) → ((seed : ℕ) × ((count : ℕ) × IsChurn words seed count) → ⊥) → ((count : ℕ) × IsQueue words count → ⊥) → (IsCheck words → ⊥) → Ask words → ⊥
+pub none_asked : (words : List (List ℕ)) → ((steps : ℕ) × IsReplay words steps → ⊥) → ((steps : ℕ) × IsReplayThen (codes "--history") words steps → ⊥) → ((n : ℕ) × IsReplayThen (codes "--dump") words n → ⊥) → ((n : ℕ) × IsResume words n → ⊥)
+    → ((steps : ℕ) × IsRunBy words steps → ⊥) → ((seed : ℕ) × ((count : ℕ) × IsChurn words seed count) → ⊥) → ((count : ℕ) × IsQueue words count → ⊥) → (IsCheck words → ⊥) → Ask words → ⊥
 none_asked words replay noted dump resume run churn queue check asked = by_mode asked.0 asked.1
   where
     by_mode : (mode : Mode) → Asks words mode → ⊥

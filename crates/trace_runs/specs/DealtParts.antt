@@ -108,7 +108,7 @@ pub record HasUsed (firsts crew : List Use) (first number : ℕ) (actor : Actor)
 -- and after they have ended
 abbrev pub LoadIsDone : Config → Assigned → (workers first beyond : ℕ) → View Actor → Load → Type 0
 LoadIsDone config (scripts all) workers first beyond view (Scripted jobs) =
-    HasScripts config all workers first beyond jobs × EachMutator view (λ number a. HasDone (nth_script all number) (work.replies_of jobs number) a)
+    HasScripts config all workers first beyond jobs × EachMutator view (λ number actor. HasDone (nth_script all number) (work.replies_of jobs number) actor)
 LoadIsDone config (users firsts) workers first beyond view (Driven crew) =
     IsCrewed config firsts workers × (length crew.items ≡ length (crew_of firsts first beyond)) × EachMutator view (HasUsed firsts crew.items first)
 LoadIsDone config _ workers first beyond view _ = ⊥

@@ -6,7 +6,7 @@ use Rattle.shen_graph.specs.GraphText.{Text}
 use Rattle.step_core.specs.Schedule.{Scripts}
 use Rattle.graph_placing.specs.ByName.{Fits}
 use Rattle.heap_dump.specs.Dumped.{dumped}
-use Rattle.heap_dump.specs.Resumes.{Resumes}
+use Rattle.heap_dump.specs.DumpsToRun.{Resumes}
 use Rattle.heap_dump.specs.Resumed.{IsResumed, IsCutFrom}
 
 -- The bytes are a dump, the line `trace`, and the lines of these scripts and items.

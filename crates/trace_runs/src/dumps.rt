@@ -6,7 +6,7 @@ ghost use Rattle.trace_reading.specs.Grammar.{Came, Reads};
 ghost use Rattle.trace_text.specs.Answer.{spelled_answer};
 ghost use Rattle.heap_dump.specs.Dumped.{dumped, IsDump};
 ghost use Rattle.heap_dump.specs.DumpText.{dump_text};
-ghost use Rattle.heap_dump.specs.Resumes.{Resumes};
+ghost use Rattle.heap_dump.specs.DumpsToRun.{Resumes};
 ghost use Rattle.trace_runs.specs.Words.{Asks};
 ghost use Rattle.trace_runs.specs.Replayed.{IsReplayedToDump, IsUnfinished};
 ghost use Rattle.trace_runs.specs.CallEnds.{EndsWith};

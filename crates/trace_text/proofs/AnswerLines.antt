@@ -6,6 +6,7 @@ use Rattle.std.specs.List.{flat_map, join_with_byte, range_with_len, AllByRecurs
 use Rattle.std.proofs.lemmas.List.Concat.{flat_map-cons}
 use Rattle.std.proofs.lemmas.Grind.{flat_map-append}
 use Rattle.std.proofs.lemmas.List.Elements.{All-head, All-tail}
+use Rattle.shen_graph.proofs.Lists.{all_append}
 use Rattle.shen_graph.specs.declared.name.Name.{Name}
 use Rattle.shen_graph.specs.declared.command.Reply.{Reply}
 use Rattle.shen_graph.specs.declared.command.Reply.TheVariants.{Ref, Null, Ok, Yes, No, Number, Bad, Full, At}
@@ -36,16 +37,12 @@ pub record AreLines (text : List ℕ) : Type 0 where
 no_lines : AreLines []
 no_lines = record { lines = []; spelled = refl; free = tt; others = tt }
 
-all_both : {X : Type 0} (P : X → Type 0) (xs ys : List X) → AllByRecursion P xs → AllByRecursion P ys → AllByRecursion P (xs ++ ys)
-all_both P [] ys p q = q
-all_both P (x ∷ xs) ys p q = (p.0, all_both P xs ys p.1 q)
-
-lines_both : (a b : List ℕ) → AreLines a → AreLines b → AreLines (a ++ b)
-lines_both a b p q = record {
-  lines = p.lines ++ q.lines;
-  spelled = ap (λ (t : List ℕ). t ++ b) p.spelled ∙ ap (λ (t : List ℕ). with_ends p.lines ++ t) q.spelled ∙ sym (flat_map-append (λ (l : List ℕ). l ++ newline ∷ []) p.lines q.lines);
-  free = all_both (λ line. is_free 10 line ≡ true) p.lines q.lines p.free q.free;
-  others = all_both (λ line. line ≢ codes "history") p.lines q.lines p.others q.others;
+lines_both : (text other_text : List ℕ) → AreLines text → AreLines other_text → AreLines (text ++ other_text)
+lines_both text b lines q = record {
+  lines = lines.lines ++ q.lines;
+  spelled = ap (λ (t : List ℕ). t ++ b) lines.spelled ∙ ap (λ (t : List ℕ). with_ends lines.lines ++ t) q.spelled ∙ sym (flat_map-append (λ (l : List ℕ). l ++ newline ∷ []) lines.lines q.lines);
+  free = all_append (λ line. is_free 10 line ≡ true) lines.lines q.lines lines.free q.free;
+  others = all_append (λ line. line ≢ codes "history") lines.lines q.lines lines.others q.others;
 }
 
 lines_each : {X : Type 0} (f : X → List ℕ) (P : X → Type 0) (xs : List X) → ((x : X) → P x → AreLines (f x)) → AllByRecursion P xs → AreLines (flat_map f xs)
@@ -53,28 +50,28 @@ lines_each f P [] each all = no_lines
 lines_each f P (x ∷ xs) each all = subst AreLines (sym (flat_map-cons f x xs)) (lines_both (f x) (flat_map f xs) (each x all.0) (lines_each f P xs each all.1))
 
 -- words are one line, which is not `history` where they are two or more
-line_of_words : (w v : List ℕ) (ws : List (List ℕ)) → AllByRecursion IsWord (w ∷ v ∷ ws) → AreLines (line_of (w ∷ v ∷ ws))
-line_of_words w v ws all =
-    let text = join_with_byte 32 (w ∷ v ∷ ws) in
+line_of_words : (xs v : List ℕ) (ws : List (List ℕ)) → AllByRecursion IsWord (xs ∷ v ∷ ws) → AreLines (line_of (xs ∷ v ∷ ws))
+line_of_words xs v ws all =
+    let text = join_with_byte 32 (xs ∷ v ∷ ws) in
     record {
       lines = text ∷ [];
       spelled = sym (flat_map-cons (λ (l : List ℕ). l ++ newline ∷ []) text [] ∙ nothing_more (text ++ newline ∷ []));
-      free = (joined_free w (v ∷ ws) all, tt);
-      others = (λ same. two_words (sym (parts_again w (v ∷ ws) all) ∙ ap (parts 32) same), tt);
+      free = (joined_free xs (v ∷ ws) all, tt);
+      others = (λ same. two_words (sym (parts_again xs (v ∷ ws) all) ∙ ap (parts 32) same), tt);
     }
   where
     nothing_more : (t : List ℕ) → t ++ [] ≡ t
     nothing_more t = append-nil t
 
-    two_words : w ∷ v ∷ ws ≡ codes "history" ∷ [] → ⊥
+    two_words : xs ∷ v ∷ ws ≡ codes "history" ∷ [] → ⊥
     two_words e = absurd (omega (arith, ap length e))
 
 parts_of_lines : (lines : List (List ℕ)) (rest : List ℕ) → AreFree lines → parts 10 (with_ends lines ++ rest) ≡ lines ++ parts 10 rest
 parts_of_lines [] rest free = refl
-parts_of_lines (l ∷ lines) rest free =
-    let front : with_ends (l ∷ lines) ++ rest ≡ l ++ 10 ∷ (with_ends lines ++ rest) =
-    ap (λ (bs : List ℕ). bs ++ rest) (flat_map-cons (λ (line : List ℕ). line ++ newline ∷ []) l lines) ∙ append_assoc (l ++ 10 ∷ []) (with_ends lines) rest ∙ append_assoc l (10 ∷ []) (with_ends lines ++ rest) in
-    ap (parts 10) front ∙ parts_at 10 l (with_ends lines ++ rest) free.0 ∙ ap (λ (ts : List (List ℕ)). l ∷ ts) (parts_of_lines lines rest free.1)
+parts_of_lines (xs ∷ lines) rest free =
+    let front : with_ends (xs ∷ lines) ++ rest ≡ xs ++ 10 ∷ (with_ends lines ++ rest) =
+    ap (λ (bs : List ℕ). bs ++ rest) (flat_map-cons (λ (line : List ℕ). line ++ newline ∷ []) xs lines) ∙ append_assoc (xs ++ 10 ∷ []) (with_ends lines) rest ∙ append_assoc xs (10 ∷ []) (with_ends lines ++ rest) in
+    ap (parts 10) front ∙ parts_at 10 xs (with_ends lines ++ rest) free.0 ∙ ap (λ (ts : List (List ℕ)). xs ∷ ts) (parts_of_lines lines rest free.1)
 
 -- behind such lines the line `history` is the first that is so
 pub lines_cut : (text claimed : List ℕ) → AreLines text → IsCutAt (codes "history") (text ++ (codes "history" ++ 10 ∷ claimed)) text claimed
@@ -89,8 +86,8 @@ lines_cut text claimed are =
 
 -- ---- words
 
-word_both : (a b : List ℕ) → IsWord a → IsWord b → IsWord (a ++ b)
-word_both a b p q = record { no_space = free_both 32 a b p.no_space q.no_space; no_end = free_both 10 a b p.no_end q.no_end }
+word_both : (xs ys : List ℕ) → IsWord xs → IsWord ys → IsWord (xs ++ ys)
+word_both xs ys word q = record { no_space = free_both 32 xs ys word.no_space q.no_space; no_end = free_both 10 xs ys word.no_end q.no_end }
 
 number_word : (n : ℕ) → n < 2 ^ 64 → IsWord (decimal n)
 number_word n small = decimal_word n small
@@ -100,10 +97,10 @@ name_is_word name small = word_both (decimal name.thread ++ codes ".") (decimal 
 
 reference_is_word : (reference : Reference) → IsSmallReference reference → IsWord (reference_word reference)
 reference_is_word None small = record { no_space = refl; no_end = refl }
-reference_is_word (Some n) small = name_is_word n small
+reference_is_word (Some name) small = name_is_word name small
 
 reply_is_word : (reply : Reply) → FitsReply reply → IsWord (reply_word reply)
-reply_is_word (Ref n) fits = name_is_word n fits
+reply_is_word (Ref name) fits = name_is_word name fits
 reply_is_word Null fits = record { no_space = refl; no_end = refl }
 reply_is_word Ok fits = record { no_space = refl; no_end = refl }
 reply_is_word Yes fits = record { no_space = refl; no_end = refl }
@@ -133,28 +130,28 @@ object_lines row small =
       record { no_space = refl; no_end = refl },
       (
         name_is_word row.name small.name,
-        all_both IsWord (map reference_word row.refs) (codes "/" ∷ map decimal row.nums) (words_each reference_word IsSmallReference row.refs reference_is_word small.refs)
+        all_append IsWord (map reference_word row.refs) (codes "/" ∷ map decimal row.nums) (words_each reference_word IsSmallReference row.refs reference_is_word small.refs)
             (record { no_space = refl; no_end = refl }, words_each decimal (λ n. n < 2 ^ 64) row.nums number_word small.nums),
       ),
     )
 
-root_words : (root : ℕ → Reference) (from n : ℕ) → ((i : ℕ) → IsSmallReference (root i)) → AllByRecursion IsWord (map (λ i. reference_word (root i)) (range_with_len from n))
+root_words : (root : ℕ → Reference) (from n : ℕ) → ((thread : ℕ) → IsSmallReference (root thread)) → AllByRecursion IsWord (map (λ thread. reference_word (root thread)) (range_with_len from n))
 root_words root from zero small = tt
 root_words root from (suc n) small = (reference_is_word (root from) (small from), root_words root (from + 1) n small)
 
-spelled_roots : (root : ℕ → Reference) → ((i : ℕ) → IsSmallReference (root i)) → AllByRecursion IsWord (root_spellings root)
+spelled_roots : (root : ℕ → Reference) → ((thread : ℕ) → IsSmallReference (root thread)) → AllByRecursion IsWord (root_spellings root)
 unfolding root_spellings
 spelled_roots root small = root_words root 0 16 small
 
-root_lines : (t : ℕ) (root : ℕ → Reference) → t < 2 ^ 64 → ((i : ℕ) → IsSmallReference (root i)) → AreLines (roots_line t root)
-root_lines t root few small = line_of_words (codes "roots") (decimal t) (root_spellings root) (record { no_space = refl; no_end = refl }, (number_word t few, spelled_roots root small))
+root_lines : (t : ℕ) (root : ℕ → Reference) → t < 2 ^ 64 → ((thread : ℕ) → IsSmallReference (root thread)) → AreLines (roots_line t root)
+root_lines t root below small = line_of_words (codes "roots") (decimal t) (root_spellings root) (record { no_space = refl; no_end = refl }, (number_word t below, spelled_roots root small))
 
-spelled_pins : (pin : ℕ → Reference) → ((i : ℕ) → IsSmallReference (pin i)) → AllByRecursion IsWord (pin_spellings pin)
+spelled_pins : (pin : ℕ → Reference) → ((thread : ℕ) → IsSmallReference (pin thread)) → AllByRecursion IsWord (pin_spellings pin)
 unfolding pin_spellings
 spelled_pins pin small = root_words pin 0 4 small
 
-pin_lines : (t : ℕ) (pin : ℕ → Reference) → t < 2 ^ 64 → ((i : ℕ) → IsSmallReference (pin i)) → AreLines (pins_line t pin)
-pin_lines t pin few small = line_of_words (codes "pins") (decimal t) (pin_spellings pin) (record { no_space = refl; no_end = refl }, (number_word t few, spelled_pins pin small))
+pin_lines : (t : ℕ) (pin : ℕ → Reference) → t < 2 ^ 64 → ((thread : ℕ) → IsSmallReference (pin thread)) → AreLines (pins_line t pin)
+pin_lines t pin below small = line_of_words (codes "pins") (decimal t) (pin_spellings pin) (record { no_space = refl; no_end = refl }, (number_word t below, spelled_pins pin small))
 
 below : (most from n : ℕ) → from + n ≤ most → AllByRecursion (λ t. t < most) (range_with_len from n)
 below most from zero le = tt
@@ -163,18 +160,18 @@ below most from (suc n) le = (omega (arith, le), below most (from + 1) n (omega 
 graph_line : AreLines (line_of (codes "graph" ∷ []))
 graph_line = record { lines = codes "graph" ∷ []; spelled = refl; free = (refl, tt); others = (λ same. absurd (omega (arith, ap length same)), tt) }
 
-all_pins : (version threads : ℕ) (pin : ℕ → ℕ → Reference) → threads + 1 ≤ 2 ^ 64 → ((t i : ℕ) → IsSmallReference (pin t i)) → AreLines (pins_text version threads pin)
-all_pins version threads pin few small = by_version (ltb version 2)
+all_pins : (version threads : ℕ) (pin : ℕ → ℕ → Reference) → threads + 1 ≤ 2 ^ 64 → ((thread slot : ℕ) → IsSmallReference (pin thread slot)) → AreLines (pins_text version threads pin)
+all_pins version threads pin at_most small = by_version (ltb version 2)
   where
-    by_version : (test : Bool) → AreLines (cond test [] (flat_map (λ t. pins_line t (pin t)) (thread_numbers threads)))
+    by_version : (test : Bool) → AreLines (cond test [] (flat_map (λ thread. pins_line thread (pin thread)) (thread_numbers threads)))
     by_version true = no_lines
-    by_version false = lines_each (λ t. pins_line t (pin t)) (λ t. t < 2 ^ 64) (thread_numbers threads) (λ t low. pin_lines t (pin t) low (small t)) (below (2 ^ 64) 1 threads (omega (arith, few)))
+    by_version false = lines_each (λ thread. pins_line thread (pin thread)) (λ t. t < 2 ^ 64) (thread_numbers threads) (λ thread low. pin_lines thread (pin thread) low (small thread)) (below (2 ^ 64) 1 threads (omega (arith, at_most)))
 
-pub answer_lines : (version threads : ℕ) (replies : ℕ → List Reply) (rows : List Row) (root pin : ℕ → ℕ → Reference) → threads + 1 ≤ 2 ^ 64 → ((t : ℕ) → AllByRecursion FitsReply (replies t)) → AllByRecursion IsSmallRow rows
-    → ((t i : ℕ) → IsSmallReference (root t i)) → ((t i : ℕ) → IsSmallReference (pin t i)) → AreLines (answer_text version threads replies rows root pin)
-answer_lines version threads replies rows root pin few fit small roots pins =
-    let numbers = below (2 ^ 64) 1 threads (omega (arith, few)) in
-    lines_both _ _ (lines_each (λ t. flat_map (reply_line t) (replies t)) (λ t. t < 2 ^ 64) (thread_numbers threads) (λ t low. lines_each (reply_line t) FitsReply (replies t) (λ r fits. reply_lines t r low fits) (fit t)) numbers)
+pub answer_lines : (version threads : ℕ) (replies : ℕ → List Reply) (rows : List Row) (root pin : ℕ → ℕ → Reference) → threads + 1 ≤ 2 ^ 64 → ((thread : ℕ) → AllByRecursion FitsReply (replies thread)) → AllByRecursion IsSmallRow rows
+    → ((thread slot : ℕ) → IsSmallReference (root thread slot)) → ((thread slot : ℕ) → IsSmallReference (pin thread slot)) → AreLines (answer_text version threads replies rows root pin)
+answer_lines version threads replies rows root pin at_most fit small roots pins =
+    let numbers = below (2 ^ 64) 1 threads (omega (arith, at_most)) in
+    lines_both _ _ (lines_each (λ t. flat_map (reply_line t) (replies t)) (λ t. t < 2 ^ 64) (thread_numbers threads) (λ t low. lines_each (reply_line t) FitsReply (replies t) (λ reply fits. reply_lines t reply low fits) (fit t)) numbers)
     (lines_both _ _ graph_line (lines_both _ _ (lines_each object_line IsSmallRow rows object_lines small)
-    (lines_both _ _ (lines_each (λ t. roots_line t (root t)) (λ t. t < 2 ^ 64) (thread_numbers threads) (λ t low. root_lines t (root t) low (roots t)) numbers)
-    (all_pins version threads pin few pins))))
+    (lines_both _ _ (lines_each (λ thread. roots_line thread (root thread)) (λ t. t < 2 ^ 64) (thread_numbers threads) (λ thread low. root_lines thread (root thread) low (roots thread)) numbers)
+    (all_pins version threads pin at_most pins))))

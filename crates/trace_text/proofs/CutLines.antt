@@ -19,7 +19,7 @@ AreOthers text lines = AllByRecursion (λ line. line ≢ text) lines
 -- ---- lines and their ends
 
 pub parts_same : (a b : List ℕ) → parts 10 a ≡ parts 10 b → a ≡ b
-parts_same a b e = sym (join_with_byte-slice_split 10 a) ∙ ap (join_with_byte 10) e ∙ join_with_byte-slice_split 10 b
+parts_same a b same = sym (join_with_byte-slice_split 10 a) ∙ ap (join_with_byte 10) same ∙ join_with_byte-slice_split 10 b
 
 -- a list that is not empty
 abbrev pub IsSome : List (List ℕ) → Type 0
@@ -45,8 +45,8 @@ join_lines (l ∷ lines) ts some =
     join_first l (lines ++ ts) (some_behind lines ts some) ∙ ap (λ (bs : List ℕ). l ++ 10 ∷ bs) (join_lines lines ts some) ∙ sym (with_ends-cons l lines (join_with_byte 10 ts))
 
 pub bytes_of_lines : (lines : List (List ℕ)) (bytes rest : List ℕ) → parts 10 bytes ≡ lines ++ parts 10 rest → bytes ≡ with_ends lines ++ rest
-bytes_of_lines lines bytes rest e =
-    sym (join_with_byte-slice_split 10 bytes) ∙ ap (join_with_byte 10) e ∙ join_lines lines (parts 10 rest) (some_parts rest) ∙ ap (λ (bs : List ℕ). with_ends lines ++ bs) (join_with_byte-slice_split 10 rest)
+bytes_of_lines lines bytes rest same =
+    sym (join_with_byte-slice_split 10 bytes) ∙ ap (join_with_byte 10) same ∙ join_lines lines (parts 10 rest) (some_parts rest) ∙ ap (λ (bs : List ℕ). with_ends lines ++ bs) (join_with_byte-slice_split 10 rest)
 
 pub bytes_of_cut : (text bytes before behind : List ℕ) → IsCutAt text bytes before behind → bytes ≡ before ++ (text ++ 10 ∷ behind)
 bytes_of_cut text bytes before behind cut =
@@ -66,33 +66,33 @@ behind_cut text bytes before behind cut = (before ++ (text ++ 10 ∷ []), bytes_
 -- ---- the first line is one
 
 first_once : (text : List ℕ) (xs ys p q : List (List ℕ)) → AreOthers text xs → AreOthers text ys → xs ++ text ∷ p ≡ ys ++ text ∷ q → (xs ≡ ys) × (p ≡ q)
-first_once text [] [] p q all_xs all_ys e = (refl, cc)
-first_once text [] (y ∷ ys) p q all_xs all_ys e = absurd (all_ys.0 cc)
-first_once text (x ∷ xs) [] p q all_xs all_ys e = absurd (all_xs.0 cc)
-first_once text (x ∷ xs) (y ∷ ys) p q all_xs all_ys e =
+first_once text [] [] p q all_xs all_ys same = (refl, cc)
+first_once text [] (y ∷ ys) p q all_xs all_ys same = absurd (all_ys.0 cc)
+first_once text (x ∷ xs) [] p q all_xs all_ys same = absurd (all_xs.0 cc)
+first_once text (x ∷ xs) (y ∷ ys) p q all_xs all_ys same =
     let first : x ≡ y = cc in
     let others = first_once text xs ys p q all_xs.1 all_ys.1 cc in
     (ap (λ (z : List ℕ). z ∷ xs) first ∙ ap (λ (zs : List (List ℕ)). y ∷ zs) others.0, others.1)
 
-pub cut_once : (text bytes a b c d : List ℕ) → IsCutAt text bytes a b → IsCutAt text bytes c d → (a ≡ c) × (b ≡ d)
-cut_once text bytes a b c d p q =
-    let one = first_once text p.lines q.lines (parts 10 b) (parts 10 d) p.others q.others (sym p.parts_are ∙ q.parts_are) in
-    (p.before_is ∙ ap with_ends one.0 ∙ sym q.before_is, parts_same b d one.1)
+pub cut_once : (text bytes a behind c other_behind : List ℕ) → IsCutAt text bytes a behind → IsCutAt text bytes c other_behind → (a ≡ c) × (behind ≡ other_behind)
+cut_once text bytes a behind c d cut_at q =
+    let one = first_once text cut_at.lines q.lines (parts 10 behind) (parts 10 d) cut_at.others q.others (sym cut_at.parts_are ∙ q.parts_are) in
+    (cut_at.before_is ∙ ap with_ends one.0 ∙ sym q.before_is, parts_same behind d one.1)
 
 -- ---- no line is the text
 
 not_there : (text last : List ℕ) (xs ys p : List (List ℕ)) → AreOthers text xs → IsSome p → xs ++ last ∷ [] ≡ ys ++ text ∷ p → ⊥
-not_there text last [] [] p all some e = let none : [] ≡ p = cc in let it = some.2 in absurd cc
-not_there text last [] (y ∷ ys) p all some e = ends ys cc
+not_there text last [] [] p all some same = let none : [] ≡ p = cc in let it = some.2 in absurd cc
+not_there text last [] (y ∷ ys) p all some same = ends ys cc
   where
     ends : (zs : List (List ℕ)) → [] ≡ zs ++ text ∷ p → ⊥
     ends [] h = absurd cc
     ends (z ∷ zs) h = absurd cc
-not_there text last (x ∷ xs) [] p all some e = all.0 cc
-not_there text last (x ∷ xs) (y ∷ ys) p all some e = not_there text last xs ys p all.1 some cc
+not_there text last (x ∷ xs) [] p all some same = all.0 cc
+not_there text last (x ∷ xs) (y ∷ ys) p all some same = not_there text last xs ys p all.1 some cc
 
 pub no_cut : (text bytes last : List ℕ) (lines : List (List ℕ)) → parts 10 bytes ≡ lines ++ last ∷ [] → AreOthers text lines → HasNoLine text bytes
-no_cut text bytes last lines e others before behind cut = not_there text last lines cut.lines (parts 10 behind) others (some_parts behind) (sym e ∙ cut.parts_are)
+no_cut text bytes last lines same others before behind cut = not_there text last lines cut.lines (parts 10 behind) others (some_parts behind) (sym same ∙ cut.parts_are)
 
 -- ---- cut or not
 
@@ -100,35 +100,35 @@ abbrev pub IsCut : (text bytes : List ℕ) → Type 0
 IsCut text bytes = (before : List ℕ) × (behind : List ℕ) × IsCutAt text bytes before behind
 
 cut_here : (text bytes rest : List ℕ) → parts 10 bytes ≡ text ∷ parts 10 rest → IsCut text bytes
-cut_here text bytes rest e = ([], rest, record { lines = []; parts_are = e; others = tt; before_is = refl })
+cut_here text bytes rest same = ([], rest, record { lines = []; parts_are = same; others = tt; before_is = refl })
 
 cut_later : (text bytes line rest : List ℕ) → parts 10 bytes ≡ line ∷ parts 10 rest → line ≢ text → IsCut text rest → IsCut text bytes
-cut_later text bytes line rest e other it =
+cut_later text bytes line rest same other it =
     let cut = it.2 in (
       line ++ 10 ∷ it.0,
       it.1,
       record {
         lines = line ∷ cut.lines;
-        parts_are = e ∙ ap (λ (ts : List (List ℕ)). line ∷ ts) cut.parts_are;
+        parts_are = same ∙ ap (λ (ts : List (List ℕ)). line ∷ ts) cut.parts_are;
         others = (other, cut.others);
         before_is = ap (λ (bs : List ℕ). line ++ 10 ∷ bs) cut.before_is ∙ sym (append_assoc line (10 ∷ []) (with_ends cut.lines)) ∙ sym (flat_map-cons (λ (l : List ℕ). l ++ newline ∷ []) line cut.lines);
       },
     )
 
 none_later : (text bytes line rest : List ℕ) → parts 10 bytes ≡ line ∷ parts 10 rest → line ≢ text → HasNoLine text rest → HasNoLine text bytes
-none_later text bytes line rest e other none before behind cut = by_lines cut.lines (sym e ∙ cut.parts_are) cut.others
+none_later text bytes line rest same other none before behind cut = by_lines cut.lines (sym same ∙ cut.parts_are) cut.others
   where
     by_lines : (lines : List (List ℕ)) → line ∷ parts 10 rest ≡ lines ++ text ∷ parts 10 behind → AreOthers text lines → ⊥
     by_lines [] h others = other cc
     by_lines (l ∷ lines) h others = none (with_ends lines) behind (record { lines = lines; parts_are = cc; others = others.1; before_is = refl })
 
 shorter : (bytes line rest : List ℕ) (k : ℕ) → parts 10 bytes ≡ line ∷ parts 10 rest → length bytes ≤ suc k → length rest ≤ k
-shorter bytes line rest k e le = let size = ap length (bytes_of_line bytes line rest e) in let sizes = length-append line (10 ∷ rest) in omega (arith, size, sizes, le)
+shorter bytes line rest k same le = let size = ap length (bytes_of_line bytes line rest same) in let sizes = length-append line (10 ∷ rest) in omega (arith, size, sizes, le)
 
 by_test : (text bytes line rest : List ℕ) → parts 10 bytes ≡ line ∷ parts 10 rest → (test : Bool) → test ≡ pointwise nat_eq line text → IsCut text rest ⊎ HasNoLine text rest → IsCut text bytes ⊎ HasNoLine text bytes
-by_test text bytes line rest e true is others = inl (cut_here text bytes rest (e ∙ ap (λ (t : List ℕ). t ∷ parts 10 rest) (told_text line text true is)))
-by_test text bytes line rest e false is (inl it) = inl (cut_later text bytes line rest e (told_text line text false is) it)
-by_test text bytes line rest e false is (inr none) = inr (none_later text bytes line rest e (told_text line text false is) none)
+by_test text bytes line rest same true is others = inl (cut_here text bytes rest (same ∙ ap (λ (t : List ℕ). t ∷ parts 10 rest) (told_text line text true is)))
+by_test text bytes line rest same false is (inl it) = inl (cut_later text bytes line rest same (told_text line text false is) it)
+by_test text bytes line rest same false is (inr none) = inr (none_later text bytes line rest same (told_text line text false is) none)
 
 pub cut_or_none : (k : ℕ) (text bytes : List ℕ) → length bytes ≤ k → IsCut text bytes ⊎ HasNoLine text bytes
 cut_or_none zero text [] le = inr (no_cut text [] [] [] refl tt)
@@ -155,17 +155,17 @@ others_more text line [] all other = (other, tt)
 others_more text line (l ∷ lines) all other = (all.0, others_more text line lines all.1 other)
 
 pub passed_more : (text bytes rest line behind : List ℕ) → HasPassed text bytes rest → parts 10 rest ≡ line ∷ parts 10 behind → line ≢ text → HasPassed text bytes behind
-passed_more text bytes rest line behind passed e other = record {
+passed_more text bytes rest line behind passed same other = record {
   lines = passed.lines ++ line ∷ [];
-  parts_are = passed.parts_are ∙ ap (λ (ts : List (List ℕ)). passed.lines ++ ts) e ∙ sym (append_assoc passed.lines (line ∷ []) (parts 10 behind));
+  parts_are = passed.parts_are ∙ ap (λ (ts : List (List ℕ)). passed.lines ++ ts) same ∙ sym (append_assoc passed.lines (line ∷ []) (parts 10 behind));
   others = others_more text line passed.lines passed.others other;
 }
 
 -- the bytes before what is at their end
 pub all_before : (bytes front rest : List ℕ) → bytes ≡ front ++ rest → take (length bytes - length rest) bytes ≡ front
-all_before bytes front rest e =
-    let sizes = ap length e ∙ length-append front rest in
-    ap (λ (bs : List ℕ). take (length bytes - length rest) bs) e ∙ take_at front rest (length bytes - length rest) (omega (arith, sizes))
+all_before bytes front rest same =
+    let sizes = ap length same ∙ length-append front rest in
+    ap (λ (bs : List ℕ). take (length bytes - length rest) bs) same ∙ take_at front rest (length bytes - length rest) (omega (arith, sizes))
 
 pub cut_found : (text bytes rest line behind : List ℕ) → HasPassed text bytes rest → parts 10 rest ≡ line ∷ parts 10 behind → line ≡ text → IsCutAt text bytes (take (length bytes - length rest) bytes) behind
 cut_found text bytes rest line behind passed e same = record {
@@ -176,13 +176,13 @@ cut_found text bytes rest line behind passed e same = record {
 }
 
 pub none_found : (text bytes rest last : List ℕ) → HasPassed text bytes rest → parts 10 rest ≡ last ∷ [] → HasNoLine text bytes
-none_found text bytes rest last passed e = no_cut text bytes last passed.lines (passed.parts_are ∙ ap (λ (ts : List (List ℕ)). passed.lines ++ ts) e) passed.others
+none_found text bytes rest last passed same = no_cut text bytes last passed.lines (passed.parts_are ∙ ap (λ (ts : List (List ℕ)). passed.lines ++ ts) same) passed.others
 
 pub fewer_left : (text bytes rest : List ℕ) → HasPassed text bytes rest → length rest ≤ length bytes
 fewer_left text bytes rest passed = let sizes = ap length (bytes_of_lines passed.lines bytes rest passed.parts_are) ∙ length-append (with_ends passed.lines) rest in omega (arith, sizes)
 
 pub line_shorter : (rest line behind : List ℕ) → parts 10 rest ≡ line ∷ parts 10 behind → length behind + 1 ≤ length rest
-line_shorter rest line behind e = let size = ap length (bytes_of_line rest line behind e) in let sizes = length-append line (10 ∷ behind) in omega (arith, size, sizes)
+line_shorter rest line behind same = let size = ap length (bytes_of_line rest line behind same) in let sizes = length-append line (10 ∷ behind) in omega (arith, size, sizes)
 
 pub whole_before : (bytes front rest : List ℕ) → bytes ≡ front ++ rest → bytes ≡ take (length bytes - length rest) bytes ++ rest
-whole_before bytes front rest e = e ∙ ap (λ (bs : List ℕ). bs ++ rest) (sym (all_before bytes front rest e))
+whole_before bytes front rest same = same ∙ ap (λ (bs : List ℕ). bs ++ rest) (sym (all_before bytes front rest same))

@@ -17,31 +17,31 @@ use Rattle.trace_text.proofs.CutLines.{AreOthers, bytes_of_lines}
 
 no_answer : (stage next : LineStage) → LineFollows stage (codes "answer") next → ⊥
 unfolding words_cause title_cause command_cause
-no_answer Version next f = let none = (fine Version (codes "answer") next f).0 in cc
-no_answer (Heap v) next f = let none = (fine (Heap v) (codes "answer") next f).0 in cc
-no_answer (Threads v r w e) next f = let none = (fine (Threads v r w e) (codes "answer") next f).0 in cc
-no_answer (Commands v c) next f = let none = (fine (Commands v c) (codes "answer") next f).0 in cc
-no_answer (Turns c) next f = let none = (fine (Turns c) (codes "answer") next f).0 in cc
+no_answer Version next line_follows = let none = (fine Version (codes "answer") next line_follows).0 in cc
+no_answer (Heap version) next line_follows = let none = (fine (Heap version) (codes "answer") next line_follows).0 in cc
+no_answer (Threads version regions region_words reserve) next line_follows = let none = (fine (Threads version regions region_words reserve) (codes "answer") next line_follows).0 in cc
+no_answer (Commands version config) next line_follows = let none = (fine (Commands version config) (codes "answer") next line_follows).0 in cc
+no_answer (Turns config) next line_follows = let none = (fine (Turns config) (codes "answer") next line_follows).0 in cc
 
 lead_others : (stage : LineStage) (texts : List (List ℕ)) (last : LineStage) → Lead stage texts last → AreOthers (codes "answer") texts
 lead_others stage [] last lead = tt
 lead_others stage (text ∷ texts) last lead = (λ same. no_answer stage lead.0 (subst (λ (t : List ℕ). LineFollows stage t lead.0) same lead.1), lead_others lead.0 texts last lead.2)
 
 -- behind a trace the line `answer` is the first that is so
-pub trace_cut : (trace behind : List ℕ) (v : ℕ) (config : Config) (scripts : List (List Command)) (items : List Item) → Reads trace v config scripts items → IsCutAt (codes "answer") (trace ++ (codes "answer" ++ 10 ∷ behind)) trace behind
-trace_cut trace behind v config scripts items reads =
+pub trace_cut : (trace behind : List ℕ) (version : ℕ) (config : Config) (scripts : List (List Command)) (items : List Item) → Reads trace version config scripts items → IsCutAt (codes "answer") (trace ++ (codes "answer" ++ 10 ∷ behind)) trace behind
+trace_cut trace behind version config scripts items reads =
     let rest = codes "answer" ++ 10 ∷ behind in
     let whole = trace ++ rest in
     let lines = flat_map line reads.lines in
     let turns = flat_map schedule_line reads.turns in
-    let spelled : whole ≡ header v config ++ (lines ++ (turns ++ rest)) =
-    ap (λ (bs : List ℕ). bs ++ rest) reads.spelled ∙ append_assoc (header v config) (lines ++ turns) rest ∙ ap (λ (bs : List ℕ). header v config ++ bs) (append_assoc lines turns rest) in
-    let head = begun_head whole (lines ++ (turns ++ rest)) v config reads.known reads.narrow spelled in
-    let commands = begun_lines whole reads.lines (turns ++ rest) 3 v config reads.in_range head in
-    let all = begun_turns whole reads.turns rest (3 + length reads.lines) v config reads.turns_in_range commands in
+    let spelled : whole ≡ header version config ++ (lines ++ (turns ++ rest)) =
+    ap (λ (bs : List ℕ). bs ++ rest) reads.spelled ∙ append_assoc (header version config) (lines ++ turns) rest ∙ ap (λ (bs : List ℕ). header version config ++ bs) (append_assoc lines turns rest) in
+    let head = begun_head whole (lines ++ (turns ++ rest)) version config reads.known reads.narrow spelled in
+    let commands = begun_lines whole reads.lines (turns ++ rest) 3 version config reads.in_range head in
+    let all = begun_turns whole reads.turns rest (3 + length reads.lines) version config reads.turns_in_range commands in
     record {
       lines = all.before;
       parts_are = all.lines ∙ ap (λ (ts : List (List ℕ)). all.before ++ ts) (parts_at 10 (codes "answer") behind refl);
-      others = lead_others Version all.before (body_stage v config (ltb 0 (length reads.turns))) all.lead;
+      others = lead_others Version all.before (body_stage version config (ltb 0 (length reads.turns))) all.lead;
       before_is = append_cancel_right trace (with_ends all.before) rest (bytes_of_lines all.before whole rest all.lines);
     }

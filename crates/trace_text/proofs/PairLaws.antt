@@ -27,27 +27,27 @@ Scripts = List (List Command)
 
 -- ---- once
 
-pub trace_once : (bytes b p : List ℕ) (v w : ℕ) (config other_config : Config) (xs ys : Scripts) (is js : List Item) → HasTrace bytes v config xs is b → HasTrace bytes w other_config ys js p → IsSameTrace v config xs is w other_config ys js × (b ≡ p)
-trace_once bytes b p v w config other_config xs ys is js t u =
-    let one = cut_once (codes "answer") bytes t.trace b u.trace p t.cut u.cut in
-    (read_once t.trace v w config other_config xs ys is js t.reads (subst (λ (bs : List ℕ). Reads bs w other_config ys js) (sym one.0) u.reads), one.1)
+pub trace_once : (bytes behind other_behind : List ℕ) (version other_version : ℕ) (config other_config : Config) (xs ys : Scripts) (is js : List Item) → HasTrace bytes version config xs is behind → HasTrace bytes other_version other_config ys js other_behind → IsSameTrace version config xs is other_version other_config ys js × (behind ≡ other_behind)
+trace_once bytes behind p version other_version config other_config xs ys is js has_trace u =
+    let one = cut_once (codes "answer") bytes has_trace.trace behind u.trace p has_trace.cut u.cut in
+    (read_once has_trace.trace version other_version config other_config xs ys is js has_trace.reads (subst (λ (bs : List ℕ). Reads bs other_version other_config ys js) (sym one.0) u.reads), one.1)
 
-same_trace : (bytes b p : List ℕ) (v w : ℕ) (config other_config : Config) (xs ys : Scripts) (is js : List Item) → HasTrace bytes v config xs is b → HasTrace bytes w other_config ys js p → (config ≡ other_config) × (b ≡ p) × (v ≡ w)
-same_trace bytes b p v w config other_config xs ys is js t u = let one = trace_once bytes b p v w config other_config xs ys is js t u in (one.0.config, one.1, one.0.version)
+same_trace : (bytes behind other_behind : List ℕ) (version other_version : ℕ) (config other_config : Config) (xs ys : Scripts) (is items : List Item) → HasTrace bytes version config xs is behind → HasTrace bytes other_version other_config ys items other_behind → (config ≡ other_config) × (behind ≡ other_behind) × (version ≡ other_version)
+same_trace bytes behind p version w config other_config xs ys is items has_trace u = let one = trace_once bytes behind p version w config other_config xs ys is items has_trace u in (one.0.config, one.1, one.0.version)
 
-claims_once : (version threads : ℕ) (bytes body other : List ℕ) (es fs : List Entry) → threads < 2 ^ 64 → HasClaims version threads bytes body es → HasClaims version threads bytes other fs → (body ≡ other) × (es ≡ fs)
-claims_once version threads bytes body other es fs small p q =
-    let one = cut_once (codes "history") bytes body p.claimed other q.claimed p.cut q.cut in
+claims_once : (version threads : ℕ) (bytes body other : List ℕ) (entries other_entries : List Entry) → threads < 2 ^ 64 → HasClaims version threads bytes body entries → HasClaims version threads bytes other other_entries → (body ≡ other) × (entries ≡ other_entries)
+claims_once version threads bytes body other entries other_entries small has_claims q =
+    let one = cut_once (codes "history") bytes body has_claims.claimed other q.claimed has_claims.cut q.cut in
     let none = nothing_read version threads small in
-    (one.0, (entries_once version threads es fs [] [] small p.in_range q.in_range none none (append-nil (flat_map entry_line es) ∙ sym p.spelled ∙ one.1 ∙ q.spelled ∙ sym (append-nil (flat_map entry_line fs)))).0)
+    (one.0, (entries_once version threads entries other_entries [] [] small has_claims.in_range q.in_range none none (append-nil (flat_map entry_line entries) ∙ sym has_claims.spelled ∙ one.1 ∙ q.spelled ∙ sym (append-nil (flat_map entry_line other_entries)))).0)
 
-pub pair_once : (bytes : List ℕ) (v w : ℕ) (config other_config : Config) (xs ys : Scripts) (is js : List Item) (body other : List ℕ) (es fs : List Entry) → IsPair bytes v config xs is body es → IsPair bytes w other_config ys js other fs → IsSamePair v config xs is body es w other_config ys js other fs
-pair_once bytes v w config other_config xs ys is js body other es fs p q =
-    let trace = trace_once bytes p.behind q.behind v w config other_config xs ys is js p.trace q.trace in
-    let claims : HasClaims v config.mutators p.behind other fs =
-    subst (λ (u : ℕ). HasClaims u config.mutators p.behind other fs) (sym trace.0.version)
-    (subst (λ (config : Config). HasClaims w config.mutators p.behind other fs) (sym trace.0.config) (subst (λ (b : List ℕ). HasClaims w other_config.mutators b other fs) (sym trace.1) q.claims)) in
-    let one = claims_once v config.mutators p.behind body other es fs (few_threads config) p.claims claims in
+pub pair_once : (bytes : List ℕ) (version other_version : ℕ) (config other_config : Config) (xs ys : Scripts) (is items : List Item) (body other : List ℕ) (entries other_entries : List Entry) → IsPair bytes version config xs is body entries → IsPair bytes other_version other_config ys items other other_entries → IsSamePair version config xs is body entries other_version other_config ys items other other_entries
+pair_once bytes version other_version config other_config xs ys is items body other entries other_entries pair q =
+    let trace = trace_once bytes pair.behind q.behind version other_version config other_config xs ys is items pair.trace q.trace in
+    let claims : HasClaims version config.mutators pair.behind other other_entries =
+    subst (λ (version : ℕ). HasClaims version config.mutators pair.behind other other_entries) (sym trace.0.version)
+    (subst (λ (config : Config). HasClaims other_version config.mutators pair.behind other other_entries) (sym trace.0.config) (subst (λ (b : List ℕ). HasClaims other_version other_config.mutators b other other_entries) (sym trace.1) q.claims)) in
+    let one = claims_once version config.mutators pair.behind body other entries other_entries (few_threads config) pair.claims claims in
     record { trace = trace.0; text = one.0; history = one.1 }
 
 -- ---- one or the other
@@ -95,14 +95,14 @@ IsAPair bytes = (v : ℕ) × (config : Config) × (scripts : Scripts) × (items 
 abbrev IsRefused : List ℕ → Type 0
 IsRefused bytes = (n : ℕ) × (why : Why) × IsPairRefused bytes n why
 
-with_trace : (bytes behind : List ℕ) (v : ℕ) (config : Config) (xs : Scripts) (is : List Item) → length bytes ≤ most_bytes → HasTrace bytes v config xs is behind → IsAPair bytes ⊎ IsRefused bytes
-with_trace bytes behind v config xs is short trace =
+with_trace : (bytes behind : List ℕ) (version : ℕ) (config : Config) (xs : Scripts) (is : List Item) → length bytes ≤ most_bytes → HasTrace bytes version config xs is behind → IsAPair bytes ⊎ IsRefused bytes
+with_trace bytes behind version config xs is short trace =
     let part = behind_cut (codes "answer") bytes trace.trace behind trace.cut in
-    by_claims (claims_or_not v config.mutators bytes part.0 behind (few_threads config) part.1)
+    by_claims (claims_or_not version config.mutators bytes part.0 behind (few_threads config) part.1)
   where
-    by_claims : ((body : List ℕ) × (entries : List Entry) × HasClaims v config.mutators behind body entries) ⊎ ((n : ℕ) × (why : Why) × (LacksHistory bytes behind n why ⊎ LacksEntry v config.mutators bytes behind n why)) → IsAPair bytes ⊎ IsRefused bytes
-    by_claims (inl it) = inl (v, config, xs, is, it.0, it.1, record { behind = behind; trace = trace; claims = it.2; short = short })
-    by_claims (inr it) = inr (it.0, it.1, (inr (record { version = v; config = config; scripts = xs; items = is; behind = behind; trace = trace; fault = it.2 }), short))
+    by_claims : ((body : List ℕ) × (entries : List Entry) × HasClaims version config.mutators behind body entries) ⊎ ((n : ℕ) × (why : Why) × (LacksHistory bytes behind n why ⊎ LacksEntry version config.mutators bytes behind n why)) → IsAPair bytes ⊎ IsRefused bytes
+    by_claims (inl it) = inl (version, config, xs, is, it.0, it.1, record { behind = behind; trace = trace; claims = it.2; short = short })
+    by_claims (inr it) = inr (it.0, it.1, (inr (record { version = version; config = config; scripts = xs; items = is; behind = behind; trace = trace; fault = it.2 }), short))
 
 pub pair_or_refused : (bytes : List ℕ) → length bytes ≤ most_bytes → IsAPair bytes ⊎ IsRefused bytes
 pair_or_refused bytes short = by_cut (cut_or_none (length bytes) (codes "answer") bytes (omega arith))
@@ -122,31 +122,31 @@ pair_or_refused bytes short = by_cut (cut_or_none (length bytes) (codes "answer"
 -- ---- never both
 
 -- a trace before the line `answer` is not refused there
-trace_stands : (bytes b : List ℕ) (v : ℕ) (config : Config) (xs : Scripts) (is : List Item) (n : ℕ) (why : Why) → HasTrace bytes v config xs is b → LacksTrace bytes n why → ⊥
-trace_stands bytes b v config xs is n why t (inl it) =
-    let one = cut_once (codes "answer") bytes t.trace b it.0 it.1 t.cut it.2 in
-    exact.never_both t.trace v config xs is n why t.reads (subst (λ (bs : List ℕ). StopsAt bs n why) (sym one.0) it.3)
-trace_stands bytes b v config xs is n why t (inr it) = it.0 t.trace b t.cut
+trace_stands : (bytes behind : List ℕ) (version : ℕ) (config : Config) (xs : Scripts) (is : List Item) (n : ℕ) (why : Why) → HasTrace bytes version config xs is behind → LacksTrace bytes n why → ⊥
+trace_stands bytes behind version config xs is n why has_trace (inl it) =
+    let one = cut_once (codes "answer") bytes has_trace.trace behind it.0 it.1 has_trace.cut it.2 in
+    exact.never_both has_trace.trace version config xs is n why has_trace.reads (subst (λ (bs : List ℕ). StopsAt bs n why) (sym one.0) it.3)
+trace_stands bytes behind version config xs is n why has_trace (inr it) = it.0 has_trace.trace behind has_trace.cut
 
-answer_stands : (bytes b : List ℕ) (v : ℕ) (config : Config) (xs : Scripts) (is : List Item) (n : ℕ) (why : Why) → HasTrace bytes v config xs is b → LacksAnswer bytes n why → ⊥
-answer_stands bytes b v config xs is n why t it = it.none t.trace b t.cut
+answer_stands : (bytes behind : List ℕ) (version : ℕ) (config : Config) (xs : Scripts) (is : List Item) (n : ℕ) (why : Why) → HasTrace bytes version config xs is behind → LacksAnswer bytes n why → ⊥
+answer_stands bytes behind version config xs is n why has_trace it = it.none has_trace.trace behind has_trace.cut
 
-claims_stand : (version threads : ℕ) (bytes behind body : List ℕ) (es : List Entry) (n : ℕ) (why : Why) → threads < 2 ^ 64 → HasClaims version threads behind body es → LacksHistory bytes behind n why ⊎ LacksEntry version threads bytes behind n why → ⊥
-claims_stand version threads bytes behind body es n why small p (inl it) = it.none body p.claimed p.cut
-claims_stand version threads bytes behind body es n why small p (inr it) =
-    let one = cut_once (codes "history") behind body p.claimed it.body it.claimed p.cut it.cut in
-    let same = entries_once version threads es it.entries [] it.from_it small p.in_range it.in_range (nothing_read version threads small) it.none (append-nil (flat_map entry_line es) ∙ sym p.spelled ∙ one.1 ∙ it.spelled) in
+claims_stand : (version threads : ℕ) (bytes behind body : List ℕ) (entries : List Entry) (n : ℕ) (why : Why) → threads < 2 ^ 64 → HasClaims version threads behind body entries → LacksHistory bytes behind n why ⊎ LacksEntry version threads bytes behind n why → ⊥
+claims_stand version threads bytes behind body entries n why small has_claims (inl it) = it.none body has_claims.claimed has_claims.cut
+claims_stand version threads bytes behind body entries n why small has_claims (inr it) =
+    let one = cut_once (codes "history") behind body has_claims.claimed it.body it.claimed has_claims.cut it.cut in
+    let same = entries_once version threads entries it.entries [] it.from_it small has_claims.in_range it.in_range (nothing_read version threads small) it.none (append-nil (flat_map entry_line entries) ∙ sym has_claims.spelled ∙ one.1 ∙ it.spelled) in
     let size = ap length same.1 in
     omega (arith, it.some, size)
 
-pub never_both : (bytes : List ℕ) (v : ℕ) (config : Config) (xs : Scripts) (is : List Item) (body : List ℕ) (es : List Entry) (n : ℕ) (why : Why) → IsPair bytes v config xs is body es → IsPairRefused bytes n why → ⊥
-never_both bytes v config xs is body es n why p (inl (inl it), short) = trace_stands bytes p.behind v config xs is n why p.trace it
-never_both bytes v config xs is body es n why p (inl (inr it), short) = answer_stands bytes p.behind v config xs is n why p.trace it
-never_both bytes v config xs is body es n why p (inr it, short) =
-    let same = same_trace bytes p.behind it.behind v it.version config it.config xs it.scripts is it.items p.trace it.trace in
-    let claims : HasClaims it.version it.config.mutators it.behind body es =
-    subst (λ (u : ℕ). HasClaims u it.config.mutators it.behind body es) same.2 (subst (λ (config : Config). HasClaims v config.mutators it.behind body es) same.0 (subst (λ (b : List ℕ). HasClaims v config.mutators b body es) same.1 p.claims)) in
-    claims_stand it.version it.config.mutators bytes it.behind body es n why (few_threads it.config) claims it.fault
+pub never_both : (bytes : List ℕ) (version : ℕ) (config : Config) (xs : Scripts) (is : List Item) (body : List ℕ) (entries : List Entry) (n : ℕ) (why : Why) → IsPair bytes version config xs is body entries → IsPairRefused bytes n why → ⊥
+never_both bytes version config xs is body entries n why pair (inl (inl it), short) = trace_stands bytes pair.behind version config xs is n why pair.trace it
+never_both bytes version config xs is body entries n why pair (inl (inr it), short) = answer_stands bytes pair.behind version config xs is n why pair.trace it
+never_both bytes version config xs is body entries n why pair (inr it, short) =
+    let same = same_trace bytes pair.behind it.behind version it.version config it.config xs it.scripts is it.items pair.trace it.trace in
+    let claims : HasClaims it.version it.config.mutators it.behind body entries =
+    subst (λ (version : ℕ). HasClaims version it.config.mutators it.behind body entries) same.2 (subst (λ (config : Config). HasClaims version config.mutators it.behind body entries) same.0 (subst (λ (b : List ℕ). HasClaims version config.mutators b body entries) same.1 pair.claims)) in
+    claims_stand it.version it.config.mutators bytes it.behind body entries n why (few_threads it.config) claims it.fault
 
 -- ---- refused once
 
@@ -163,11 +163,11 @@ trace_refused_once bytes n m why other (inr p) (inr q) = exact.refused_once byte
 
 -- where no line `answer` stands behind a trace the trace is not refused
 no_answer_no_fault : (bytes : List ℕ) (n m : ℕ) (why other : Why) → LacksTrace bytes n why → LacksAnswer bytes m other → ⊥
-no_answer_no_fault bytes n m why other (inl p) q = q.none p.0 p.1 p.2
-no_answer_no_fault bytes n m why other (inr p) q = exact.never_both bytes q.version q.config q.scripts q.items n why q.reads p.1
+no_answer_no_fault bytes n m why other (inl p) lacks_answer = lacks_answer.none p.0 p.1 p.2
+no_answer_no_fault bytes n m why other (inr p) lacks_answer = exact.never_both bytes lacks_answer.version lacks_answer.config lacks_answer.scripts lacks_answer.items n why lacks_answer.reads p.1
 
 answer_missed_once : (bytes : List ℕ) (n m : ℕ) (why other : Why) → LacksAnswer bytes n why → LacksAnswer bytes m other → IsOne n m why other
-answer_missed_once bytes n m why other p q = (p.number ∙ sym q.number, p.cause ∙ sym q.cause)
+answer_missed_once bytes n m why other lacks_answer q = (lacks_answer.number ∙ sym q.number, lacks_answer.cause ∙ sym q.cause)
 
 claims_refused_once : (version threads : ℕ) (bytes behind : List ℕ) (n m : ℕ) (why other : Why) → threads < 2 ^ 64 → LacksHistory bytes behind n why ⊎ LacksEntry version threads bytes behind n why → LacksHistory bytes behind m other ⊎ LacksEntry version threads bytes behind m other → IsOne n m why other
 claims_refused_once version threads bytes behind n m why other small (inl p) (inl q) = (p.number ∙ sym q.number, p.cause ∙ sym q.cause)
@@ -180,13 +180,13 @@ claims_refused_once version threads bytes behind n m why other small (inr p) (in
     (p.number ∙ ap last_line before ∙ sym q.number, p.cause ∙ ap (λ (bs : List ℕ). wanted_at (parts 10 bs)) same.1 ∙ sym q.cause)
 
 bad_claims_once : (bytes : List ℕ) (n m : ℕ) (why other : Why) → HasBadClaims bytes n why → HasBadClaims bytes m other → IsOne n m why other
-bad_claims_once bytes n m why other p q =
-    let same = same_trace bytes p.behind q.behind p.version q.version p.config q.config p.scripts q.scripts p.items q.items p.trace q.trace in
-    let fault : LacksHistory bytes p.behind m other ⊎ LacksEntry p.version p.config.mutators bytes p.behind m other =
-    subst (λ (u : ℕ). LacksHistory bytes p.behind m other ⊎ LacksEntry u p.config.mutators bytes p.behind m other) (sym same.2)
-    (subst (λ (config : Config). LacksHistory bytes p.behind m other ⊎ LacksEntry q.version config.mutators bytes p.behind m other) (sym same.0)
+bad_claims_once bytes n m why other has_bad_claims q =
+    let same = same_trace bytes has_bad_claims.behind q.behind has_bad_claims.version q.version has_bad_claims.config q.config has_bad_claims.scripts q.scripts has_bad_claims.items q.items has_bad_claims.trace q.trace in
+    let fault : LacksHistory bytes has_bad_claims.behind m other ⊎ LacksEntry has_bad_claims.version has_bad_claims.config.mutators bytes has_bad_claims.behind m other =
+    subst (λ (version : ℕ). LacksHistory bytes has_bad_claims.behind m other ⊎ LacksEntry version has_bad_claims.config.mutators bytes has_bad_claims.behind m other) (sym same.2)
+    (subst (λ (config : Config). LacksHistory bytes has_bad_claims.behind m other ⊎ LacksEntry q.version config.mutators bytes has_bad_claims.behind m other) (sym same.0)
     (subst (λ (b : List ℕ). LacksHistory bytes b m other ⊎ LacksEntry q.version q.config.mutators bytes b m other) (sym same.1) q.fault)) in
-    claims_refused_once p.version p.config.mutators bytes p.behind n m why other (few_threads p.config) p.fault fault
+    claims_refused_once has_bad_claims.version has_bad_claims.config.mutators bytes has_bad_claims.behind n m why other (few_threads has_bad_claims.config) has_bad_claims.fault fault
 
 pub refused_once : (bytes : List ℕ) (n m : ℕ) (why other : Why) → IsPairRefused bytes n why → IsPairRefused bytes m other → IsOne n m why other
 refused_once bytes n m why other (inl (inl p), short) (inl (inl q), small) = trace_refused_once bytes n m why other p q

@@ -6,10 +6,11 @@ use Rattle.std.proofs.lemmas.Fmt.{decimal_nonempty}
 use Rattle.std.proofs.lemmas.List.{length-append, append-nil}
 use Rattle.std.proofs.lemmas.List.Concat.{flat_map-cons}
 use Rattle.std.proofs.lemmas.Grind.{flat_map-append}
+use Rattle.shen_graph.proofs.Options.{same_some}
 use Rattle.shen_graph.specs.History.{Entry}
 use Rattle.trace_reading.specs.Spelling.{command_word, numbers, numbers_of}
 use Rattle.trace_reading.specs.Scanning.{◌>>=◌, behind, positive_at, spelled_command}
-use Rattle.trace_reading.proofs.GrammarNumbers.{then_some, same_some, behind_takes, positive_takes, positive_again}
+use Rattle.trace_reading.proofs.GrammarNumbers.{then_some, behind_takes, positive_takes, positive_again}
 use Rattle.trace_reading.proofs.GrammarLines.{command_takes, command_again_at}
 use Rattle.trace_text.specs.Answer.{reply_word}
 use Rattle.trace_text.specs.History.{entry_line}
@@ -21,12 +22,12 @@ line-append : (entry : Entry) (rest : List ℕ) → entry_line entry ++ rest ≡
 line-append entry rest = simp append_assoc
 
 entry_parts : (bytes gap words after answer reply end rest : List ℕ) (entry : Entry) → bytes ≡ decimal entry.thread ++ gap → gap ≡ 32 ∷ words → words ≡ command_word entry.command ++ (numbers (numbers_of entry.command) ++ after) → after ≡ codes " : " ++ answer → answer ≡ reply_word entry.reply ++ end → end ≡ 10 ∷ rest → bytes ≡ entry_line entry ++ rest
-entry_parts bytes gap words after answer reply end rest entry a b c d f g = rw (a, b, c, d, f, g) (sym (line-append entry rest))
+entry_parts bytes gap words after answer reply end rest entry same b c d f g = rw (same, b, c, d, f, g) (sym (line-append entry rest))
 
 pub entry_takes : (version threads : ℕ) (bytes : List ℕ) (x : Entry × List ℕ) → threads < 2 ^ 64 → entry_at version threads bytes ≡ Some x → (bytes ≡ entry_line x.0 ++ x.1) × IsClaim version threads x.0
 unfolding entry_at
-entry_takes version threads bytes x small e =
-    then_some (positive_at threads bytes) (λ t. behind (codes " ") t.1 >>= λ words. spelled_command version words >>= λ c. behind (codes " : ") c.1 >>= λ reply. spelled_reply reply >>= λ r. behind (codes "\n") r.1 >>= λ end. Some (record { thread = t.0; command = c.0; reply = r.0 }, end)) x e (λ t at_t from_thread.
+entry_takes version threads bytes x small found =
+    then_some (positive_at threads bytes) (λ t. behind (codes " ") t.1 >>= λ words. spelled_command version words >>= λ c. behind (codes " : ") c.1 >>= λ reply. spelled_reply reply >>= λ r. behind (codes "\n") r.1 >>= λ end. Some (record { thread = t.0; command = c.0; reply = r.0 }, end)) x found (λ t at_t from_thread.
     then_some (behind (codes " ") t.1) (λ words. spelled_command version words >>= λ c. behind (codes " : ") c.1 >>= λ reply. spelled_reply reply >>= λ r. behind (codes "\n") r.1 >>= λ end. Some (record { thread = t.0; command = c.0; reply = r.0 }, end)) x from_thread (λ words at_words from_words.
     then_some (spelled_command version words) (λ c. behind (codes " : ") c.1 >>= λ reply. spelled_reply reply >>= λ r. behind (codes "\n") r.1 >>= λ end. Some (record { thread = t.0; command = c.0; reply = r.0 }, end)) x from_words (λ c at_c from_command.
     then_some (behind (codes " : ") c.1) (λ reply. spelled_reply reply >>= λ r. behind (codes "\n") r.1 >>= λ end. Some (record { thread = t.0; command = c.0; reply = r.0 }, end)) x from_command (λ reply at_reply from_reply.
@@ -63,31 +64,31 @@ some_bytes version threads entry small fits =
 pub nothing_read : (version threads : ℕ) → threads < 2 ^ 64 → BeginsWithNoEntry version threads []
 nothing_read version threads small e rest fits spelled = let some = some_bytes version threads e small fits in let size = ap length spelled in omega (arith, some, size, length-append (entry_line e) rest)
 
-front : (entry : Entry) (es : List Entry) (rest : List ℕ) → flat_map entry_line (entry ∷ es) ++ rest ≡ entry_line entry ++ (flat_map entry_line es ++ rest)
-front entry es rest = ap (λ (bs : List ℕ). bs ++ rest) (flat_map-cons entry_line entry es) ∙ append_assoc (entry_line entry) (flat_map entry_line es) rest
+front : (entry : Entry) (entries : List Entry) (rest : List ℕ) → flat_map entry_line (entry ∷ entries) ++ rest ≡ entry_line entry ++ (flat_map entry_line entries ++ rest)
+front entry entries rest = ap (λ (bs : List ℕ). bs ++ rest) (flat_map-cons entry_line entry entries) ∙ append_assoc (entry_line entry) (flat_map entry_line entries) rest
 
 -- one entry more at the end
-pub all_more : (version threads : ℕ) (es : List Entry) (entry : Entry) → AllByRecursion (IsClaim version threads) es → IsClaim version threads entry → AllByRecursion (IsClaim version threads) (es ++ entry ∷ [])
+pub all_more : (version threads : ℕ) (entries : List Entry) (entry : Entry) → AllByRecursion (IsClaim version threads) entries → IsClaim version threads entry → AllByRecursion (IsClaim version threads) (entries ++ entry ∷ [])
 all_more version threads [] entry all fits = (fits, tt)
-all_more version threads (x ∷ es) entry all fits = (all.0, all_more version threads es entry all.1 fits)
+all_more version threads (other_entry ∷ entries) entry all fits = (all.0, all_more version threads entries entry all.1 fits)
 
-pub spelled_more : (es : List Entry) (entry : Entry) (bytes rest after : List ℕ) → bytes ≡ flat_map entry_line es ++ rest → rest ≡ entry_line entry ++ after → bytes ≡ flat_map entry_line (es ++ entry ∷ []) ++ after
-spelled_more es entry bytes rest after a b =
-    a ∙ ap (λ (bs : List ℕ). flat_map entry_line es ++ bs) b ∙ sym (append_assoc (flat_map entry_line es) (entry_line entry) after)
-    ∙ ap (λ (bs : List ℕ). bs ++ after) (sym (flat_map-append entry_line es (entry ∷ []) ∙ ap (λ (bs : List ℕ). flat_map entry_line es ++ bs) (flat_map-cons entry_line entry [] ∙ append-nil (entry_line entry))))
+pub spelled_more : (entries : List Entry) (entry : Entry) (bytes rest after : List ℕ) → bytes ≡ flat_map entry_line entries ++ rest → rest ≡ entry_line entry ++ after → bytes ≡ flat_map entry_line (entries ++ entry ∷ []) ++ after
+spelled_more entries entry bytes rest after same b =
+    same ∙ ap (λ (bs : List ℕ). flat_map entry_line entries ++ bs) b ∙ sym (append_assoc (flat_map entry_line entries) (entry_line entry) after)
+    ∙ ap (λ (bs : List ℕ). bs ++ after) (sym (flat_map-append entry_line entries (entry ∷ []) ∙ ap (λ (bs : List ℕ). flat_map entry_line entries ++ bs) (flat_map-cons entry_line entry [] ∙ append-nil (entry_line entry))))
 
 -- entries with no other line behind them are the same
-pub entries_once : (version threads : ℕ) (xs ys : List Entry) (rest after : List ℕ) → threads < 2 ^ 64 → AllByRecursion (IsClaim version threads) xs → AllByRecursion (IsClaim version threads) ys → BeginsWithNoEntry version threads rest → BeginsWithNoEntry version threads after
-    → flat_map entry_line xs ++ rest ≡ flat_map entry_line ys ++ after → (xs ≡ ys) × (rest ≡ after)
-entries_once version threads [] [] rest after small all_xs all_ys p q e = (refl, e)
-entries_once version threads [] (y ∷ ys) rest after small all_xs all_ys p q e = absurd (p y (flat_map entry_line ys ++ after) all_ys.0 (e ∙ front y ys after))
-entries_once version threads (x ∷ xs) [] rest after small all_xs all_ys p q e = absurd (q x (flat_map entry_line xs ++ rest) all_xs.0 (sym e ∙ front x xs rest))
-entries_once version threads (x ∷ xs) (y ∷ ys) rest after small all_xs all_ys p q e =
-    let one : Entry × List ℕ = (x, flat_map entry_line xs ++ rest) in
-    let two : Entry × List ℕ = (y, flat_map entry_line ys ++ after) in
-    let same : one ≡ two = same_some one two (sym (entry_again version threads x (flat_map entry_line xs ++ rest) small all_xs.0) ∙ ap (entry_at version threads) (sym (front x xs rest) ∙ e ∙ front y ys after) ∙ entry_again version threads y (flat_map entry_line ys ++ after) small all_ys.0) in
-    let others = entries_once version threads xs ys rest after small all_xs.1 all_ys.1 p q (ap (λ (z : Entry × List ℕ). z.1) same) in
-    (ap (λ (z : Entry × List ℕ). z.0 ∷ xs) same ∙ ap (λ (zs : List Entry). y ∷ zs) others.0, others.1)
+pub entries_once : (version threads : ℕ) (entries other_entries : List Entry) (rest after : List ℕ) → threads < 2 ^ 64 → AllByRecursion (IsClaim version threads) entries → AllByRecursion (IsClaim version threads) other_entries → BeginsWithNoEntry version threads rest → BeginsWithNoEntry version threads after
+    → flat_map entry_line entries ++ rest ≡ flat_map entry_line other_entries ++ after → (entries ≡ other_entries) × (rest ≡ after)
+entries_once version threads [] [] rest after small all_xs all_ys begins_with_no_entry q same = (refl, same)
+entries_once version threads [] (entry ∷ entries) rest after small all_xs all_ys begins_with_no_entry q same = absurd (begins_with_no_entry entry (flat_map entry_line entries ++ after) all_ys.0 (same ∙ front entry entries after))
+entries_once version threads (entry ∷ entries) [] rest after small all_xs all_ys begins_with_no_entry q same = absurd (q entry (flat_map entry_line entries ++ rest) all_xs.0 (sym same ∙ front entry entries rest))
+entries_once version threads (entry ∷ entries) (other_entry ∷ other_entries) rest after small all_xs all_ys begins_with_no_entry q e =
+    let one : Entry × List ℕ = (entry, flat_map entry_line entries ++ rest) in
+    let two : Entry × List ℕ = (other_entry, flat_map entry_line other_entries ++ after) in
+    let same : one ≡ two = same_some one two (sym (entry_again version threads entry (flat_map entry_line entries ++ rest) small all_xs.0) ∙ ap (entry_at version threads) (sym (front entry entries rest) ∙ e ∙ front other_entry other_entries after) ∙ entry_again version threads other_entry (flat_map entry_line other_entries ++ after) small all_ys.0) in
+    let others = entries_once version threads entries other_entries rest after small all_xs.1 all_ys.1 begins_with_no_entry q (ap (λ (z : Entry × List ℕ). z.1) same) in
+    (ap (λ (z : Entry × List ℕ). z.0 ∷ entries) same ∙ ap (λ (zs : List Entry). other_entry ∷ zs) others.0, others.1)
 
 -- bytes are some entries, and something that begins with none
 pub record HasEntries (version threads : ℕ) (bytes : List ℕ) : Type 0 where

@@ -12,7 +12,7 @@ use Rattle.trace_text.proofs.CutLines.{behind_cut}
 
 -- a whole line that is none of an entry
 pub entry_wanted : (bytes line behind : List ℕ) → parts 10 bytes ≡ line ∷ parts 10 behind → EntryWanted ≡ wanted_at (parts 10 bytes)
-entry_wanted bytes line behind e = rw (e, cut_parts 10 behind) refl
+entry_wanted bytes line behind same = rw (same, cut_parts 10 behind) refl
 
 -- what is behind some entries is at the end of all bytes
 pub rest_of_claims : (bytes front behind body claimed rest : List ℕ) (entries : List Entry) → bytes ≡ front ++ behind → IsCutAt (codes "history") behind body claimed → claimed ≡ flat_map entry_line entries ++ rest → (before : List ℕ) × (bytes ≡ before ++ rest)

@@ -29,7 +29,7 @@ reference_word None = codes "-"
 reference_word (Some n) = name_word n
 
 abbrev pub reply_word : Reply → List ℕ
-reply_word (Ref n) = name_word n
+reply_word (Ref name) = name_word name
 reply_word Null = codes "-"
 reply_word Ok = codes "ok"
 reply_word Yes = codes "yes"
@@ -49,7 +49,7 @@ object_line row = line_of (codes "object" ∷ name_word row.name ∷ (map refere
 
 -- the words of 16 roots
 unfoldable pub root_spellings : (ℕ → Reference) → List (List ℕ)
-root_spellings root = map (λ i. reference_word (root i)) (range_with_len 0 16)
+root_spellings root = map (λ index. reference_word (root index)) (range_with_len 0 16)
 
 -- the roots of a thread
 abbrev pub roots_line : ℕ → (ℕ → Reference) → List ℕ
@@ -57,7 +57,7 @@ roots_line thread root = line_of (codes "roots" ∷ decimal thread ∷ root_spel
 
 -- the words of 4 pin slots
 unfoldable pub pin_spellings : (ℕ → Reference) → List (List ℕ)
-pin_spellings pin = map (λ i. reference_word (pin i)) (range_with_len 0 4)
+pin_spellings pin = map (λ slot. reference_word (pin slot)) (range_with_len 0 4)
 
 -- the pin slots of a thread
 abbrev pub pins_line : ℕ → (ℕ → Reference) → List ℕ
@@ -69,13 +69,13 @@ thread_numbers threads = range_with_len 1 threads
 
 -- the lines of the pin slots of so many threads: the answer to a trace of version 2 has them
 abbrev pub pins_text : (version threads : ℕ) (pin : ℕ → ℕ → Reference) → List ℕ
-pins_text version threads pin = if nat_lt version 2 then [] else flat_map (λ t. pins_line t (pin t)) (thread_numbers threads)
+pins_text version threads pin = if nat_lt version 2 then [] else flat_map (λ thread. pins_line thread (pin thread)) (thread_numbers threads)
 
 -- the answer of so many threads: the replies of each, the objects, the roots of each, and what is pinned
 abbrev pub answer_text : (version threads : ℕ) (replies : ℕ → List Reply) (rows : List Row) (root pin : ℕ → ℕ → Reference) → List ℕ
 answer_text version threads replies rows root pin =
     flat_map (λ t. flat_map (reply_line t) (replies t)) (thread_numbers threads)
-    ++ (line_of (codes "graph" ∷ []) ++ (flat_map object_line rows ++ (flat_map (λ t. roots_line t (root t)) (thread_numbers threads) ++ pins_text version threads pin)))
+    ++ (line_of (codes "graph" ∷ []) ++ (flat_map object_line rows ++ (flat_map (λ thread. roots_line thread (root thread)) (thread_numbers threads) ++ pins_text version threads pin)))
 
 -- the text of an answer in memory
 abbrev pub spelled_answer : Answer → List ℕ
@@ -87,4 +87,4 @@ pub record IsAnswerText (version threads : ℕ) (entries : List Entry) (out : Li
   pub names : List Name
   pub reach : IsReach (after (opening threads) entries) names
   pub text : out ≡ answer_text version threads (λ t. history.replies_of (of_thread entries t)) (map (row_in (after (opening threads) entries)) names)
-      (after (opening threads) entries).root (λ t slot. name_in ((after (opening threads) entries).pin t slot))
+      (after (opening threads) entries).root (λ thread slot. name_in ((after (opening threads) entries).pin thread slot))

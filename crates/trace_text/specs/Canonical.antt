@@ -21,7 +21,7 @@ lines_from thread (script ∷ scripts) = lines_of thread script ++ lines_from (t
 -- all items on one line, or no line where there is no item
 abbrev pub turns_of : List Item → List (List Item)
 turns_of [] = []
-turns_of (i ∷ items) = (i ∷ items) ∷ []
+turns_of (item ∷ items) = (item ∷ items) ∷ []
 
 -- the text of a trace of a version
 abbrev pub spelling_of : ℕ → Config → List (List Command) → List Item → List ℕ

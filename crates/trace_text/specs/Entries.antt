@@ -11,7 +11,7 @@ use Rattle.trace_text.specs.History.{entry_line}
 
 -- the numbers of a reply are no larger than they can be written
 abbrev pub FitsReply : Reply → Type 0
-FitsReply (Ref n) = (n.thread < 2 ^ 32) × (n.count < 2 ^ 32)
+FitsReply (Ref name) = (name.thread < 2 ^ 32) × (name.count < 2 ^ 32)
 FitsReply (Number n) = n < 2 ^ 64
 FitsReply (At place) = place < 2 ^ 64
 FitsReply _ = Unit {0}

@@ -38,7 +38,7 @@ TakesLine before text after = TakesCommand before text after ⊎ TakesItems befo
 
 -- the first cause that holds for the line there
 abbrev pub line_cause : Taken → List ℕ → Option Why
-line_cause t text = words_cause (body_stage t.version t.config t.scheduled) (parts space text)
+line_cause taken text = words_cause (body_stage taken.version taken.config taken.scheduled) (parts space text)
 
 -- a line of a command of a version, without its end
 abbrev pub IsCommandText : (version : ℕ) → Config → List ℕ → Type 0

@@ -25,13 +25,13 @@ queue_text count items sum = codes "queue " ++ (decimal count ++ (codes "\nitems
 -- what a line says
 abbrev pub message : Line → List ℕ
 message BadWords = codes "bad words"
-message (BadLine n why) = codes "bad line " ++ (decimal n ++ (codes ": " ++ text_of why))
+message (BadLine other_line why) = codes "bad line " ++ (decimal other_line ++ (codes ": " ++ text_of why))
 message TooLong = codes "too long: more than 16777216 bytes"
 message HeapTooSmall = codes "heap too small"
 message (Unfinished steps) = codes "unfinished after " ++ decimal steps ++ codes " steps"
 message ReadFault = codes "read fault"
 message NoMemory = codes "out of memory"
-message (Churn s) = summary_text s
+message (Churn summary) = summary_text summary
 message (Queue count items sum) = queue_text count items sum
 message Yes = codes "yes"
 message (NoEntry at) = codes "no: entry " ++ decimal at

@@ -32,7 +32,7 @@ pub record IsPair (bytes : List ℕ) (version : ℕ) (config : Config) (scripts 
   pub short : length bytes ≤ most_bytes
 
 -- two readings are of one trace, the same body and the same entries
-pub record IsSamePair (v : ℕ) (config : Config) (xs : List (List Command)) (is : List Item) (body : List ℕ) (es : List Entry) (w : ℕ) (other_config : Config) (ys : List (List Command)) (js : List Item) (other : List ℕ) (fs : List Entry) : Type 0 where
-  pub trace : IsSameTrace v config xs is w other_config ys js
+pub record IsSamePair (v : ℕ) (config : Config) (scripts : List (List Command)) (items : List Item) (body : List ℕ) (entries : List Entry) (w : ℕ) (other_config : Config) (other_scripts : List (List Command)) (other_items : List Item) (other : List ℕ) (other_entries : List Entry) : Type 0 where
+  pub trace : IsSameTrace v config scripts items w other_config other_scripts other_items
   pub text : body ≡ other
-  pub history : es ≡ fs
+  pub history : entries ≡ other_entries

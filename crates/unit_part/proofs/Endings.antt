@@ -20,13 +20,13 @@ abbrev IsWorked : UpdateSpot → Type 0
 IsWorked spot = spot ≡ Ended Worked
 
 -- of two spots by a test, where one is no end
-where_true : (holds : Bool) (x y : UpdateSpot) (P : Type 0) → (IsWorked y → ⊥) → (IsWorked x ↔ P) → (IsWorked (if holds then x else y) ↔ ((holds ≡ true) × P))
-where_true true x y P never is = ((λ end. (refl, is.0 end)), (λ both. is.1 both.1))
-where_true false x y P never is = ((λ end. absurd (never end)), (λ both. absurd (let no = both.0 in cc)))
+where_true : (holds : Bool) (spot other_spot : UpdateSpot) (P : Type 0) → (IsWorked other_spot → ⊥) → (IsWorked spot ↔ P) → (IsWorked (if holds then spot else other_spot) ↔ ((holds ≡ true) × P))
+where_true true spot other_spot P never is = ((λ end. (refl, is.0 end)), (λ both. is.1 both.1))
+where_true false spot other_spot P never is = ((λ end. absurd (never end)), (λ both. absurd (let no = both.0 in cc)))
 
-where_false : (holds : Bool) (x y : UpdateSpot) (P : Type 0) → (IsWorked x → ⊥) → (IsWorked y ↔ P) → (IsWorked (if holds then x else y) ↔ ((holds ≡ false) × P))
-where_false true x y P never is = ((λ end. absurd (never end)), (λ both. absurd (let no = both.0 in cc)))
-where_false false x y P never is = ((λ end. (refl, is.0 end)), (λ both. is.1 both.1))
+where_false : (holds : Bool) (spot other_spot : UpdateSpot) (P : Type 0) → (IsWorked spot → ⊥) → (IsWorked other_spot ↔ P) → (IsWorked (if holds then spot else other_spot) ↔ ((holds ≡ false) × P))
+where_false true spot other_spot P never is = ((λ end. absurd (never end)), (λ both. absurd (let no = both.0 in cc)))
+where_false false spot other_spot P never is = ((λ end. (refl, is.0 end)), (λ both. is.1 both.1))
 
 -- the test in other words
 by_words : (X A B P : Type 0) → (A → B) → (B → A) → (X ↔ (A × P)) → (X ↔ (B × P))
@@ -49,16 +49,16 @@ first_ends config walk address (Some words) = (
 )
 first_ends config walk address None = ((λ end. cc), (λ last. absurd (none-some last.0 last.1)))
 
-field_ends : (config : Config) (at : Visit) (field : ℕ) → IsWorked (next_field config at field) ↔ ((refs_in at.shape ≤ field) × IsLast config at)
-field_ends config at field = by_words _ _ _ _ (ltb-false field (refs_in at.shape)) (le-ltb _ _)
-    (where_false (nat_lt field (refs_in at.shape)) (LoadField at field) (next_object config at.walk (visit_end at)) (IsLast config at) (λ end. cc) (object_ends config at.walk (visit_end at)))
+field_ends : (config : Config) (visit : Visit) (field : ℕ) → IsWorked (next_field config visit field) ↔ ((refs_in visit.shape ≤ field) × IsLast config visit)
+field_ends config visit field = by_words _ _ _ _ (ltb-false field (refs_in visit.shape)) (le-ltb _ _)
+    (where_false (nat_lt field (refs_in visit.shape)) (LoadField visit field) (next_object config visit.walk (visit_end visit)) (IsLast config visit) (λ end. cc) (object_ends config visit.walk (visit_end visit)))
 
-shape_ends : (config : Config) (at : Visit) → IsWorked (after_shape config at) ↔ ((refs_in at.shape ≡ 0) × IsLast config at)
-shape_ends config at = by_words _ _ _ _ (eqb-true (refs_in at.shape) 0) (eq-eqb _ _)
-    (where_true (refs_in at.shape == 0) (next_object config at.walk (visit_end at)) (if nat_lt at.address (tams_of config at.walk) then LoadBlack at else LoadField at 0) (IsLast config at)
-    (goes_on (nat_lt at.address (tams_of config at.walk))) (object_ends config at.walk (visit_end at)))
+shape_ends : (config : Config) (visit : Visit) → IsWorked (after_shape config visit) ↔ ((refs_in visit.shape ≡ 0) × IsLast config visit)
+shape_ends config visit = by_words _ _ _ _ (eqb-true (refs_in visit.shape) 0) (eq-eqb _ _)
+    (where_true (refs_in visit.shape == 0) (next_object config visit.walk (visit_end visit)) (if nat_lt visit.address (tams_of config visit.walk) then LoadBlack visit else LoadField visit 0) (IsLast config visit)
+    (goes_on (nat_lt visit.address (tams_of config visit.walk))) (object_ends config visit.walk (visit_end visit)))
   where
-    goes_on : (holds : Bool) → IsWorked (if holds then LoadBlack at else LoadField at 0) → ⊥
+    goes_on : (holds : Bool) → IsWorked (if holds then LoadBlack visit else LoadField visit 0) → ⊥
     goes_on true end = cc
     goes_on false end = cc
 
@@ -72,9 +72,9 @@ limit_ends : (config : Config) (cset region got : ℕ) → IsWorked (next_at con
 limit_ends config cset region got = by_words_alone _ _ _ (eqb-true got 0) (eq-eqb _ _)
     (where_true (got == 0) (Ended Worked) (LoadTams region got) (Unit {0}) (λ end. cc) ended)
 
-black_ends : (config : Config) (cset : ℕ) (at : Visit) (got : ℕ) → IsWorked (next_at config cset (LoadBlack at) got) ↔ IsDoneAt config cset (LoadBlack at) got
-black_ends config cset at got = by_words _ _ _ _ (eqb-false (bit_at got (mark_bit config at.address)) 1) (ne_eqb _ _)
-    (where_false (bit_at got (mark_bit config at.address) == 1) (LoadField at 0) (next_object config at.walk (visit_end at)) (IsLast config at) (λ end. cc) (object_ends config at.walk (visit_end at)))
+black_ends : (config : Config) (cset : ℕ) (visit : Visit) (got : ℕ) → IsWorked (next_at config cset (LoadBlack visit) got) ↔ IsDoneAt config cset (LoadBlack visit) got
+black_ends config cset visit got = by_words _ _ _ _ (eqb-false (bit_at got (mark_bit config visit.address)) 1) (ne_eqb _ _)
+    (where_false (bit_at got (mark_bit config visit.address) == 1) (LoadField visit 0) (next_object config visit.walk (visit_end visit)) (IsLast config visit) (λ end. cc) (object_ends config visit.walk (visit_end visit)))
 
 no_unit : (holds : Bool) (got : ℕ) → IsWorked (if holds then ClaimUnit got else Ended NoneLeft) → ⊥
 no_unit true got end = cc
@@ -111,18 +111,18 @@ none_first : (config : Config) (walk : Walk) (address : ℕ) (filled : Option �
 none_first config walk address (Some words) end = none_object config walk (address + words) end
 none_first config walk address None end = cc
 
-none_field : (config : Config) (at : Visit) (field : ℕ) → SaysNone (next_field config at field) → ⊥
-none_field config at field = by_test (nat_lt field (refs_in at.shape))
+none_field : (config : Config) (visit : Visit) (field : ℕ) → SaysNone (next_field config visit field) → ⊥
+none_field config visit field = by_test (nat_lt field (refs_in visit.shape))
   where
-    by_test : (holds : Bool) → SaysNone (if holds then LoadField at field else next_object config at.walk (visit_end at)) → ⊥
+    by_test : (holds : Bool) → SaysNone (if holds then LoadField visit field else next_object config visit.walk (visit_end visit)) → ⊥
     by_test true end = cc
-    by_test false end = none_object config at.walk (visit_end at) end
+    by_test false end = none_object config visit.walk (visit_end visit) end
 
-none_shape : (config : Config) (at : Visit) → SaysNone (after_shape config at) → ⊥
-none_shape config at = by_tests (refs_in at.shape == 0) (nat_lt at.address (tams_of config at.walk))
+none_shape : (config : Config) (visit : Visit) → SaysNone (after_shape config visit) → ⊥
+none_shape config visit = by_tests (refs_in visit.shape == 0) (nat_lt visit.address (tams_of config visit.walk))
   where
-    by_tests : (holds other_holds : Bool) → SaysNone (if holds then next_object config at.walk (visit_end at) else (if other_holds then LoadBlack at else LoadField at 0)) → ⊥
-    by_tests true other_holds end = none_object config at.walk (visit_end at) end
+    by_tests : (holds other_holds : Bool) → SaysNone (if holds then next_object config visit.walk (visit_end visit) else (if other_holds then LoadBlack visit else LoadField visit 0)) → ⊥
+    by_tests true other_holds end = none_object config visit.walk (visit_end visit) end
     by_tests false true end = cc
     by_tests false false end = cc
 
@@ -135,13 +135,13 @@ none_limit : (region got : ℕ) (holds : Bool) → SaysNone (if holds then Ended
 none_limit region got true end = cc
 none_limit region got false end = cc
 
-none_black : (config : Config) (at : Visit) (holds : Bool) → SaysNone (if holds then LoadField at 0 else next_object config at.walk (visit_end at)) → ⊥
-none_black config at true end = cc
-none_black config at false end = none_object config at.walk (visit_end at) end
+none_black : (config : Config) (visit : Visit) (holds : Bool) → SaysNone (if holds then LoadField visit 0 else next_object config visit.walk (visit_end visit)) → ⊥
+none_black config visit true end = cc
+none_black config visit false end = none_object config visit.walk (visit_end visit) end
 
-none_else : (config : Config) (at : Visit) (field : ℕ) (spot : UpdateSpot) → (SaysNone spot → ⊥) → (holds : Bool) → SaysNone (if holds then spot else next_field config at field) → ⊥
-none_else config at field spot never true end = never end
-none_else config at field spot never false end = none_field config at field end
+none_else : (config : Config) (visit : Visit) (field : ℕ) (spot : UpdateSpot) → (SaysNone spot → ⊥) → (holds : Bool) → SaysNone (if holds then spot else next_field config visit field) → ⊥
+none_else config visit field spot never true end = never end
+none_else config visit field spot never false end = none_field config visit field end
 
 claim_none : (config : Config) (got : ℕ) (holds : Bool) → has_unit config got ≡ holds → SaysNone (if holds then ClaimUnit got else Ended NoneLeft) ↔ (config.regions ≤ got)
 claim_none config got true is = ((λ end. absurd (let differ = end in cc)), (λ most. absurd (let less = ltb-true got config.regions is in omega (arith, less, most))))

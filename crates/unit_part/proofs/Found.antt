@@ -31,13 +31,13 @@ is_unscanned grey black bit fits below unscanned =
 
 next_unscanned : (config : Config) (word grey black : ℕ) → grey < 2 ^ 64 → black < 2 ^ 64 → unscanned_in grey black ≢ 0
     → IsNextUnscanned config word grey black (lowest_address config word (unscanned_in grey black))
-next_unscanned config word grey black grey_fits black_fits some =
+next_unscanned config word grey black grey_fits black_fits positive =
     let fits : unscanned_in grey black < 2 ^ 64 = omega (arith, and_le_l grey (bit_not w64 black), grey_fits) in
-    let lowest = bit_at-trailing_zeros w64 (unscanned_in grey black) (omega (arith, some)) fits in
+    let lowest = bit_at-trailing_zeros w64 (unscanned_in grey black) (omega (arith, positive)) fits in
     let bit : mark_bit config (lowest_address config word (unscanned_in grey black)) ≡ trailing_zeros w64 (unscanned_in grey black) = bit_back config word (trailing_zeros w64 (unscanned_in grey black)) lowest.0 in
     record {
       in_word = word_back config word (trailing_zeros w64 (unscanned_in grey black)) lowest.0;
-      unscanned = subst (λ k. IsUnscanned grey black k) (sym bit) (unscanned_is grey black (trailing_zeros w64 (unscanned_in grey black)) black_fits lowest.0 lowest.1);
+      unscanned = subst (λ bit. IsUnscanned grey black bit) (sym bit) (unscanned_is grey black (trailing_zeros w64 (unscanned_in grey black)) black_fits lowest.0 lowest.1);
       none_lower = λ k below unscanned.
           let less : k < trailing_zeros w64 (unscanned_in grey black) = subst (λ n. k < n) bit below in
           let zero = lowest.2 k less in

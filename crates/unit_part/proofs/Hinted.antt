@@ -36,39 +36,39 @@ module _ (config : Config) where
   scan_works seat address = and_from _ _ (scan_ready address) (ap (λ b. if b then false else true) (scan_goes address))
 
   -- of a unit
-  pub hinted_ready : (hint : Option ℕ) (seat : ℕ) (at : UnitSpot) → is_ready config seat at ≡ true → is_ready config seat (hinted_by config hint at) ≡ true
-  hinted_ready None seat at ready = ready
+  pub hinted_ready : (hint : Option ℕ) (seat : ℕ) (spot : UnitSpot) → is_ready config seat spot ≡ true → is_ready config seat (hinted_by config hint spot) ≡ true
+  hinted_ready None seat spot ready = ready
   hinted_ready (Some address) seat (Scanning LoadClaim) ready = scan_works seat address
   hinted_ready (Some address) seat (Scanning (ClaimUnit k)) ready = ready
   hinted_ready (Some address) seat (Scanning (LoadGrey word)) ready = ready
   hinted_ready (Some address) seat (Scanning (LoadBlack word grey)) ready = ready
-  hinted_ready (Some address) seat (Scanning (SetBlack a)) ready = ready
-  hinted_ready (Some address) seat (Scanning (LoadShape a)) ready = ready
-  hinted_ready (Some address) seat (Scanning (LoadField a field refs)) ready = ready
-  hinted_ready (Some address) seat (Scanning (SetGrey a field refs found)) ready = ready
+  hinted_ready (Some address) seat (Scanning (SetBlack other_address)) ready = ready
+  hinted_ready (Some address) seat (Scanning (LoadShape other_address)) ready = ready
+  hinted_ready (Some address) seat (Scanning (LoadField other_address field refs)) ready = ready
+  hinted_ready (Some address) seat (Scanning (SetGrey other_address field refs found)) ready = ready
   hinted_ready (Some address) seat (Scanning (Ended which)) ready = ready
-  hinted_ready (Some address) seat (Evacuating cset at) ready = ready
-  hinted_ready (Some address) seat (Updating cset at) ready = ready
+  hinted_ready (Some address) seat (Evacuating cset spot) ready = ready
+  hinted_ready (Some address) seat (Updating cset spot) ready = ready
   hinted_ready (Some address) seat (unit.Ended which) ready = ready
 
   -- who takes no hints goes on as it is
-  pub hinted_not : (hint : Option ℕ) (at : UnitSpot) → takes_hint at ≡ false → hinted_by config hint at ≡ at
-  hinted_not None at none = refl
+  pub hinted_not : (hint : Option ℕ) (spot : UnitSpot) → takes_hint spot ≡ false → hinted_by config hint spot ≡ spot
+  hinted_not None spot none = refl
   hinted_not (Some address) (Scanning LoadClaim) none = absurd (cc (none))
   hinted_not (Some address) (Scanning (ClaimUnit k)) none = refl
   hinted_not (Some address) (Scanning (LoadGrey word)) none = refl
   hinted_not (Some address) (Scanning (LoadBlack word grey)) none = refl
-  hinted_not (Some address) (Scanning (SetBlack a)) none = refl
-  hinted_not (Some address) (Scanning (LoadShape a)) none = refl
-  hinted_not (Some address) (Scanning (LoadField a field refs)) none = refl
-  hinted_not (Some address) (Scanning (SetGrey a field refs found)) none = refl
+  hinted_not (Some address) (Scanning (SetBlack other_address)) none = refl
+  hinted_not (Some address) (Scanning (LoadShape other_address)) none = refl
+  hinted_not (Some address) (Scanning (LoadField other_address field refs)) none = refl
+  hinted_not (Some address) (Scanning (SetGrey other_address field refs found)) none = refl
   hinted_not (Some address) (Scanning (Ended which)) none = refl
-  hinted_not (Some address) (Evacuating cset at) none = refl
-  hinted_not (Some address) (Updating cset at) none = refl
+  hinted_not (Some address) (Evacuating cset spot) none = refl
+  hinted_not (Some address) (Updating cset spot) none = refl
   hinted_not (Some address) (unit.Ended which) none = refl
 
   -- a unit that goes on has not ended behind the hint
-  ended_same : (hint : Option ℕ) (at : UnitSpot) → is_ended (hinted_by config hint at) ≡ is_ended at
+  ended_same : (hint : Option ℕ) (spot : UnitSpot) → is_ended (hinted_by config hint spot) ≡ is_ended spot
   ended_same hint at = by_test (takes_hint at) refl
     where
       claims : (address : ℕ) (at : UnitSpot) → takes_hint at ≡ true → is_ended (hinted_by config (Some address) at) ≡ is_ended at
@@ -94,8 +94,8 @@ module _ (config : Config) where
       by_test false none = ap is_ended (hinted_not hint at none)
 
   -- so it is of who works on one
-  pub working : (hint : Option ℕ) (seat : ℕ) (at : UnitSpot) → (is_ready config seat at && (if is_ended at then false else true)) ≡ true
-      → (is_ready config seat (hinted_by config hint at) && (if is_ended (hinted_by config hint at) then false else true)) ≡ true
-  working hint seat at works =
+  pub working : (hint : Option ℕ) (seat : ℕ) (spot : UnitSpot) → (is_ready config seat spot && (if is_ended spot then false else true)) ≡ true
+      → (is_ready config seat (hinted_by config hint spot) && (if is_ended (hinted_by config hint spot) then false else true)) ≡ true
+  working hint seat spot works =
       let both = and_parts _ _ works in
-      and_from _ _ (hinted_ready hint seat at both.0) (ap (λ b. if b then false else true) (ended_same hint at) ∙ both.1)
+      and_from _ _ (hinted_ready hint seat spot both.0) (ap (λ b. if b then false else true) (ended_same hint spot) ∙ both.1)

@@ -1,7 +1,6 @@
 -- The accesses of a machine that works on a unit are of words of the table, and of the image, and it goes on to such accesses.
-use Rattle.std.proofs.Common.{◌≡◌, ℕ, ◌<◌, Bool, true, false, refl, sym, subst}
-use Rattle.std.specs.Prelude.{if◌then◌else◌}
-use Rattle.std.proofs.lemmas.Bool.{and_parts, and_from, false≢true}
+use Rattle.std.proofs.Common.{◌≡◌, ℕ, ◌<◌, true, refl, sym, subst}
+use Rattle.std.proofs.lemmas.Bool.{and_parts, and_from}
 use Rattle.heap_words.specs.declared.config.Config.{Config}
 use Rattle.heap_words.specs.Ranges.{seat_count}
 use Rattle.heap_words.specs.Words.{IsWord, is_image, word_at, table_words}
@@ -25,16 +24,11 @@ use Rattle.unit_part.specs.declared.spot.UnitSpot.TheVariants.{Scanning, Evacuat
 use Rattle.unit_part.specs.Rows.{touch_at, scanned, evacuated, updated}
 use Rattle.unit_part.specs.Ready.{is_ready, AccessesAreInside, StaysReady}
 
--- a part that goes on has not ended
-pub not_ended : (ended : Bool) → (if ended then false else true) ≡ true → ended ≡ false
-not_ended true goes = absurd (false≢true goes)
-not_ended false goes = refl
-
 -- each access of a unit is of a word of the table
-pub unit_inside : (config : Config) (seat : ℕ) (at : UnitSpot) → seat < seat_count config.mutators config.helpers → is_ready config seat at ≡ true → IsWord config (touch_at config seat at).word
-unit_inside config seat (Scanning at) seated ready = scan_inside config at (and_parts _ _ ready).0
-unit_inside config seat (Evacuating cset at) seated ready = evacuation_inside config seat at seated (and_parts _ _ ready).0
-unit_inside config seat (Updating cset at) seated ready = updating_inside config at (and_parts _ _ ready).0
+pub unit_inside : (config : Config) (seat : ℕ) (spot : UnitSpot) → seat < seat_count config.mutators config.helpers → is_ready config seat spot ≡ true → IsWord config (touch_at config seat spot).word
+unit_inside config seat (Scanning spot) seated ready = scan_inside config spot (and_parts _ _ ready).0
+unit_inside config seat (Evacuating cset spot) seated ready = evacuation_inside config seat spot seated (and_parts _ _ ready).0
+unit_inside config seat (Updating cset spot) seated ready = updating_inside config spot (and_parts _ _ ready).0
 unit_inside config seat (Ended unit) seated ready = tt
 
 pub accesses_inside : AccessesAreInside
@@ -42,27 +36,27 @@ accesses_inside c seat at seated ready = let t = touch_at c seat at in
     subst (λ k. k < table_words c) (sym (table_index-access_at (word_at c t.word) t.form)) (word_inside c t.word (unit_inside c seat at seated ready))
 
 -- and of words of the image alone
-pub unit_image : (config : Config) (seat : ℕ) (at : UnitSpot) → is_image (touch_at config seat at).word ≡ true
-unit_image config seat (Scanning at) = scan_image config at
-unit_image config seat (Evacuating cset at) = evacuation_image config seat at
-unit_image config seat (Updating cset at) = updating_image config at
+pub unit_image : (config : Config) (seat : ℕ) (spot : UnitSpot) → is_image (touch_at config seat spot).word ≡ true
+unit_image config seat (Scanning spot) = scan_image config spot
+unit_image config seat (Evacuating cset spot) = evacuation_image config seat spot
+unit_image config seat (Updating cset spot) = updating_image config spot
 unit_image config seat (Ended unit) = refl
 
 -- where the parts go on
-scans_on : (config : Config) (seat : ℕ) (at : ScanSpot) → scans.is_ready config at ≡ true → is_ready config seat (scanned at) ≡ true
+scans_on : (config : Config) (seat : ℕ) (spot : ScanSpot) → scans.is_ready config spot ≡ true → is_ready config seat (scanned spot) ≡ true
 scans_on config seat (scan.Ended unit) ready = refl
 scans_on config seat _ ready = and_from _ _ ready refl
 
-evacuates_on : (config : Config) (seat cset : ℕ) (at : EvacSpot) → evac_fit.is_ready config seat at ≡ true → is_ready config seat (evacuated cset at) ≡ true
+evacuates_on : (config : Config) (seat cset : ℕ) (spot : EvacSpot) → evac_fit.is_ready config seat spot ≡ true → is_ready config seat (evacuated cset spot) ≡ true
 evacuates_on config seat cset (evac.Ended unit) ready = refl
 evacuates_on config seat cset _ ready = and_from _ _ ready refl
 
-updates_on : (config : Config) (seat cset : ℕ) (at : UpdateSpot) → updates.is_ready config at ≡ true → is_ready config seat (updated cset at) ≡ true
+updates_on : (config : Config) (seat cset : ℕ) (spot : UpdateSpot) → updates.is_ready config spot ≡ true → is_ready config seat (updated cset spot) ≡ true
 updates_on config seat cset (update.Ended unit) ready = refl
 updates_on config seat cset _ ready = and_from _ _ ready refl
 
 pub stays_ready : StaysReady
-stays_ready c seat (Scanning at) got ready fit = scans_on c seat (scans.next_at c at got) fit
-stays_ready c seat (Evacuating cset at) got ready fit = evacuates_on c seat cset (evacs.next_at c cset at got) fit.0
-stays_ready c seat (Updating cset at) got ready fit = updates_on c seat cset (updates.next_at c cset at got) fit
+stays_ready c seat (Scanning spot) got ready fit = scans_on c seat (scans.next_at c spot got) fit
+stays_ready c seat (Evacuating cset spot) got ready fit = evacuates_on c seat cset (evacs.next_at c cset spot got) fit.0
+stays_ready c seat (Updating cset spot) got ready fit = updates_on c seat cset (updates.next_at c cset spot got) fit
 stays_ready c seat (Ended unit) got ready fit = refl

@@ -3,6 +3,7 @@ use Rattle.std.proofs.Common.{◌≡◌, ℕ, ◌+◌, ◌↔◌, Bool, true, fa
 use Rattle.std.specs.Prelude.{◌==◌, Option, Some, None, nat_lt, if◌then◌else◌}
 use Rattle.std.specs.Int.{bit_at}
 use Rattle.std.proofs.lemmas.Bool.{and_parts, ltb-false, le-ltb}
+use Rattle.shen_graph.proofs.Bools.{false_from_flip}
 use Rattle.heap_words.specs.declared.config.Config.{Config}
 use Rattle.heap_words.specs.declared.access.Unit.TheVariants.{Worked, NoneLeft}
 use Rattle.heap_words.specs.Encoding.{filler_words_in, refs_in, is_forwarded, forwardee_in}
@@ -28,7 +29,6 @@ use Rattle.unit_part.specs.declared.spot.UnitSpot.TheVariants.{Scanning, Evacuat
 use Rattle.unit_part.specs.Rows.{begins, scanned, evacuated, updated, next_at}
 use Rattle.unit_part.specs.Ready.{is_ready}
 use Rattle.unit_part.specs.Ends.{HasNoneLeft}
-use Rattle.unit_part.proofs.Inside.{not_ended}
 
 -- a choice by a test
 pub by_test : {A : Type 0} (P : A → Type 0) (holds : Bool) (x y : A) → (holds ≡ true → P x) → (holds ≡ false → P y) → P (if holds then x else y)
@@ -48,13 +48,13 @@ begins_ready config seat phase cset = by_phase (λ at. is_ready config seat at �
 
 -- none is left there, for the three parts
 abbrev IsScanLeft : ScanSpot → Type 0
-IsScanLeft at = at ≡ scan.Ended NoneLeft
+IsScanLeft spot = spot ≡ scan.Ended NoneLeft
 
 abbrev IsEvacLeft : EvacSpot → Type 0
-IsEvacLeft at = at ≡ evac.Ended NoneLeft
+IsEvacLeft spot = spot ≡ evac.Ended NoneLeft
 
 abbrev IsUpdateLeft : UpdateSpot → Type 0
-IsUpdateLeft at = at ≡ update.Ended NoneLeft
+IsUpdateLeft spot = spot ≡ update.Ended NoneLeft
 
 -- a spot at which this is never so
 never : {A : Type 0} {x y : A} → (x ≡ y → ⊥) → (x ≡ y) ↔ ⊥
@@ -73,7 +73,7 @@ module _ (config : Config) where
   not_reference : (address field refs : ℕ) → IsScanLeft (scans.next_reference config address field refs) → ⊥
   not_reference address field refs = by_test (λ at. IsScanLeft at → ⊥) (nat_lt field refs) (scan.LoadField address field refs) (scan.LoadGrey (mark_word config address)) (λ on is. cc) (λ off is. cc)
 
-  scan_left : (at : ScanSpot) (got : ℕ) → scans.is_ended at ≡ false → IsScanLeft (scans.next_at config at got) ↔ scan_ends.HasNoneLeft config at got
+  scan_left : (spot : ScanSpot) (got : ℕ) → scans.is_ended spot ≡ false → IsScanLeft (scans.next_at config spot got) ↔ scan_ends.HasNoneLeft config spot got
   scan_left scan.LoadClaim got going = where_fails (scans.has_unit config got) (scan.ClaimUnit got) (scan.Ended NoneLeft) _ (ltb-false got (scans.unit_limit config)) (le-ltb _ _) (λ is. cc)
   scan_left (scan.ClaimUnit unit) got going = never (by_test (λ at. IsScanLeft at → ⊥) (got == unit) _ scan.LoadClaim (λ on is. cc) (λ off is. cc))
   scan_left (scan.LoadGrey word) got going = never (λ is. cc)
@@ -94,7 +94,7 @@ module _ (config : Config) where
   not_words address end (Some words) = not_walk (address + words) end
   not_words address end None = λ is. cc
 
-  not_resolved : (cset address end next : ℕ) (at : ResolveSpot) → IsEvacLeft (evacs.after_resolve config cset address end next at) → ⊥
+  not_resolved : (cset address end next : ℕ) (spot : ResolveSpot) → IsEvacLeft (evacs.after_resolve config cset address end next spot) → ⊥
   not_resolved cset address end next (resolve.Resolved answer) =
       by_test (λ at. IsEvacLeft at → ⊥) (evacs.lies_in_set config cset answer) (evac.Ended Worked) (evacs.walk_on next end) (λ on is. cc) (λ off. not_walk next end)
   not_resolved cset address end next _ = λ is. cc
@@ -102,7 +102,7 @@ module _ (config : Config) where
   not_claimed : (cset unit : ℕ) → IsEvacLeft (evacs.after_claim cset unit) → ⊥
   not_claimed cset unit = by_test (λ at. IsEvacLeft at → ⊥) (evacs.is_in_set cset unit) (evac.LoadTop unit) (evac.Ended Worked) (λ on is. cc) (λ off is. cc)
 
-  pub evac_left : (cset : ℕ) (at : EvacSpot) (got : ℕ) → evacs.is_ended at ≡ false → IsEvacLeft (evacs.next_at config cset at got) ↔ evac_ends.HasNoneLeft config at got
+  pub evac_left : (cset : ℕ) (spot : EvacSpot) (got : ℕ) → evacs.is_ended spot ≡ false → IsEvacLeft (evacs.next_at config cset spot got) ↔ evac_ends.HasNoneLeft config spot got
   evac_left cset evac.LoadClaim got going = where_fails (nat_lt got config.regions) (evac.ClaimUnit got) (evac.Ended NoneLeft) _ (ltb-false got config.regions) (le-ltb _ _) (λ is. cc)
   evac_left cset (evac.ClaimUnit unit) got going = never (by_test (λ at. IsEvacLeft at → ⊥) (got == unit) (evacs.after_claim cset unit) evac.LoadClaim (λ on. not_claimed cset unit) (λ off is. cc))
   evac_left cset (evac.LoadTop region) got going = never (not_walk _ _)
@@ -110,7 +110,7 @@ module _ (config : Config) where
   evac_left cset (evac.LoadShape address end) got going = never (λ is. cc)
   evac_left cset (evac.LoadMark address end next) got going =
       never (by_test (λ at. IsEvacLeft at → ⊥) (bit_at got (mark_bit config address) == 1) (evac.Resolving address end next resolve.LoadHeader) (evacs.walk_on next end) (λ on is. cc) (λ off. not_walk next end))
-  evac_left cset (evac.Resolving address end next at) got going = never (not_resolved cset address end next _)
+  evac_left cset (evac.Resolving address end next spot) got going = never (not_resolved cset address end next _)
   evac_left cset (evac.Ended unit) got going = absurd (cc (going))
 
   -- of an updating
@@ -121,20 +121,20 @@ module _ (config : Config) where
   not_filled walk address (Some words) = not_object walk (address + words)
   not_filled walk address None = λ is. cc
 
-  not_field : (at : Visit) (field : ℕ) → IsUpdateLeft (updates.next_field config at field) → ⊥
-  not_field at field =
-      by_test (λ spot. IsUpdateLeft spot → ⊥) (nat_lt field (refs_in at.shape)) (update.LoadField at field) (updates.next_object config at.walk (updates.visit_end at)) (λ on is. cc) (λ off. not_object at.walk (updates.visit_end at))
+  not_field : (visit : Visit) (field : ℕ) → IsUpdateLeft (updates.next_field config visit field) → ⊥
+  not_field visit field =
+      by_test (λ spot. IsUpdateLeft spot → ⊥) (nat_lt field (refs_in visit.shape)) (update.LoadField visit field) (updates.next_object config visit.walk (updates.visit_end visit)) (λ on is. cc) (λ off. not_object visit.walk (updates.visit_end visit))
 
-  not_shape : (at : Visit) → IsUpdateLeft (updates.after_shape config at) → ⊥
-  not_shape at =
-      by_test (λ spot. IsUpdateLeft spot → ⊥) (refs_in at.shape == 0) (updates.next_object config at.walk (updates.visit_end at)) (if nat_lt at.address (updates.tams_of config at.walk) then update.LoadBlack at else update.LoadField at 0)
-      (λ on. not_object at.walk (updates.visit_end at))
-      (λ off. by_test (λ spot. IsUpdateLeft spot → ⊥) (nat_lt at.address (updates.tams_of config at.walk)) (update.LoadBlack at) (update.LoadField at 0) (λ low is. cc) (λ high is. cc))
+  not_shape : (visit : Visit) → IsUpdateLeft (updates.after_shape config visit) → ⊥
+  not_shape visit =
+      by_test (λ spot. IsUpdateLeft spot → ⊥) (refs_in visit.shape == 0) (updates.next_object config visit.walk (updates.visit_end visit)) (if nat_lt visit.address (updates.tams_of config visit.walk) then update.LoadBlack visit else update.LoadField visit 0)
+      (λ on. not_object visit.walk (updates.visit_end visit))
+      (λ off. by_test (λ spot. IsUpdateLeft spot → ⊥) (nat_lt visit.address (updates.tams_of config visit.walk)) (update.LoadBlack visit) (update.LoadField visit 0) (λ low is. cc) (λ high is. cc))
 
   not_in_set : (cset unit : ℕ) → IsUpdateLeft (if bit_at cset unit == 1 then update.Ended Worked else update.LoadLimit unit) → ⊥
   not_in_set cset unit = by_test (λ at. IsUpdateLeft at → ⊥) (bit_at cset unit == 1) (update.Ended Worked) (update.LoadLimit unit) (λ on is. cc) (λ off is. cc)
 
-  pub update_left : (cset : ℕ) (at : UpdateSpot) (got : ℕ) → updates.is_ended at ≡ false → IsUpdateLeft (updates.next_at config cset at got) ↔ update_ends.HasNoneLeft config at got
+  pub update_left : (cset : ℕ) (spot : UpdateSpot) (got : ℕ) → updates.is_ended spot ≡ false → IsUpdateLeft (updates.next_at config cset spot got) ↔ update_ends.HasNoneLeft config spot got
   update_left cset update.LoadClaim got going = where_fails (updates.has_unit config got) (update.ClaimUnit got) (update.Ended NoneLeft) _ (ltb-false got config.regions) (le-ltb _ _) (λ is. cc)
   update_left cset (update.ClaimUnit unit) got going =
       never (by_test (λ at. IsUpdateLeft at → ⊥) (got == unit) (if bit_at cset unit == 1 then update.Ended Worked else update.LoadLimit unit) update.LoadClaim (λ on. not_in_set cset unit) (λ off is. cc))
@@ -152,17 +152,17 @@ module _ (config : Config) where
   update_left cset (update.Ended unit) got going = absurd (cc (going))
 
 -- the unit ends so where its part does
-scan_same : (at : ScanSpot) → (scanned at ≡ Ended NoneLeft) ↔ IsScanLeft at
+scan_same : (spot : ScanSpot) → (scanned spot ≡ Ended NoneLeft) ↔ IsScanLeft spot
 scan_same (scan.Ended Worked) = (λ is. cc, λ is. cc)
 scan_same (scan.Ended NoneLeft) = (λ is. refl, λ is. refl)
 scan_same _ = (λ is. cc, λ is. cc)
 
-evac_same : (cset : ℕ) (at : EvacSpot) → (evacuated cset at ≡ Ended NoneLeft) ↔ IsEvacLeft at
+evac_same : (cset : ℕ) (spot : EvacSpot) → (evacuated cset spot ≡ Ended NoneLeft) ↔ IsEvacLeft spot
 evac_same cset (evac.Ended Worked) = (λ is. cc, λ is. cc)
 evac_same cset (evac.Ended NoneLeft) = (λ is. refl, λ is. refl)
 evac_same cset _ = (λ is. cc, λ is. cc)
 
-update_same : (cset : ℕ) (at : UpdateSpot) → (updated cset at ≡ Ended NoneLeft) ↔ IsUpdateLeft at
+update_same : (cset : ℕ) (spot : UpdateSpot) → (updated cset spot ≡ Ended NoneLeft) ↔ IsUpdateLeft spot
 update_same cset (update.Ended Worked) = (λ is. cc, λ is. cc)
 update_same cset (update.Ended NoneLeft) = (λ is. refl, λ is. refl)
 update_same cset _ = (λ is. cc, λ is. cc)
@@ -171,8 +171,8 @@ chain : {A B C : Type 0} → (A ↔ B) → (B ↔ C) → A ↔ C
 chain first second = (λ a. second.0 (first.0 a), λ x. first.1 (second.1 x))
 
 -- a unit says that none was left exactly by these words
-pub none_left : (config : Config) (seat : ℕ) (at : UnitSpot) (got : ℕ) → is_ready config seat at ≡ true → (at ≡ Ended NoneLeft → ⊥) → (next_at config at got ≡ Ended NoneLeft) ↔ HasNoneLeft config at got
-none_left config seat (Scanning at) got ready going = chain (scan_same _) (scan_left config at got (not_ended (scans.is_ended at) (and_parts _ _ ready).1))
-none_left config seat (Evacuating cset at) got ready going = chain (evac_same cset _) (evac_left config cset at got (not_ended (evacs.is_ended at) (and_parts _ _ ready).1))
-none_left config seat (Updating cset at) got ready going = chain (update_same cset _) (update_left config cset at got (not_ended (updates.is_ended at) (and_parts _ _ ready).1))
+pub none_left : (config : Config) (seat : ℕ) (spot : UnitSpot) (got : ℕ) → is_ready config seat spot ≡ true → (spot ≡ Ended NoneLeft → ⊥) → (next_at config spot got ≡ Ended NoneLeft) ↔ HasNoneLeft config spot got
+none_left config seat (Scanning spot) got ready going = chain (scan_same _) (scan_left config spot got (false_from_flip (scans.is_ended spot) (and_parts _ _ ready).1))
+none_left config seat (Evacuating cset spot) got ready going = chain (evac_same cset _) (evac_left config cset spot got (false_from_flip (evacs.is_ended spot) (and_parts _ _ ready).1))
+none_left config seat (Updating cset spot) got ready going = chain (update_same cset _) (update_left config cset spot got (false_from_flip (updates.is_ended spot) (and_parts _ _ ready).1))
 none_left config seat (Ended unit) got ready going = (λ is. absurd (going is), λ no. absurd no)

@@ -10,7 +10,7 @@ use Rattle.unit_part.specs.declared.scan_spot.ScanSpot.TheVariants.{LoadClaim, C
 use Rattle.unit_part.specs.ScanRows.{touch_at, is_ready}
 
 -- each access of a scan is of a word of the table
-pub scan_inside : (config : Config) (at : ScanSpot) → is_ready config at ≡ true → IsWord config (touch_at config at).word
+pub scan_inside : (config : Config) (spot : ScanSpot) → is_ready config spot ≡ true → IsWord config (touch_at config spot).word
 scan_inside config LoadClaim ready = tt
 scan_inside config (ClaimUnit unit) ready = tt
 scan_inside config (LoadGrey word) ready = ltb-true _ _ ready
@@ -22,7 +22,7 @@ scan_inside config (SetGrey address field refs found) ready = let heap : IsWord 
 scan_inside config (Ended unit) ready = tt
 
 -- and of words of the image alone
-pub scan_image : (config : Config) (at : ScanSpot) → is_image (touch_at config at).word ≡ true
+pub scan_image : (config : Config) (spot : ScanSpot) → is_image (touch_at config spot).word ≡ true
 scan_image config LoadClaim = refl
 scan_image config (ClaimUnit unit) = refl
 scan_image config (LoadGrey word) = refl

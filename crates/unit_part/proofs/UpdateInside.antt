@@ -15,18 +15,18 @@ heap_there : (config : Config) (address : ℕ) → is_word config (Heap address)
 heap_there config address is = is_word_true config (Heap address) is
 
 -- an object's address is one of the heap, and so is that of each of its references
-object_inside : (config : Config) (at : Visit) → visit_fits config at ≡ true → IsWord config (Heap at.address)
-object_inside config at fits = heap_there config at.address (and_parts _ _ (and_parts (walk_fits config at.walk) _ fits).1).0
+object_inside : (config : Config) (visit : Visit) → visit_fits config visit ≡ true → IsWord config (Heap visit.address)
+object_inside config visit fits = heap_there config visit.address (and_parts _ _ (and_parts (walk_fits config visit.walk) _ fits).1).0
 
-field_inside : (config : Config) (at : Visit) (field : ℕ) → has_field config at field ≡ true → IsWord config (Heap (at.address + 3 + field))
-field_inside config at field has =
-    let parts = and_parts (visit_fits config at) _ has in
-    let low = object_inside config at parts.0 in
-    let high = heap_there config (at.address + 2 + refs_in at.shape) (and_parts _ _ (and_parts (walk_fits config at.walk) _ parts.0).1).1 in
-    let below : field < refs_in at.shape = ltb-true _ _ parts.1 in (omega (arith, low.0), omega (arith, high.1, below))
+field_inside : (config : Config) (visit : Visit) (field : ℕ) → has_field config visit field ≡ true → IsWord config (Heap (visit.address + 3 + field))
+field_inside config visit field has =
+    let parts = and_parts (visit_fits config visit) _ has in
+    let low = object_inside config visit parts.0 in
+    let high = heap_there config (visit.address + 2 + refs_in visit.shape) (and_parts _ _ (and_parts (walk_fits config visit.walk) _ parts.0).1).1 in
+    let below : field < refs_in visit.shape = ltb-true _ _ parts.1 in (omega (arith, low.0), omega (arith, high.1, below))
 
 -- each access of updating is of a word of the table
-pub updating_inside : (config : Config) (at : UpdateSpot) → is_ready config at ≡ true → IsWord config (touch_at config at).word
+pub updating_inside : (config : Config) (spot : UpdateSpot) → is_ready config spot ≡ true → IsWord config (touch_at config spot).word
 updating_inside config LoadClaim ready = tt
 updating_inside config (ClaimUnit unit) ready = tt
 updating_inside config (LoadLimit region) ready = ltb-true _ _ ready
@@ -40,7 +40,7 @@ updating_inside config (ExchangeField at field found copy) ready = field_inside 
 updating_inside config (Ended unit) ready = tt
 
 -- and of words of the image alone
-pub updating_image : (config : Config) (at : UpdateSpot) → is_image (touch_at config at).word ≡ true
+pub updating_image : (config : Config) (spot : UpdateSpot) → is_image (touch_at config spot).word ≡ true
 updating_image config LoadClaim = refl
 updating_image config (ClaimUnit unit) = refl
 updating_image config (LoadLimit region) = refl

@@ -10,14 +10,14 @@ use Rattle.unit_part.specs.declared.spot.UnitSpot.TheVariants.{Scanning, Evacuat
 -- It waits where scanning, evacuating or updating does: at KX the claim word is not the one that was loaded, and where it resolves an
 -- address it waits as the resolving does.
 abbrev pub WaitsAt : UnitSpot → ℕ → Type 0
-WaitsAt (Scanning at) got = scans.WaitsAt at got
-WaitsAt (Evacuating cset at) got = evacs.WaitsAt at got
-WaitsAt (Updating cset at) got = updates.WaitsAt at got
+WaitsAt (Scanning spot) got = scans.WaitsAt spot got
+WaitsAt (Evacuating cset spot) got = evacs.WaitsAt spot got
+WaitsAt (Updating cset spot) got = updates.WaitsAt spot got
 WaitsAt _ got = ⊥
 
 -- At MC, EC and UC no unit is left: the claim word is at or past the number of units.
 abbrev pub HasNoneLeft : Config → UnitSpot → ℕ → Type 0
-HasNoneLeft config (Scanning at) got = scans.HasNoneLeft config at got
-HasNoneLeft config (Evacuating cset at) got = evacs.HasNoneLeft config at got
-HasNoneLeft config (Updating cset at) got = updates.HasNoneLeft config at got
+HasNoneLeft config (Scanning spot) got = scans.HasNoneLeft config spot got
+HasNoneLeft config (Evacuating cset spot) got = evacs.HasNoneLeft config spot got
+HasNoneLeft config (Updating cset spot) got = updates.HasNoneLeft config spot got
 HasNoneLeft config _ got = ⊥

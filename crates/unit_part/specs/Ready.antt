@@ -18,16 +18,16 @@ use Rattle.unit_part.specs.Rows.{touch_at, next_at}
 -- whether the numbers of a spot are in range, for the machine of a seat: the work on the unit has not ended, and its next access can be
 -- made
 abbrev pub is_ready : Config → ℕ → UnitSpot → Bool
-is_ready config seat (Scanning at) = scans.is_ready config at && (if scans.is_ended at then false else true)
-is_ready config seat (Evacuating cset at) = evac.is_ready config seat at && (if evacs.is_ended at then false else true)
-is_ready config seat (Updating cset at) = updates.is_ready config at && (if updates.is_ended at then false else true)
+is_ready config seat (Scanning spot) = scans.is_ready config spot && (if scans.is_ended spot then false else true)
+is_ready config seat (Evacuating cset spot) = evac.is_ready config seat spot && (if evacs.is_ended spot then false else true)
+is_ready config seat (Updating cset spot) = updates.is_ready config spot && (if updates.is_ended spot then false else true)
 is_ready config seat _ = true
 
 -- the word is fit: the work on the unit can go on from it
 abbrev pub IsFit : Config → ℕ → UnitSpot → ℕ → Type 0
-IsFit config seat (Scanning at) got = scan.IsFit config at got
-IsFit config seat (Evacuating cset at) got = evac.IsFit config seat cset at got
-IsFit config seat (Updating cset at) got = update.IsFit config cset at got
+IsFit config seat (Scanning spot) got = scan.IsFit config spot got
+IsFit config seat (Evacuating cset spot) got = evac.IsFit config seat cset spot got
+IsFit config seat (Updating cset spot) got = update.IsFit config cset spot got
 IsFit config seat _ got = ⊤
 
 -- a machine of a seat that can make its access makes it to a word of the table

@@ -33,49 +33,49 @@ takes_hint _ = false
 
 -- from where it goes on with a hint, if it has one: who takes hints scans the word of the hint's address, and claims no unit
 abbrev pub hinted_by : Config → Option ℕ → UnitSpot → UnitSpot
-hinted_by config None at = at
+hinted_by config None spot = spot
 hinted_by config (Some address) (Scanning scan.LoadClaim) = Scanning (scans.hinted config address)
-hinted_by config (Some address) at = at
+hinted_by config (Some address) spot = spot
 
 -- the address that the next access makes grey, if it does so
 abbrev pub greys_at : UnitSpot → Option ℕ
-greys_at (Scanning at) = scans.greys_at at
+greys_at (Scanning spot) = scans.greys_at spot
 greys_at _ = None
 
 -- the place of the next access. There is none at the end, where it is named as that of the claim
 abbrev pub place_at : UnitSpot → Place
-place_at (Scanning at) = scans.place_at at
-place_at (Evacuating cset at) = evacs.place_at at
-place_at (Updating cset at) = updates.place_at at
+place_at (Scanning spot) = scans.place_at spot
+place_at (Evacuating cset spot) = evacs.place_at spot
+place_at (Updating cset spot) = updates.place_at spot
 place_at (Ended unit) = KX
 
 -- the next access, of the machine of a seat
 abbrev pub touch_at : Config → ℕ → UnitSpot → Touch
-touch_at config seat (Scanning at) = scans.touch_at config at
-touch_at config seat (Evacuating cset at) = evacs.touch_at config seat at
-touch_at config seat (Updating cset at) = updates.touch_at config at
+touch_at config seat (Scanning spot) = scans.touch_at config spot
+touch_at config seat (Evacuating cset spot) = evacs.touch_at config seat spot
+touch_at config seat (Updating cset spot) = updates.touch_at config spot
 touch_at config seat (Ended unit) = touch Claim loads
 
 -- where it stands that scans: the unit ends with the scan
 abbrev pub scanned : ScanSpot → UnitSpot
 scanned (scan.Ended unit) = Ended unit
-scanned at = Scanning at
+scanned spot = Scanning spot
 
 -- and where it stands that evacuates a collection set
 abbrev pub evacuated : ℕ → EvacSpot → UnitSpot
 evacuated cset (evac.Ended unit) = Ended unit
-evacuated cset at = Evacuating cset at
+evacuated cset spot = Evacuating cset spot
 
 -- and where it stands that updates references into a collection set
 abbrev pub updated : ℕ → UpdateSpot → UnitSpot
 updated cset (update.Ended unit) = Ended unit
-updated cset at = Updating cset at
+updated cset spot = Updating cset spot
 
 -- what follows, by the word that was found
 abbrev pub next_at : Config → UnitSpot → ℕ → UnitSpot
-next_at config (Scanning at) got = scanned (scans.next_at config at got)
-next_at config (Evacuating cset at) got = evacuated cset (evacs.next_at config cset at got)
-next_at config (Updating cset at) got = updated cset (updates.next_at config cset at got)
+next_at config (Scanning spot) got = scanned (scans.next_at config spot got)
+next_at config (Evacuating cset spot) got = evacuated cset (evacs.next_at config cset spot got)
+next_at config (Updating cset spot) got = updated cset (updates.next_at config cset spot got)
 next_at config (Ended unit) got = Ended unit
 
 -- whether the unit is done, or none was left
@@ -85,7 +85,7 @@ is_ended _ = false
 
 -- what the step says: again where another machine was faster or it waits, and done at the end
 abbrev pub says_at : Config → UnitSpot → ℕ → Took
-says_at config (Scanning at) got = scans.says_at config at got
-says_at config (Evacuating cset at) got = evacs.says_at config cset at got
-says_at config (Updating cset at) got = updates.says_at config cset at got
+says_at config (Scanning spot) got = scans.says_at config spot got
+says_at config (Evacuating cset spot) got = evacs.says_at config cset spot got
+says_at config (Updating cset spot) got = updates.says_at config cset spot got
 says_at config (Ended unit) got = Done

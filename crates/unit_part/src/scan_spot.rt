@@ -128,16 +128,10 @@ impl ScanSpot {
         ensures inside { table_index result < table_words config }
     {
         match self {
-            ScanSpot::LoadClaim => Access::Load {
-                at: config.claim_at(),
-            },
+            ScanSpot::LoadClaim => Access::load(config.claim_at()),
             ScanSpot::ClaimUnit { unit } => claim_access(config, unit),
-            ScanSpot::LoadGrey { word } => Access::Load {
-                at: config.grey_at(word),
-            },
-            ScanSpot::LoadBlack { word, .. } => Access::Load {
-                at: config.black_at(word),
-            },
+            ScanSpot::LoadGrey { word } => Access::load(config.grey_at(word)),
+            ScanSpot::LoadBlack { word, .. } => Access::load(config.black_at(word)),
             ScanSpot::SetBlack { address } => black_access(config, address),
             ScanSpot::LoadShape { address } => load_of_object(config, address, 1),
             ScanSpot::LoadField { address, field, .. } => load_of_object(
@@ -232,11 +226,7 @@ fn claim_access(config: Config, unit: u64) -> Access
     ensures inside { table_index result < table_words config }
 {
     // keeps KeepsFields: the word of the claims only grows
-    Access::Exchange {
-        at: config.claim_at(),
-        expect: unit,
-        value: unit + 1,
-    }
+    Access::exchange(config.claim_at(), unit, unit + 1)
 }
 
 // The load of a word of an object, counted from 0.
@@ -245,9 +235,7 @@ fn load_of_object(config: Config, address: u64, index: u64) -> Access
     ensures row { result ≡ Access.Load (word_at config (Heap (address + index))) }
     ensures inside { table_index result < table_words config }
 {
-    Access::Load {
-        at: config.heap_at(address + index),
-    }
+    Access::load(config.heap_at(address + index))
 }
 
 // What follows the loads of a word of bits: the lowest address that is grey and not black, if there is one.

@@ -146,21 +146,15 @@ impl UpdateSpot {
         ensures inside { table_index result < table_words config }
     {
         match self {
-            UpdateSpot::LoadClaim => Access::Load {
-                at: config.claim_at(),
-            },
+            UpdateSpot::LoadClaim => Access::load(config.claim_at()),
             UpdateSpot::ClaimUnit { unit } => claim_access(config, unit),
-            UpdateSpot::LoadLimit { region } => Access::Load {
-                at: config.limit_at(region),
-            },
-            UpdateSpot::LoadTams { region, .. } => Access::Load {
-                at: config.tams_at(region),
-            },
+            UpdateSpot::LoadLimit { region } => Access::load(config.limit_at(region)),
+            UpdateSpot::LoadTams { region, .. } => Access::load(config.tams_at(region)),
             UpdateSpot::LoadFirst { address, .. } => load_of_heap(config, address),
             UpdateSpot::LoadShape { address, .. } => load_of_heap(config, address + 1),
-            UpdateSpot::LoadBlack { at } => Access::Load {
-                at: config.black_at(mark_word(config, at.address)),
-            },
+            UpdateSpot::LoadBlack { at } => Access::load(config.black_at(mark_word(
+                config, at.address,
+            ))),
             UpdateSpot::LoadField { at, field } => load_of_heap(config, at.address + 3 + field),
             UpdateSpot::LoadHeader { found, .. } => load_of_heap(config, found),
             UpdateSpot::ExchangeField {
@@ -233,11 +227,7 @@ fn claim_access(config: Config, unit: u64) -> Access
     ensures inside { table_index result < table_words config }
 {
     // keeps IsUpdating.renewed and KeepsFields
-    Access::Exchange {
-        at: config.claim_at(),
-        expect: unit,
-        value: unit + 1,
-    }
+    Access::exchange(config.claim_at(), unit, unit + 1)
 }
 
 // The load of a word of the heap.
@@ -246,9 +236,7 @@ fn load_of_heap(config: Config, address: u64) -> Access
     ensures row { result ≡ Access.Load (word_at config (Heap address)) }
     ensures inside { table_index result < table_words config }
 {
-    Access::Load {
-        at: config.heap_at(address),
-    }
+    Access::load(config.heap_at(address))
 }
 
 // The exchange of a word of the heap.
@@ -258,11 +246,7 @@ fn exchange_of_heap(config: Config, address: u64, expect: u64, value: u64) -> Ac
     ensures inside { table_index result < table_words config }
 {
     // keeps AreObjects, IsUpdating.renewed, KeepsFields and HasFound.still
-    Access::Exchange {
-        at: config.heap_at(address),
-        expect,
-        value,
-    }
+    Access::exchange(config.heap_at(address), expect, value)
 }
 
 // What follows the load of the claim word.

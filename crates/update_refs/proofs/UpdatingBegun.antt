@@ -16,14 +16,14 @@ use Rattle.update_refs.specs.Steps.{limit_in, limited, update_started}
 module _ (config : Config) where
   -- no limit is noted yet
   none_limited_at : (memory : Word → ℕ) (word : Word) → memory word ≡ limited config 0 memory word
-  none_limited_at memory (Limit r) = none_yet (limit_in config memory r) (memory (Limit r))
+  none_limited_at memory (Limit region) = none_yet (limit_in config memory region) (memory (Limit region))
     where
-      none_yet : (x y : ℕ) → y ≡ cond (nat_lt r 0) x y
+      none_yet : (x y : ℕ) → y ≡ cond (nat_lt region 0) x y
       none_yet x y = grind (arith, nat_tests)
   none_limited_at memory _ = refl
 
   pub none_limited : (memory : Word → ℕ) → memory ≡ limited config 0 memory
-  none_limited memory = fun_ext (λ w. none_limited_at memory w)
+  none_limited memory = fun_ext (λ word. none_limited_at memory word)
 
   -- noted limits change no other
   pub limit_limited : (n r : ℕ) (memory : Word → ℕ) → limit_in config (limited config n memory) r ≡ limit_in config memory r
@@ -34,11 +34,11 @@ module _ (config : Config) where
   one_more before value k j = grind (arith, nat_tests)
 
   limited_next_at : (region : ℕ) (memory : Word → ℕ) (word : Word) → write (limited config region memory) (Limit region) (limit_in config memory region) word ≡ limited config (region + 1) memory word
-  limited_next_at region memory (Limit q) = one_more (λ x. memory (Limit x)) (limit_in config memory) region q
+  limited_next_at region memory (Limit other_region) = one_more (λ region. memory (Limit region)) (limit_in config memory) region other_region
   limited_next_at region memory _ = refl
 
   pub limited_next : (region : ℕ) (memory : Word → ℕ) → write (limited config region memory) (Limit region) (limit_in config memory region) ≡ limited config (region + 1) memory
-  limited_next region memory = fun_ext (λ w. limited_next_at region memory w)
+  limited_next region memory = fun_ext (λ word. limited_next_at region memory word)
 
 -- updating runs
 
@@ -54,22 +54,22 @@ started memory = fun_ext (started_at memory)
 -- all together
 
 module _ (config : Config) (words : List ℕ) where
-  abbrev m : Word → ℕ
-  m = view config words
+  abbrev now : Word → ℕ
+  now = view config words
 
   -- a region that is not of the heap has no edge and no limit
-  none_past : (region : ℕ) → nat_lt region config.regions ≡ false → m (Limit region) ≡ limit_in config m region
-  none_past region past = view_none config words (Limit region) past ∙ either (edge config m region) (edge_zero config m region (view_none config words (Top region) past))
+  none_past : (region : ℕ) → nat_lt region config.regions ≡ false → now (Limit region) ≡ limit_in config now region
+  none_past region past = view_none config words (Limit region) past ∙ either (edge config now region) (edge_zero config now region (view_none config words (Top region) past))
     where
-      either : (least : ℕ) → least ≡ 0 → 0 ≡ cond (is_chosen m region) 0 least
+      either : (least : ℕ) → least ≡ 0 → 0 ≡ cond (is_chosen now region) 0 least
       either least is = grind (arith, nat_tests)
 
-  begun_at : (word : Word) → update_started (limited config config.regions m) word ≡ updating_begun config m word
-  begun_at (Limit r) = below_and_past r config.regions (limit_in config m r) (m (Limit r)) (limit_in config m r) (λ below. refl) (λ no past. none_past r no)
+  begun_at : (word : Word) → update_started (limited config config.regions now) word ≡ updating_begun config now word
+  begun_at (Limit region) = below_and_past region config.regions (limit_in config now region) (now (Limit region)) (limit_in config now region) (λ below. refl) (λ no past. none_past region no)
   begun_at Phase = refl
   begun_at Evac = refl
   begun_at Claim = refl
   begun_at _ = refl
 
-  pub begun : update_started (limited config config.regions m) ≡ updating_begun config m
+  pub begun : update_started (limited config config.regions now) ≡ updating_begun config now
   begun = fun_ext begun_at

@@ -12,7 +12,7 @@ limit_in config memory r = if is_chosen memory r then 0 else edge config memory 
 
 -- the limits of so many regions are noted
 abbrev pub limited : Config → ℕ → (Word → ℕ) → Word → ℕ
-limited config regions memory (Limit r) = if nat_lt r regions then limit_in config memory r else memory (Limit r)
+limited config regions memory (Limit region) = if nat_lt region regions then limit_in config memory region else memory (Limit region)
 limited config regions memory word = memory word
 
 -- updating runs: no copier is counted, and no unit is claimed

@@ -35,7 +35,7 @@ module _ (config : Config) (extent : Extent) (inside : Word → Bool) (places : 
       omega (arith, from, to)
 
   -- outside the image both read 0
-  both_none : (w : Word) → is_image w ≡ false → image_view config whole w ≡ image_view config part w
+  both_none : (word : Word) → is_image word ≡ false → image_view config whole word ≡ image_view config part word
   both_none w outside = ⊎_elim
       (λ (is : is_word config w ≡ true).
       let word : IsWord config w = is_word_true config w is in
@@ -54,19 +54,19 @@ module _ (config : Config) (extent : Extent) (inside : Word → Bool) (places : 
 
   pub part_of : IsPartOf inside (image_view config whole) (image_view config part)
   part_of = record {
-    same = λ w within. ⊎_elim
-        (λ (image : is_image w ≡ true). ⊎_elim
-        (λ (is : is_word config w ≡ true). sym (part_reads w (is_word_true config w is) image ∙ cond-true (inside w) _ _ within))
-        (λ (no : is_word config w ≡ false). view_none config (replicate (image_start config) 0 ++ whole) w no ∙ sym (view_none config (replicate (image_start config) 0 ++ part) w no))
-        (cases_Bool (is_word config w)))
-        (λ (outside : is_image w ≡ false). both_none w outside)
-        (cases_Bool (is_image w));
-    nothing = λ w without. ⊎_elim
-        (λ (is : is_word config w ≡ true).
-        let image : is_image w ≡ true = ⊎_elim (λ (yes : is_image w ≡ true). yes) (λ (outside : is_image w ≡ false). absurd (true≢false (sym (others w outside) ∙ without))) (cases_Bool (is_image w)) in
-        part_reads w (is_word_true config w is) image ∙ cond-false (inside w) _ _ without)
-        (λ (no : is_word config w ≡ false). view_none config (replicate (image_start config) 0 ++ part) w no)
-        (cases_Bool (is_word config w));
+    same = λ word within. ⊎_elim
+        (λ (image : is_image word ≡ true). ⊎_elim
+        (λ (is : is_word config word ≡ true). sym (part_reads word (is_word_true config word is) image ∙ cond-true (inside word) _ _ within))
+        (λ (no : is_word config word ≡ false). view_none config (replicate (image_start config) 0 ++ whole) word no ∙ sym (view_none config (replicate (image_start config) 0 ++ part) word no))
+        (cases_Bool (is_word config word)))
+        (λ (outside : is_image word ≡ false). both_none word outside)
+        (cases_Bool (is_image word));
+    nothing = λ word without. ⊎_elim
+        (λ (is : is_word config word ≡ true).
+        let image : is_image word ≡ true = ⊎_elim (λ (yes : is_image word ≡ true). yes) (λ (outside : is_image word ≡ false). absurd (true≢false (sym (others word outside) ∙ without))) (cases_Bool (is_image word)) in
+        part_reads word (is_word_true config word is) image ∙ cond-false (inside word) _ _ without)
+        (λ (no : is_word config word ≡ false). view_none config (replicate (image_start config) 0 ++ part) word no)
+        (cases_Bool (is_word config word));
   }
 
   -- What is made of the words is made of the images that have them.
@@ -153,13 +153,13 @@ module _ (config : Config) (phase : ℕ) (part : List ℕ) where
 -- the words that tell it
 module _ (config : Config) (part : List ℕ) where
   phase_at : image_view config part Phase ≡ slice_index part 0
-  phase_at = image_reads config part Phase tt refl ∙ ap (λ k. slice_index part k) (omega arith)
+  phase_at = image_reads config part Phase tt refl ∙ ap (λ index. slice_index part index) (omega arith)
 
   evac_at : image_view config part Evac ≡ slice_index part 3
-  evac_at = image_reads config part Evac tt refl ∙ ap (λ k. slice_index part k) (omega arith)
+  evac_at = image_reads config part Evac tt refl ∙ ap (λ index. slice_index part index) (omega arith)
 
   ask_at : image_view config part Ask ≡ slice_index part 5
-  ask_at = image_reads config part Ask tt refl ∙ ap (λ k. slice_index part k) (omega arith)
+  ask_at = image_reads config part Ask tt refl ∙ ap (λ index. slice_index part index) (omega arith)
 
   pub calm_part : (extent_by config (slice_index part 0) part ≡ Whole → ⊥) → is_room_needed (image_view config part) ≡ false
   calm_part other =
@@ -219,7 +219,7 @@ by_extent config whole part whole_long part_long Ahead is is_part =
     ahead_made config whole part is_part (calm_part config part other) late.0 late.1
 
 pub collect_goes_by_parts : GoesByParts collect_image
-collect_goes_by_parts = record { made = λ c whole part whole_long part_long is_part. by_extent c whole part whole_long part_long (extent_by c (slice_index part 0) part) refl is_part }
+collect_goes_by_parts = record { made = λ config whole part whole_long part_long is_part. by_extent config whole part whole_long part_long (extent_by config (slice_index part 0) part) refl is_part }
 
 pub collect_pauses_by_parts : PausesByParts collect_image
 collect_pauses_by_parts = record { whole = collect_is_pause; parts = collect_goes_by_parts }

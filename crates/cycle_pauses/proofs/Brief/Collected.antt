@@ -20,7 +20,7 @@ need_by ask phase evac = (bit_at ask 1 == 1) || ((phase == 2) && is_out_of_room 
 
 pub need_same : (memory other_memory : Word → ℕ) → memory Ask ≡ other_memory Ask → memory Phase ≡ other_memory Phase → memory Evac ≡ other_memory Evac → is_room_needed memory ≡ is_room_needed other_memory
 need_same memory other_memory ask phase evac =
-    ap (λ k. need_by k (memory Phase) (memory Evac)) ask ∙ ap (λ k. need_by (other_memory Ask) k (memory Evac)) phase ∙ ap (λ k. need_by (other_memory Ask) (other_memory Phase) k) evac
+    ap (λ ask. need_by ask (memory Phase) (memory Evac)) ask ∙ ap (λ phase. need_by (other_memory Ask) phase (memory Evac)) phase ∙ ap (λ evac. need_by (other_memory Ask) (other_memory Phase) evac) evac
 
 -- without need of room the cycle goes on
 module _ (config : Config) (memory : Word → ℕ) (calm : is_room_needed memory ≡ false) where
@@ -44,25 +44,25 @@ module _ (config : Config) (memory : Word → ℕ) (calm : is_room_needed memory
 
 -- what is made of both alike
 made_as : (inside : Word → Bool) (whole m n k l : Word → ℕ) → m ≡ k → n ≡ l → IsMadeOfPart inside whole k l → IsMadeOfPart inside whole m n
-made_as inside whole m n k l one other made = subst (λ f. IsMadeOfPart inside whole f n) (sym one) (subst (λ f. IsMadeOfPart inside whole k f) (sym other) made)
+made_as inside whole memory other_memory k l one other made = subst (λ made. IsMadeOfPart inside whole made other_memory) (sym one) (subst (λ part_made. IsMadeOfPart inside whole k part_made) (sym other) made)
 
 pub begins : (config : Config) (whole part : Word → ℕ) → IsPartOf is_off_heap whole part → is_room_needed part ≡ false → part Phase ≡ 0 → IsMadeOfPart is_off_heap whole (collected config whole) (collected config part)
-begins config whole part of calm zero_phase =
-    let calm_whole : is_room_needed whole ≡ false = need_same whole part (of.same Ask refl) (of.same Phase refl) (of.same Evac refl) ∙ calm in
+begins config whole part part_of calm zero_phase =
+    let calm_whole : is_room_needed whole ≡ false = need_same whole part (part_of.same Ask refl) (part_of.same Phase refl) (part_of.same Evac refl) ∙ calm in
     made_as is_off_heap whole (collected config whole) (collected config part) (init_marked config whole) (init_marked config part)
-    (marks config whole calm_whole (of.same Phase refl ∙ zero_phase)) (marks config part calm zero_phase) (init_marked_made config whole part of)
+    (marks config whole calm_whole (part_of.same Phase refl ∙ zero_phase)) (marks config part calm zero_phase) (init_marked_made config whole part part_of)
 
 pub updates : (config : Config) (whole part : Word → ℕ) → IsPartOf is_ahead whole part → is_room_needed part ≡ false → part Phase ≢ 0 → part Phase ≢ 1 → IsMadeOfPart is_ahead whole (collected config whole) (collected config part)
-updates config whole part of calm not_0 not_1 =
-    let phase : whole Phase ≡ part Phase = of.same Phase refl in
-    let calm_whole : is_room_needed whole ≡ false = need_same whole part (of.same Ask refl) phase (of.same Evac refl) ∙ calm in
+updates config whole part part_of calm not_0 not_1 =
+    let phase : whole Phase ≡ part Phase = part_of.same Phase refl in
+    let calm_whole : is_room_needed whole ≡ false = need_same whole part (part_of.same Ask refl) phase (part_of.same Evac refl) ∙ calm in
     let other_0 : whole Phase ≢ 0 = λ e. not_0 (sym phase ∙ e) in
     let other_1 : whole Phase ≢ 1 = λ e. not_1 (sym phase ∙ e) in
     ⊎_elim
     (λ (two : (part Phase == 2) ≡ true). made_as is_ahead whole (collected config whole) (collected config part) (init_updated config whole) (init_updated config part)
-    (begins_updating config whole calm_whole other_0 other_1 (ap (λ k. k == 2) phase ∙ two)) (begins_updating config part calm not_0 not_1 two) (init_updated_made config whole part of))
+    (begins_updating config whole calm_whole other_0 other_1 (ap (λ k. k == 2) phase ∙ two)) (begins_updating config part calm not_0 not_1 two) (init_updated_made config whole part part_of))
     (λ (three : (part Phase == 2) ≡ false). made_as is_ahead whole (collected config whole) (collected config part) (final_updated config whole) (final_updated config part)
-    (ends_updating config whole calm_whole other_0 other_1 (ap (λ k. k == 2) phase ∙ three)) (ends_updating config part calm not_0 not_1 three) (final_updated_made config whole part of))
+    (ends_updating config whole calm_whole other_0 other_1 (ap (λ k. k == 2) phase ∙ three)) (ends_updating config part calm not_0 not_1 three) (final_updated_made config whole part part_of))
     (cases_Bool (part Phase == 2))
 
 pub collects_by_part : CollectsByPart

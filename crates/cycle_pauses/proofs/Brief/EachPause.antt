@@ -22,28 +22,28 @@ use Rattle.cycle_pauses.proofs.Brief.Settled.{first_made, settled_made}
 edge_same : (config : Config) (inside : Word → Bool) (whole memory other_memory : Word → ℕ) → IsMadeOfPart inside whole memory other_memory → ((region : ℕ) → inside (Top region) ≡ true) → ((seat : ℕ) → inside (Current seat) ≡ true)
     → (region : ℕ) → edge config memory region ≡ edge config other_memory region
 edge_same config inside whole memory other_memory made tops currents region =
-    edges_same config other_memory memory region (λ q. made.within (Top q) (tops q)) (λ seat. made.within (Current seat) (currents seat)) (seat_count config.mutators config.helpers)
+    edges_same config other_memory memory region (λ region. made.within (Top region) (tops region)) (λ seat. made.within (Current seat) (currents seat)) (seat_count config.mutators config.helpers)
 
 -- the beginning of marking, of settled buffers
 module _ (config : Config) (whole memory other_memory : Word → ℕ) (made : IsMadeOfPart is_off_heap whole memory other_memory) where
   marks_within : (word : Word) → is_off_heap word ≡ true → marking_begun config memory word ≡ marking_begun config other_memory word
-  marks_within (Grey k) is =
-      ap (λ xs. mark_bits config (has xs) k) (same_held_words other_memory memory (λ t i. made.within (Root t i) refl) (λ t. made.within (Answer t) refl) (λ t i. made.within (Pin t i) refl) config)
-  marks_within (Black k) is = refl
-  marks_within (Tams r) is = edge_same config is_off_heap whole memory other_memory made (λ q. refl) (λ seat. refl) r
-  marks_within (Count t) is = refl
+  marks_within (Grey number) is =
+      ap (λ xs. mark_bits config (has xs) number) (same_held_words other_memory memory (λ mutator index. made.within (Root mutator index) refl) (λ mutator. made.within (Answer mutator) refl) (λ mutator slot. made.within (Pin mutator slot) refl) config)
+  marks_within (Black number) is = refl
+  marks_within (Tams region) is = edge_same config is_off_heap whole memory other_memory made (λ q. refl) (λ seat. refl) region
+  marks_within (Count mutator) is = refl
   marks_within Claim is = refl
   marks_within Ask is = refl
   marks_within Phase is = refl
   marks_within word is = made.within word is
 
   marks_outside : (word : Word) → is_off_heap word ≡ false → marking_begun config memory word ≡ (if marking_begun config other_memory word == 0 then whole word else marking_begun config other_memory word)
-  marks_outside (Heap a) other = made.outside (Heap a) other
+  marks_outside (Heap address) other = made.outside (Heap address) other
   marks_outside _ other = absurd (true≢false other)
 
 pub init_marked_made : (config : Config) (whole part : Word → ℕ) → IsPartOf is_off_heap whole part → IsMadeOfPart is_off_heap whole (init_marked config whole) (init_marked config part)
-init_marked_made config whole part of =
-    let settled = settled_made is_off_heap whole config (λ seat. refl) (λ r. refl) part of in
+init_marked_made config whole part part_of =
+    let settled = settled_made is_off_heap whole config (λ seat. refl) (λ r. refl) part part_of in
     record {
       within = marks_within config whole (buffers_settled config whole) (buffers_settled config part) settled;
       outside = marks_outside config whole (buffers_settled config whole) (buffers_settled config part) settled;
@@ -58,16 +58,16 @@ module _ (config : Config) (whole memory other_memory : Word → ℕ) (made : Is
   limits_within Phase is = refl
   limits_within Evac is = refl
   limits_within Claim is = refl
-  limits_within (Limit r) is =
-      ap (λ b. if b then 0 else edge config memory r) (chosen_same r)
-      ∙ ap (λ k. if is_chosen other_memory r then 0 else k) (edge_same config is_ahead whole memory other_memory made (λ q. refl) (λ seat. refl) r)
+  limits_within (Limit region) is =
+      ap (λ b. if b then 0 else edge config memory region) (chosen_same region)
+      ∙ ap (λ k. if is_chosen other_memory region then 0 else k) (edge_same config is_ahead whole memory other_memory made (λ q. refl) (λ seat. refl) region)
   limits_within word is = made.within word is
 
   limits_outside : (word : Word) → is_ahead word ≡ false → updating_begun config memory word ≡ (if updating_begun config other_memory word == 0 then whole word else updating_begun config other_memory word)
   limits_outside Phase other = absurd (true≢false other)
   limits_outside Evac other = absurd (true≢false other)
   limits_outside Claim other = absurd (true≢false other)
-  limits_outside (Limit r) other = absurd (true≢false other)
+  limits_outside (Limit region) other = absurd (true≢false other)
   limits_outside word other = made.outside word other
 
   ends_within : (word : Word) → is_ahead word ≡ true → final_updated config memory word ≡ final_updated config other_memory word
@@ -77,9 +77,9 @@ module _ (config : Config) (whole memory other_memory : Word → ℕ) (made : Is
   ends_within Free is =
       ap (λ free. bit_or free (bits_of (is_chosen memory) 0 config.regions)) (made.within Free refl)
       ∙ ap (λ set. bit_or (other_memory Free) (bits_of (λ r. bit_at set r == 1) 0 config.regions)) (made.within Cset refl)
-  ends_within (Top r) is = ap (λ b. if b then 0 else memory (Top r)) (chosen_same r) ∙ ap (λ k. if is_chosen other_memory r then 0 else k) (made.within (Top r) refl)
-  ends_within (Tams r) is = ap (λ b. if b then 0 else memory (Tams r)) (chosen_same r) ∙ ap (λ k. if is_chosen other_memory r then 0 else k) (made.within (Tams r) refl)
-  ends_within (Limit r) is = ap (λ b. if b then 0 else memory (Limit r)) (chosen_same r) ∙ ap (λ k. if is_chosen other_memory r then 0 else k) (made.within (Limit r) refl)
+  ends_within (Top region) is = ap (λ b. if b then 0 else memory (Top region)) (chosen_same region) ∙ ap (λ k. if is_chosen other_memory region then 0 else k) (made.within (Top region) refl)
+  ends_within (Tams region) is = ap (λ b. if b then 0 else memory (Tams region)) (chosen_same region) ∙ ap (λ k. if is_chosen other_memory region then 0 else k) (made.within (Tams region) refl)
+  ends_within (Limit region) is = ap (λ b. if b then 0 else memory (Limit region)) (chosen_same region) ∙ ap (λ k. if is_chosen other_memory region then 0 else k) (made.within (Limit region) refl)
   ends_within word is = made.within word is
 
   ends_outside : (word : Word) → is_ahead word ≡ false → final_updated config memory word ≡ (if final_updated config other_memory word == 0 then whole word else final_updated config other_memory word)
@@ -87,20 +87,20 @@ module _ (config : Config) (whole memory other_memory : Word → ℕ) (made : Is
   ends_outside Cset other = absurd (true≢false other)
   ends_outside Claim other = absurd (true≢false other)
   ends_outside Free other = absurd (true≢false other)
-  ends_outside (Top r) other = absurd (true≢false other)
-  ends_outside (Tams r) other = absurd (true≢false other)
-  ends_outside (Limit r) other = absurd (true≢false other)
+  ends_outside (Top region) other = absurd (true≢false other)
+  ends_outside (Tams region) other = absurd (true≢false other)
+  ends_outside (Limit region) other = absurd (true≢false other)
   ends_outside word other = made.outside word other
 
 pub init_updated_made : (config : Config) (whole part : Word → ℕ) → IsPartOf is_ahead whole part → IsMadeOfPart is_ahead whole (init_updated config whole) (init_updated config part)
-init_updated_made config whole part of =
-    let settled = settled_made is_ahead whole config (λ seat. refl) (λ r. refl) part of in
+init_updated_made config whole part part_of =
+    let settled = settled_made is_ahead whole config (λ seat. refl) (λ r. refl) part part_of in
     record {
       within = limits_within config whole (buffers_settled config whole) (buffers_settled config part) settled;
       outside = limits_outside config whole (buffers_settled config whole) (buffers_settled config part) settled;
     }
 
 pub final_updated_made : (config : Config) (whole part : Word → ℕ) → IsPartOf is_ahead whole part → IsMadeOfPart is_ahead whole (final_updated config whole) (final_updated config part)
-final_updated_made config whole part of =
-    let first = first_made is_ahead whole part of in
+final_updated_made config whole part part_of =
+    let first = first_made is_ahead whole part part_of in
     record { within = ends_within config whole whole part first; outside = ends_outside config whole whole part first }

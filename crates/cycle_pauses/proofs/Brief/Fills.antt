@@ -47,15 +47,15 @@ module _ (config : Config) (address : ℕ) where
   -- before its turn a seat has its buffer
   before_turn : (memory : Word → ℕ) (n seat : ℕ) → n ≤ seat → settled_below config memory n (Current seat) ≡ memory (Current seat)
   unfolding settled_below
-  before_turn memory zero seat from = refl
-  before_turn memory (suc n) seat from = turn_other config (settled_below config memory n) n seat (λ same. omega (arith, same, from)) ∙ before_turn memory n seat (omega (arith, from))
+  before_turn memory zero seat at_most = refl
+  before_turn memory (suc n) seat at_most = turn_other config (settled_below config memory n) n seat (λ same. omega (arith, same, at_most)) ∙ before_turn memory n seat (omega (arith, at_most))
 
   turns_stay : (memory : Word → ℕ) (n : ℕ) → ((seat : ℕ) → seat < n → BeginsAt address (memory (Current seat)) → ⊥) → settled_below config memory n (Heap address) ≡ memory (Heap address)
   unfolding settled_below
   turns_stay memory zero none = refl
-  turns_stay memory (suc n) none =
-      turn_stays (settled_below config memory n) n (subst (λ word. BeginsAt address word → ⊥) (sym (before_turn memory n n (omega arith))) (none n (omega arith)))
-      ∙ turns_stay memory n (λ seat below. none seat (omega (arith, below)))
+  turns_stay memory (suc other_seat) none =
+      turn_stays (settled_below config memory other_seat) other_seat (subst (λ word. BeginsAt address word → ⊥) (sym (before_turn memory other_seat other_seat (omega arith))) (none other_seat (omega arith)))
+      ∙ turns_stay memory other_seat (λ seat below. none seat (omega (arith, below)))
 
   settled_stays : (memory : Word → ℕ) → NoneBeginsAt config memory address → buffers_settled config memory (Heap address) ≡ memory (Heap address)
   settled_stays memory none = turns_stay memory (seat_count config.mutators config.helpers) none
@@ -64,28 +64,28 @@ module _ (config : Config) (address : ℕ) where
 module _ (config : Config) (memory : Word → ℕ) where
   begun_stays : (word : Word) → is_ahead word ≡ false → IsNoFirst config memory word → init_updated config memory word ≡ memory word
   begun_stays (Heap address) out none = settled_stays config address memory none
-  begun_stays (Root t i) out none = settled_same (Root t i) (λ other. other) config memory (seat_count config.mutators config.helpers)
-  begun_stays (Count t) out none = settled_same (Count t) (λ other. other) config memory (seat_count config.mutators config.helpers)
-  begun_stays (Buffer t i) out none = settled_same (Buffer t i) (λ other. other) config memory (seat_count config.mutators config.helpers)
-  begun_stays (Wait t) out none = settled_same (Wait t) (λ other. other) config memory (seat_count config.mutators config.helpers)
-  begun_stays (Answer t) out none = settled_same (Answer t) (λ other. other) config memory (seat_count config.mutators config.helpers)
-  begun_stays (Grey n) out none = settled_same (Grey n) (λ other. other) config memory (seat_count config.mutators config.helpers)
-  begun_stays (Black n) out none = settled_same (Black n) (λ other. other) config memory (seat_count config.mutators config.helpers)
+  begun_stays (Root mutator index) out none = settled_same (Root mutator index) (λ other. other) config memory (seat_count config.mutators config.helpers)
+  begun_stays (Count mutator) out none = settled_same (Count mutator) (λ other. other) config memory (seat_count config.mutators config.helpers)
+  begun_stays (Buffer mutator entry) out none = settled_same (Buffer mutator entry) (λ other. other) config memory (seat_count config.mutators config.helpers)
+  begun_stays (Wait mutator) out none = settled_same (Wait mutator) (λ other. other) config memory (seat_count config.mutators config.helpers)
+  begun_stays (Answer mutator) out none = settled_same (Answer mutator) (λ other. other) config memory (seat_count config.mutators config.helpers)
+  begun_stays (Grey number) out none = settled_same (Grey number) (λ other. other) config memory (seat_count config.mutators config.helpers)
+  begun_stays (Black number) out none = settled_same (Black number) (λ other. other) config memory (seat_count config.mutators config.helpers)
   begun_stays Share out none = settled_same Share (λ other. other) config memory (seat_count config.mutators config.helpers)
-  begun_stays (Pin t i) out none = settled_same (Pin t i) (λ other. other) config memory (seat_count config.mutators config.helpers)
+  begun_stays (Pin mutator slot) out none = settled_same (Pin mutator slot) (λ other. other) config memory (seat_count config.mutators config.helpers)
   begun_stays _ out none = absurd (true≢false out)
 
   ended_stays : (word : Word) → is_ahead word ≡ false → final_updated config memory word ≡ memory word
   ended_stays (Heap address) out = refl
-  ended_stays (Root t i) out = refl
-  ended_stays (Count t) out = refl
-  ended_stays (Buffer t i) out = refl
-  ended_stays (Wait t) out = refl
-  ended_stays (Answer t) out = refl
-  ended_stays (Grey n) out = refl
-  ended_stays (Black n) out = refl
+  ended_stays (Root mutator index) out = refl
+  ended_stays (Count mutator) out = refl
+  ended_stays (Buffer mutator entry) out = refl
+  ended_stays (Wait mutator) out = refl
+  ended_stays (Answer mutator) out = refl
+  ended_stays (Grey number) out = refl
+  ended_stays (Black number) out = refl
   ended_stays Share out = refl
-  ended_stays (Pin t i) out = refl
+  ended_stays (Pin mutator slot) out = refl
   ended_stays _ out = absurd (true≢false out)
 
   module _ (calm : is_room_needed memory ≡ false) where

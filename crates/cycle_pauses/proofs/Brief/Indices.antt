@@ -16,30 +16,30 @@ use Rattle.cycle_pauses.specs.Brief.{is_off_heap, is_ahead}
 use Rattle.cycle_pauses.proofs.Full.Images.{inside_word}
 
 pub off_heap_at : (config : Config) (word : Word) → IsWord config word → is_image word ≡ true → is_of_extent config OffHeap (word_at config word - image_start config) ≡ is_off_heap word
-off_heap_at config (Heap a) h image = off_within (heap_index config) (heap_size config) (word_at config (Heap a) - image_start config) (omega arith) (omega arith)
-off_heap_at config Share h image = off_behind (heap_index config) (heap_size config) (word_at config Share - image_start config) (omega arith)
-off_heap_at config (Pin t i) h image = off_behind (heap_index config) (heap_size config) (word_at config (Pin t i) - image_start config) (omega arith)
-off_heap_at config Pause h image = absurd (false≢true image)
-off_heap_at config Left h image = absurd (false≢true image)
-off_heap_at config End h image = absurd (false≢true image)
-off_heap_at config (State seat) h image = absurd (false≢true image)
+off_heap_at config (Heap address) word image = off_within (heap_index config) (heap_size config) (word_at config (Heap address) - image_start config) (omega arith) (omega arith)
+off_heap_at config Share word image = off_behind (heap_index config) (heap_size config) (word_at config Share - image_start config) (omega arith)
+off_heap_at config (Pin mutator slot) word image = off_behind (heap_index config) (heap_size config) (word_at config (Pin mutator slot) - image_start config) (omega arith)
+off_heap_at config Pause word image = absurd (false≢true image)
+off_heap_at config Left word image = absurd (false≢true image)
+off_heap_at config End word image = absurd (false≢true image)
+off_heap_at config (State seat) word image = absurd (false≢true image)
 off_heap_at config word h image = off_before (heap_index config) (heap_size config) (word_at config word - image_start config) (omega arith)
 
 pub ahead_at : (config : Config) (word : Word) → IsWord config word → is_image word ≡ true → is_of_extent config Ahead (word_at config word - image_start config) ≡ is_ahead word
-ahead_at config Pause h image = absurd (false≢true image)
-ahead_at config Left h image = absurd (false≢true image)
-ahead_at config End h image = absurd (false≢true image)
-ahead_at config (State seat) h image = absurd (false≢true image)
-ahead_at config Phase h image = lt-ltb _ _ (omega arith)
-ahead_at config Cset h image = lt-ltb _ _ (omega arith)
-ahead_at config Free h image = lt-ltb _ _ (omega arith)
-ahead_at config Evac h image = lt-ltb _ _ (omega arith)
-ahead_at config Claim h image = lt-ltb _ _ (omega arith)
-ahead_at config Ask h image = lt-ltb _ _ (omega arith)
-ahead_at config (Top r) h image = lt-ltb _ _ (omega arith)
-ahead_at config (Tams r) h image = lt-ltb _ _ (omega arith)
-ahead_at config (Limit r) h image = lt-ltb _ _ (omega arith)
-ahead_at config (Current seat) h image = lt-ltb _ _ (omega arith)
+ahead_at config Pause word image = absurd (false≢true image)
+ahead_at config Left word image = absurd (false≢true image)
+ahead_at config End word image = absurd (false≢true image)
+ahead_at config (State seat) word image = absurd (false≢true image)
+ahead_at config Phase word image = lt-ltb _ _ (omega arith)
+ahead_at config Cset word image = lt-ltb _ _ (omega arith)
+ahead_at config Free word image = lt-ltb _ _ (omega arith)
+ahead_at config Evac word image = lt-ltb _ _ (omega arith)
+ahead_at config Claim word image = lt-ltb _ _ (omega arith)
+ahead_at config Ask word image = lt-ltb _ _ (omega arith)
+ahead_at config (Top region) word image = lt-ltb _ _ (omega arith)
+ahead_at config (Tams region) word image = lt-ltb _ _ (omega arith)
+ahead_at config (Limit region) word image = lt-ltb _ _ (omega arith)
+ahead_at config (Current seat) word image = lt-ltb _ _ (omega arith)
 ahead_at config word h image = le-ltb _ _ (omega arith)
 
 -- what a word of an image reads
@@ -66,4 +66,4 @@ module _ (config : Config) (index : ℕ) (less : index < image_words config) whe
   here_image = is_image-word_at config word_here here_is ∙ le-leb (image_start config) (word_at config word_here) (let at = are_named.there config (image_start config + index) in_table in omega (arith, at))
 
   pub here_reads : (xs : List ℕ) → image_view config xs word_here ≡ slice_index xs index
-  here_reads xs = image_reads config xs word_here here_is here_image ∙ ap (λ i. slice_index xs i) here_at
+  here_reads xs = image_reads config xs word_here here_is here_image ∙ ap (λ index. slice_index xs index) here_at

@@ -19,35 +19,35 @@ module _ (inside : Word → Bool) (whole : Word → ℕ) where
 
   -- what is made of the part alone
   pub first_made : (part : Word → ℕ) → IsPartOf inside whole part → Made whole part
-  first_made part of = record {
-    within = of.same;
-    outside = λ word other. sym (cond-true (part word == 0) (whole word) (part word) (ap (λ n. n == 0) (of.nothing word other)));
+  first_made part part_of = record {
+    within = part_of.same;
+    outside = λ word other. sym (cond-true (part word == 0) (whole word) (part word) (ap (λ n. n == 0) (part_of.nothing word other)));
   }
 
   -- where the word that is written is another than this one both stay, and where it is this one both are the value
-  made_within : (memory other_memory : Word → ℕ) (at : Word) (value : ℕ) → Made memory other_memory → (word : Word) → inside word ≡ true → write memory at value word ≡ write other_memory at value word
-  made_within memory other_memory at value made word is = ap (λ k. if same_word at word then value else k) (made.within word is)
+  made_within : (memory other_memory : Word → ℕ) (other_word : Word) (value : ℕ) → Made memory other_memory → (word : Word) → inside word ≡ true → write memory other_word value word ≡ write other_memory other_word value word
+  made_within memory other_memory other_word value made word is = ap (λ k. if same_word other_word word then value else k) (made.within word is)
 
-  made_outside : (memory other_memory : Word → ℕ) (at : Word) (value : ℕ) → (inside at ≡ false → value ≢ 0) → Made memory other_memory → (word : Word) → inside word ≡ false
-      → write memory at value word ≡ (if write other_memory at value word == 0 then whole word else write other_memory at value word)
-  made_outside memory other_memory at value some made word other = ⊎_elim
-      (λ (same : same_word at word ≡ true).
-      let differs : value ≢ 0 = some (ap inside (same_word_true at word same) ∙ other) in
-      let written : write other_memory at value word ≡ value = cond-true (same_word at word) value (other_memory word) same in
-      cond-true (same_word at word) value (memory word) same
+  made_outside : (memory other_memory : Word → ℕ) (other_word : Word) (value : ℕ) → (inside other_word ≡ false → value ≢ 0) → Made memory other_memory → (word : Word) → inside word ≡ false
+      → write memory other_word value word ≡ (if write other_memory other_word value word == 0 then whole word else write other_memory other_word value word)
+  made_outside memory other_memory other_word value some made word other = ⊎_elim
+      (λ (same : same_word other_word word ≡ true).
+      let differs : value ≢ 0 = some (ap inside (same_word_true other_word word same) ∙ other) in
+      let written : write other_memory other_word value word ≡ value = cond-true (same_word other_word word) value (other_memory word) same in
+      cond-true (same_word other_word word) value (memory word) same
       ∙ sym (ap (λ k. if k == 0 then whole word else k) written ∙ cond-false (value == 0) (whole word) value (ne_eqb value 0 differs)))
-      (λ (off : same_word at word ≡ false).
-      let kept : write other_memory at value word ≡ other_memory word = cond-false (same_word at word) value (other_memory word) off in
-      cond-false (same_word at word) value (memory word) off ∙ made.outside word other ∙ sym (ap (λ k. if k == 0 then whole word else k) kept))
-      (cases_Bool (same_word at word))
+      (λ (off : same_word other_word word ≡ false).
+      let kept : write other_memory other_word value word ≡ other_memory word = cond-false (same_word other_word word) value (other_memory word) off in
+      cond-false (same_word other_word word) value (memory word) off ∙ made.outside word other ∙ sym (ap (λ k. if k == 0 then whole word else k) kept))
+      (cases_Bool (same_word other_word word))
 
-  written : (memory other_memory : Word → ℕ) (at : Word) (value : ℕ) → (inside at ≡ false → value ≢ 0) → Made memory other_memory → Made (write memory at value) (write other_memory at value)
-  written memory other_memory at value some made = record { within = made_within memory other_memory at value made; outside = made_outside memory other_memory at value some made }
+  written : (memory other_memory : Word → ℕ) (word : Word) (value : ℕ) → (inside word ≡ false → value ≢ 0) → Made memory other_memory → Made (write memory word value) (write other_memory word value)
+  written memory other_memory word value some made = record { within = made_within memory other_memory word value made; outside = made_outside memory other_memory word value some made }
 
   -- one of two, of both alike
   chosen : (holds : Bool) (m n k l : Word → ℕ) → Made m n → Made k l → Made (if holds then m else k) (if holds then n else l)
-  chosen true m n k l one other = one
-  chosen false m n k l one other = other
+  chosen true memory other_memory k l one other = one
+  chosen false memory other_memory k l one other = other
 
   filled : (memory other_memory : Word → ℕ) (word : ℕ) → Made memory other_memory → Made (filled_over memory word) (filled_over other_memory word)
   filled memory other_memory word made =
@@ -74,13 +74,13 @@ module _ (inside : Word → Bool) (whole : Word → ℕ) where
 
     turn_made : (memory other_memory : Word → ℕ) (seat : ℕ) → Made memory other_memory → Made (settled_at config memory seat) (settled_at config other_memory seat)
     turn_made memory other_memory seat made =
-        subst (λ k. Made k (settled_at config other_memory seat)) (turn_same memory other_memory seat made)
+        subst (λ made. Made made (settled_at config other_memory seat)) (turn_same memory other_memory seat made)
         (turned_made memory other_memory seat (other_memory (Current seat)) (other_memory (Top (buffer_region config (other_memory (Current seat))))) made)
 
     turns_made : (memory other_memory : Word → ℕ) → Made memory other_memory → (k : ℕ) → Made (settled_below config memory k) (settled_below config other_memory k)
     unfolding settled_below
     turns_made memory other_memory made zero = made
-    turns_made memory other_memory made (suc k) = turn_made (settled_below config memory k) (settled_below config other_memory k) k (turns_made memory other_memory made k)
+    turns_made memory other_memory made (suc seat) = turn_made (settled_below config memory seat) (settled_below config other_memory seat) seat (turns_made memory other_memory made seat)
 
     pub settled_made : (part : Word → ℕ) → IsPartOf inside whole part → Made (buffers_settled config whole) (buffers_settled config part)
-    settled_made part of = turns_made whole part (first_made part of) (seat_count config.mutators config.helpers)
+    settled_made part part_of = turns_made whole part (first_made part part_of) (seat_count config.mutators config.helpers)

@@ -61,8 +61,8 @@ evacuation_alone_represents = begun
 
 -- evacuation can begin where marking is ended
 pub can_begin : (config : Config) (memory : Word → ℕ) (graph : Graph) (asking : ℕ → Asking) → Represents config memory graph asking → memory Phase ≡ 1 → HasNoMoreSeats config memory → CanBegin config (final_marked config memory)
-can_begin config memory graph asking r on seats =
-    let stands = marking_stands config memory graph asking r on in
+can_begin config memory graph asking represents on seats =
+    let stands = marking_stands config memory graph asking represents on in
     evacuation_can_begin config memory stands.0 stands.1 stands.2 graph stands.3 stands.4 seats
 
 pub evacuation_represents : EvacuationRepresents

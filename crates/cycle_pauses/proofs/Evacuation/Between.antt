@@ -33,7 +33,7 @@ pub record IsBetween (config : Config) (share cset free : ℕ) (top tams heap bl
 -- so it is of words
 abbrev pub AreBetween : Config → (Word → ℕ) → Plot → (ℕ → Option ℕ) → Graph → Type 0
 AreBetween config memory block owner graph =
-    IsBetween config (memory Share) (memory Cset) (memory Free) (λ r. memory (Top r)) (λ r. memory (Tams r)) (λ a. memory (Heap a)) (λ n. memory (Black n)) (λ s. memory (Current s)) block owner graph
+    IsBetween config (memory Share) (memory Cset) (memory Free) (λ region. memory (Top region)) (λ region. memory (Tams region)) (λ address. memory (Heap address)) (λ number. memory (Black number)) (λ seat. memory (Current seat)) block owner graph
 
 -- a piece that is copied: an object of the graph, or one that is promised
 abbrev pub IsLive : Block → Type 0
@@ -60,35 +60,35 @@ old_name _ to live = absurd live
 -- an old copy is none of these
 pub old_is_old : (piece : Block) (to : ℕ) → ((name : Name) (refs nums : ℕ) → old_of piece to ≡ thing name refs nums → ⊥) × ((seat words : ℕ) → old_of piece to ≡ promised seat words → ⊥)
     × (room_of (old_of piece to) ≡ None) × ((words : ℕ) → old_of piece to ≡ dead words → ⊥) × ((words : ℕ) → old_of piece to ≡ filler words → ⊥)
-old_is_old (thing n r s) to = (λ name refs nums is. cc, λ seat words is. cc, refl, λ words is. cc, λ words is. cc)
-old_is_old (moved n r s at) to = (λ name refs nums is. cc, λ seat words is. cc, refl, λ words is. cc, λ words is. cc)
+old_is_old (thing other_name other_refs other_nums) to = (λ name refs nums is. cc, λ seat words is. cc, refl, λ words is. cc, λ words is. cc)
+old_is_old (moved other_name other_refs other_nums at) to = (λ name refs nums is. cc, λ seat words is. cc, refl, λ words is. cc, λ words is. cc)
 old_is_old _ to = (λ name refs nums is. cc, λ seat words is. cc, refl, λ words is. cc, λ words is. cc)
 
 -- where it is one of an object, the object was there; where it is one of an object that was promised, that was
 pub was_thing : (piece : Block) (to : ℕ) → IsLive piece → (name : Name) (refs nums at : ℕ) → old_of piece to ≡ moved name refs nums at → (piece ≡ thing name refs nums) × (at ≡ to)
-was_thing (thing n r s) to live name refs nums at is = (cc, cc)
-was_thing (promised s w) to live name refs nums at is = cc
+was_thing (thing other_name other_refs other_nums) to live name refs nums at is = (cc, cc)
+was_thing (promised seat words) to live name refs nums at is = cc
 was_thing _ to live name refs nums at is = absurd live
 
 pub was_promised : (piece : Block) (to : ℕ) → IsLive piece → (words at : ℕ) → old_of piece to ≡ spent words at → (seat : ℕ) × (piece ≡ promised seat words) × (at ≡ to)
-was_promised (thing n r s) to live words at is = cc
-was_promised (promised s w) to live words at is = (s, cc, cc)
+was_promised (thing name refs nums) to live words at is = cc
+was_promised (promised seat other_words) to live words at is = (seat, cc, cc)
 was_promised _ to live words at is = absurd live
 
 -- a live piece is none of these
 pub live_is_live : (piece : Block) → IsLive piece → ((name : Name) (refs nums to : ℕ) → piece ≡ moved name refs nums to → ⊥) × ((words to : ℕ) → piece ≡ spent words to → ⊥)
     × (room_of piece ≡ None) × ((words : ℕ) → piece ≡ dead words → ⊥) × ((words : ℕ) → piece ≡ filler words → ⊥)
-live_is_live (thing n r s) live = (λ name refs nums to is. cc, λ words to is. cc, refl, λ words is. cc, λ words is. cc)
-live_is_live (promised s w) live = (λ name refs nums to is. cc, λ words to is. cc, refl, λ words is. cc, λ words is. cc)
+live_is_live (thing other_name other_refs other_nums) live = (λ name refs nums to is. cc, λ words to is. cc, refl, λ words is. cc, λ words is. cc)
+live_is_live (promised seat other_words) live = (λ name refs nums to is. cc, λ words to is. cc, refl, λ words is. cc, λ words is. cc)
 live_is_live _ live = absurd live
 
 -- it may be marked, and what is left of it is a copy
 pub live_markable : (block : Plot) (address : ℕ) (piece : Block) → IsLive piece → block address ≡ Some piece → IsMarkable block address
-live_markable block address (thing n r s) live is = IsMarkable.object n r s is
-live_markable block address (promised s w) live is = IsMarkable.to_come s w is
+live_markable block address (thing name refs nums) live is = IsMarkable.object name refs nums is
+live_markable block address (promised seat words) live is = IsMarkable.to_come seat words is
 live_markable block address _ live is = absurd live
 
 pub old_has_copy : (block : Plot) (address to : ℕ) (piece : Block) → IsLive piece → block address ≡ Some (old_of piece to) → HasCopy block address
-old_has_copy block address to (thing n r s) live is = HasCopy.copy (record { name = n; refs = r; nums = s }) (ap body_at is)
-old_has_copy block address to (promised s w) live is = HasCopy.spent_copy w to is
+old_has_copy block address to (thing name refs nums) live is = HasCopy.copy (record { name = name; refs = refs; nums = nums }) (ap body_at is)
+old_has_copy block address to (promised seat words) live is = HasCopy.spent_copy words to is
 old_has_copy block address to _ live is = absurd live

@@ -5,10 +5,11 @@ use Rattle.std.specs.Int.{bit_at}
 use Rattle.std.proofs.Math.Path.{fun_ext}
 use Rattle.std.proofs.lemmas.Bool.{cases_Bool, cases_eq, cond-true, cond-false, and_parts, leb-true, eqb-true, eq-eqb, ne_eqb}
 use Rattle.std.proofs.lemmas.Option.{same_Some}
+use Rattle.heap_words.proofs.Bools.{both_equal}
 use Rattle.heap_words.specs.declared.config.Config.{Config}
 use Rattle.heap_words.specs.Words.{Word, Cset, Top, Root, Pin, Wait, Answer, Heap, same_word, write}
 use Rattle.heap_words.specs.Encoding.{plain_header, header_word, shape_word, is_forwarded, forwardee_in, object_words}
-use Rattle.heap_words.proofs.Stores.{same_word_true, both_equal}
+use Rattle.heap_words.proofs.Stores.{same_word_true}
 use Rattle.regions.specs.Place.{region_with}
 use Rattle.shen_graph.specs.declared.name.Name.{Name}
 use Rattle.shen_graph.specs.Graph.{Graph, Object, Reference}
@@ -63,7 +64,7 @@ copied_then : (config : Config) (memory : Word → ℕ) (place : Word) (to : ℕ
 copied_then config memory place to is plain header =
     let out = moved_out_plain config memory (memory place) plain in
     cleared_is config memory place is
-    ∙ ap (λ (n : Word → ℕ). write n place (now_in n (memory place))) out
+    ∙ ap (λ (other_memory : Word → ℕ). write other_memory place (now_in other_memory (memory place))) out
     ∙ ap (λ v. write (copied_out config memory (memory place)) place v) (now_is (copied_out config memory (memory place)) (memory place) to header)
 
 -- and where it had been before
@@ -72,7 +73,7 @@ renamed_then : (config : Config) (memory : Word → ℕ) (place : Word) (to : �
 renamed_then config memory place to is header =
     let out = moved_out_led config memory (memory place) to header in
     cleared_is config memory place is
-    ∙ ap (λ (n : Word → ℕ). write n place (now_in n (memory place))) out
+    ∙ ap (λ (other_memory : Word → ℕ). write other_memory place (now_in other_memory (memory place))) out
     ∙ ap (λ v. write memory place v) (now_is memory (memory place) to header)
 
 -- a word that names nothing is not written
@@ -92,61 +93,61 @@ is_named config memory address is =
     let parts = and_parts (nat_le config.region_words address) (bit_at (memory Cset) (region_with config address) == 1) is in
     record { above = leb-true config.region_words address parts.0; inside = eqb-true (bit_at (memory Cset) (region_with config address)) 1 parts.1 }
 
-module _ (config : Config) (first memory : Word → ℕ) (block : Plot) (owner : ℕ → Option ℕ) (graph : Graph) (asking : ℕ → Asking) (s : IsClearing config first memory block owner graph asking) where
+module _ (config : Config) (first memory : Word → ℕ) (block : Plot) (owner : ℕ → Option ℕ) (graph : Graph) (asking : ℕ → Asking) (clearing : IsClearing config first memory block owner graph asking) where
   -- no slot holds an object of the set, so what slots hold stays where one is copied
-  unpinned : (a : ℕ) → is_collected config memory a ≡ true → (mutator j : ℕ) → mutator < config.mutators → j < 4 → first (Pin mutator j) ≢ a
-  unpinned a collected mutator j inside few same =
-      unpinned_inside config memory (still_outside config first memory (λ t index. s.same (Pin t index) (λ never. never) (λ never. never)) (s.same Cset (λ never. never) (λ never. never)) s.apart) a collected mutator j inside few
-      (s.same (Pin mutator j) (λ never. never) (λ never. never) ∙ same)
+  unpinned : (a : ℕ) → is_collected config memory a ≡ true → (mutator slot : ℕ) → mutator < config.mutators → slot < 4 → first (Pin mutator slot) ≢ a
+  unpinned a collected mutator slot inside few same =
+      unpinned_inside config memory (still_outside config first memory (λ mutator index. clearing.same (Pin mutator index) (λ never. never) (λ never. never)) (clearing.same Cset (λ never. never) (λ never. never)) clearing.apart) a collected mutator slot inside few
+      (clearing.same (Pin mutator slot) (λ never. never) (λ never. never) ∙ same)
 
   pins_copied : (a : ℕ) (plot : Plot) → is_collected config memory a ≡ true → ((address : ℕ) (piece : Block) → address ≢ a → block address ≡ Some piece → plot address ≡ Some piece)
       → (mutator index : ℕ) → mutator < config.mutators → index < 4 → PinStands config (first Cset) 0 plot (first (Pin mutator index)) (graph.pin (mutator + 1) index)
   pins_copied a plot collected stays mutator index inside few =
-      pin_kept config (first Cset) 0 block plot (first (Pin mutator index)) (graph.pin (mutator + 1) index) (λ piece is. stays (first (Pin mutator index)) piece (unpinned a collected mutator index inside few) is) (s.pinned mutator index inside few)
+      pin_kept config (first Cset) 0 block plot (first (Pin mutator index)) (graph.pin (mutator + 1) index) (λ piece is. stays (first (Pin mutator index)) piece (unpinned a collected mutator index inside few) is) (clearing.pinned mutator index inside few)
 
   -- a root that names an object becomes the name of a current copy, where other words and promises stay
-  module _ (other_memory : Word → ℕ) (plot : Plot) (t index to : ℕ) (again : AreBetween config other_memory plot owner graph) (same : (word : Word) → (MayChange word → ⊥) → other_memory word ≡ memory word)
-      (names : (p : ℕ) (name : Name) → name_at (block p) ≡ Some name → name_at (plot p) ≡ Some name) (points : Points plot to (graph.root (t + 1) index))
+  module _ (other_memory : Word → ℕ) (plot : Plot) (other_mutator index to : ℕ) (again : AreBetween config other_memory plot owner graph) (same : (word : Word) → (MayChange word → ⊥) → other_memory word ≡ memory word)
+      (names : (p : ℕ) (name : Name) → name_at (block p) ≡ Some name → name_at (plot p) ≡ Some name) (points : Points plot to (graph.root (other_mutator + 1) index))
       (heap : (u p words k : ℕ) → block p ≡ Some (promised u words) → k < words → other_memory (Heap (p + k)) ≡ memory (Heap (p + k)))
       (stays : (u p words : ℕ) → block p ≡ Some (promised u words) → plot p ≡ Some (promised u words))
       (was : (u p words : ℕ) → plot p ≡ Some (promised u words) → block p ≡ Some (promised u words))
       (pins : (u j : ℕ) → u < config.mutators → j < 4 → PinStands config (first Cset) 0 plot (first (Pin u j)) (graph.pin (u + 1) j)) where
-    abbrev w : Word → ℕ
-    w = write other_memory (Root t index) to
+    abbrev memory_then : Word → ℕ
+    memory_then = write other_memory (Root other_mutator index) to
 
-    root_again : (mutator j : ℕ) → mutator < config.mutators → j < 16 → Points plot (w (Root mutator j)) (graph.root (mutator + 1) j)
+    root_again : (mutator j : ℕ) → mutator < config.mutators → j < 16 → Points plot (memory_then (Root mutator j)) (graph.root (mutator + 1) j)
     root_again mutator j inside few = ⊎_elim
-        (λ (here : ((t == mutator) && (index == j)) ≡ true).
-        let is = both_equal t mutator index j here in
-        subst (λ v. Points plot v (graph.root (mutator + 1) j)) (sym (cond-true ((t == mutator) && (index == j)) to (other_memory (Root mutator j)) here))
-        (subst (λ k. Points plot to (graph.root (k + 1) j)) is.0 (subst (λ k. Points plot to (graph.root (t + 1) k)) is.1 points)))
-        (λ (other : ((t == mutator) && (index == j)) ≡ false).
-        subst (λ v. Points plot v (graph.root (mutator + 1) j)) (sym (cond-false ((t == mutator) && (index == j)) to (other_memory (Root mutator j)) other ∙ same (Root mutator j) (λ never. never)))
-        (points_stay block plot names (memory (Root mutator j)) (graph.root (mutator + 1) j) (s.roots mutator j inside few)))
-        (cases_Bool ((t == mutator) && (index == j)))
+        (λ (here : ((other_mutator == mutator) && (index == j)) ≡ true).
+        let is = both_equal other_mutator mutator index j here in
+        subst (λ v. Points plot v (graph.root (mutator + 1) j)) (sym (cond-true ((other_mutator == mutator) && (index == j)) to (other_memory (Root mutator j)) here))
+        (subst (λ k. Points plot to (graph.root (k + 1) j)) is.0 (subst (λ index. Points plot to (graph.root (other_mutator + 1) index)) is.1 points)))
+        (λ (other : ((other_mutator == mutator) && (index == j)) ≡ false).
+        subst (λ v. Points plot v (graph.root (mutator + 1) j)) (sym (cond-false ((other_mutator == mutator) && (index == j)) to (other_memory (Root mutator j)) other ∙ same (Root mutator j) (λ never. never)))
+        (points_stay block plot names (memory (Root mutator j)) (graph.root (mutator + 1) j) (clearing.roots mutator j inside few)))
+        (cases_Bool ((other_mutator == mutator) && (index == j)))
 
-    root_named : IsClearing config first w plot owner graph asking
+    root_named : IsClearing config first memory_then plot owner graph asking
     root_named = record {
       between = again;
       roots = root_again;
       asked = λ u inside.
-          asked_stays memory w block plot graph.count u (same (Wait u) (λ never. never)) (same (Answer u) (λ never. never)) (λ p words k. heap u p words k) (stays u) (was u) (asking u) (s.asked u inside);
-      same = λ word fixed other. not_written other_memory (Root t index) to word tt other ∙ same word fixed ∙ s.same word fixed other;
+          asked_stays memory memory_then block plot graph.count u (same (Wait u) (λ never. never)) (same (Answer u) (λ never. never)) (λ p words k. heap u p words k) (stays u) (was u) (asking u) (clearing.asked u inside);
+      same = λ word fixed other. not_written other_memory (Root other_mutator index) to word tt other ∙ same word fixed ∙ clearing.same word fixed other;
       pinned = pins;
-      apart = s.apart;
+      apart = clearing.apart;
     }
 
   -- One root is cleared.
-  module _ (t index : ℕ) (inside : t < config.mutators) (few : index < 16) (can : CanClear config memory (memory (Root t index))) (collected : is_collected config memory (memory (Root t index)) ≡ true) where
+  module _ (other_mutator index : ℕ) (inside : other_mutator < config.mutators) (few : index < 16) (can : CanClear config memory (memory (Root other_mutator index))) (collected : is_collected config memory (memory (Root other_mutator index)) ≡ true) where
     abbrev a : ℕ
-    a = memory (Root t index)
+    a = memory (Root other_mutator index)
 
     is : IsNamed config memory a
     is = is_named config memory a collected
 
     -- it is the name of an object
-    named : (name : Name) × (graph.root (t + 1) index ≡ Some name) × (name_at (block a) ≡ Some name)
-    named = of_reference (graph.root (t + 1) index) (s.roots t index inside few)
+    named : (name : Name) × (graph.root (other_mutator + 1) index ≡ Some name) × (name_at (block a) ≡ Some name)
+    named = of_reference (graph.root (other_mutator + 1) index) (clearing.roots other_mutator index inside few)
       where
         of_reference : (reference : Reference) → Points block a reference → (name : Name) × (reference ≡ Some name) × (name_at (block a) ≡ Some name)
         of_reference None none = absurd (let above = is.above in let long = config.in_range.least_words in omega (arith, none, above, long))
@@ -157,8 +158,8 @@ module _ (config : Config) (first memory : Word → ℕ) (block : Plot) (owner :
       abbrev x : Block
       x = thing named.0 refs nums
 
-      object : (o : Object) × (graph.object named.0 ≡ Some o) × IsThing (λ y. memory (Heap y)) block a refs nums named.0 o
-      object = s.between.contents.objects.each a refs nums named.0 here
+      object : (o : Object) × (graph.object named.0 ≡ Some o) × IsThing (λ address. memory (Heap address)) block a refs nums named.0 o
+      object = clearing.between.contents.objects.each a refs nums named.0 here
 
       words_are : words_at memory a ≡ words_of x
       words_are = let few_refs = object.2.few_refs in let few_nums = object.2.few_nums in ap object_words object.2.shape ∙ omega (arith, few_refs, few_nums)
@@ -171,36 +172,36 @@ module _ (config : Config) (first memory : Word → ℕ) (block : Plot) (owner :
           let both : thing named.0 refs nums ≡ promised seat words = same_Some x (promised seat words) (sym here ∙ ap block (sym same) ∙ promise) in cc
 
       at : (to : ℕ) × (plot : Plot) × HasCopied config memory (copied_out config memory a) block plot owner graph a to x
-      at = copied_out_of config memory block owner graph s.between a x here tt is.inside object.2.header words_are copies
+      at = copied_out_of config memory block owner graph clearing.between a x here tt is.inside object.2.header words_are copies
 
-      root_copied : (plot : Plot) × IsClearing config first (cleared_at config memory (Root t index)) plot owner graph asking
+      root_copied : (plot : Plot) × IsClearing config first (cleared_at config memory (Root other_mutator index)) plot owner graph asking
       root_copied = (
         at.1,
-        subst (λ w. IsClearing config first w at.1 owner graph asking) (sym (copied_then config memory (Root t index) at.0 collected object.2.header at.2.header))
-            (root_named (copied_out config memory a) at.1 t index at.0 at.2.between at.2.same at.2.names (subst (Points at.1 at.0) (sym named.1) (ap name_at at.2.there))
-            (λ u p words k promise below. at.2.kept p k (promised u words) (no_promise u p words promise) promise below)
-            (λ u p words promise. at.2.stays p (promised u words) (no_promise u p words promise) promise)
-            (λ u p words promise. ⊎_elim
-            (λ (new : (p ≡ at.0) × (x ≡ promised u words)). let differ = new.1 in cc)
-            (λ (stood : (p ≢ a) × (block p ≡ Some (promised u words))). stood.1)
-            (at.2.promises p u words promise))
+        subst (λ memory. IsClearing config first memory at.1 owner graph asking) (sym (copied_then config memory (Root other_mutator index) at.0 collected object.2.header at.2.header))
+            (root_named (copied_out config memory a) at.1 other_mutator index at.0 at.2.between at.2.same at.2.names (subst (Points at.1 at.0) (sym named.1) (ap name_at at.2.there))
+            (λ seat address words k promise below. at.2.kept address k (promised seat words) (no_promise seat address words promise) promise below)
+            (λ seat address words promise. at.2.stays address (promised seat words) (no_promise seat address words promise) promise)
+            (λ seat address words promise. ⊎_elim
+            (λ (new : (address ≡ at.0) × (x ≡ promised seat words)). let differ = new.1 in cc)
+            (λ (stood : (address ≢ a) × (block address ≡ Some (promised seat words))). stood.1)
+            (at.2.promises address seat words promise))
             (pins_copied a at.1 collected at.2.stays)),
       )
 
     -- or which had moved
     module _ (refs nums to : ℕ) (here : block a ≡ Some (moved named.0 refs nums to)) where
-      old_at : IsMoved config (memory Cset) (λ y. memory (Heap y)) block a refs nums to named.0
-      old_at = s.between.moves.moveds a refs nums to named.0 here
+      old_at : IsMoved config (memory Cset) (λ address. memory (Heap address)) block a refs nums to named.0
+      old_at = clearing.between.moves.moveds a refs nums to named.0 here
 
-      root_renamed : (plot : Plot) × IsClearing config first (cleared_at config memory (Root t index)) plot owner graph asking
+      root_renamed : (plot : Plot) × IsClearing config first (cleared_at config memory (Root other_mutator index)) plot owner graph asking
       root_renamed = (
         block,
-        subst (λ w. IsClearing config first w block owner graph asking) (sym (renamed_then config memory (Root t index) to collected old_at.header))
-            (root_named memory block t index to s.between (λ word fixed. refl) (λ p name is. is) (subst (Points block to) (sym named.1) (ap name_at old_at.copy))
-            (λ u p words k promise below. refl) (λ u p words promise. promise) (λ u p words promise. promise) s.pinned),
+        subst (λ memory. IsClearing config first memory block owner graph asking) (sym (renamed_then config memory (Root other_mutator index) to collected old_at.header))
+            (root_named memory block other_mutator index to clearing.between (λ word fixed. refl) (λ p name is. is) (subst (Points block to) (sym named.1) (ap name_at old_at.copy))
+            (λ u p words k promise below. refl) (λ u p words promise. promise) (λ u p words promise. promise) clearing.pinned),
       )
 
-    root_cleared : (plot : Plot) × IsClearing config first (cleared_at config memory (Root t index)) plot owner graph asking
+    root_cleared : (plot : Plot) × IsClearing config first (cleared_at config memory (Root other_mutator index)) plot owner graph asking
     root_cleared =
         let body = named_body (block a) named.0 named.2 in
         ⊎_elim
@@ -209,22 +210,22 @@ module _ (config : Config) (first memory : Word → ℕ) (block : Plot) (owner :
         (copy_cases (block a) (body_of named.0 body.0 body.1) body.2)
 
   -- One answer is cleared.
-  module _ (t : ℕ) (inside : t < config.mutators) (can : CanClear config memory (memory (Answer t))) (collected : is_collected config memory (memory (Answer t)) ≡ true) where
+  module _ (other_mutator : ℕ) (inside : other_mutator < config.mutators) (can : CanClear config memory (memory (Answer other_mutator))) (collected : is_collected config memory (memory (Answer other_mutator)) ≡ true) where
     abbrev answer : ℕ
-    answer = memory (Answer t)
+    answer = memory (Answer other_mutator)
 
     answer_is : IsNamed config memory answer
     answer_is = is_named config memory answer collected
 
     -- it is of an object that was made for the mutator
-    gave : (refs : ℕ) × (nums : ℕ) × (asking t ≡ given refs nums) × (memory (Wait t) ≡ 0) × IsPromise memory block graph.count t refs nums answer
-    gave = was_given memory block graph.count t (asking t) (s.asked t inside) (let above = answer_is.above in let long = config.in_range.least_words in omega (arith, above, long))
+    gave : (refs : ℕ) × (nums : ℕ) × (asking other_mutator ≡ given refs nums) × (memory (Wait other_mutator) ≡ 0) × IsPromise memory block graph.count other_mutator refs nums answer
+    gave = was_given memory block graph.count other_mutator (asking other_mutator) (clearing.asked other_mutator inside) (let above = answer_is.above in let long = config.in_range.least_words in omega (arith, above, long))
 
     abbrev made : Block
-    made = promised t (3 + gave.0 + gave.1)
+    made = promised other_mutator (3 + gave.0 + gave.1)
 
     made_header : memory (Heap answer) ≡ plain_header
-    made_header = let start : answer + 0 ≡ answer = omega arith in ap (λ y. memory (Heap y)) (sym start) ∙ gave.4.words 0 (omega arith)
+    made_header = let start : answer + 0 ≡ answer = omega arith in ap (λ address. memory (Heap address)) (sym start) ∙ gave.4.words 0 (omega arith)
 
     made_shape : memory (Heap (answer + 1)) ≡ shape_word gave.0 gave.1
     made_shape = gave.4.words 1 (omega arith)
@@ -236,7 +237,7 @@ module _ (config : Config) (first memory : Word → ℕ) (block : Plot) (owner :
     made_copies = copies_out config memory answer answer_is.above answer_is.inside (can.room collected (plain_is_plain (memory (Heap answer)) made_header))
 
     moves : (to : ℕ) × (plot : Plot) × HasCopied config memory (copied_out config memory answer) block plot owner graph answer to made
-    moves = copied_out_of config memory block owner graph s.between answer made gave.4.here tt answer_is.inside made_header made_words made_copies
+    moves = copied_out_of config memory block owner graph clearing.between answer made gave.4.here tt answer_is.inside made_header made_words made_copies
 
     abbrev to : ℕ
     to = moves.0
@@ -248,82 +249,82 @@ module _ (config : Config) (first memory : Word → ℕ) (block : Plot) (owner :
     other_memory = copied_out config memory answer
 
     abbrev written : Word → ℕ
-    written = write other_memory (Answer t) to
+    written = write other_memory (Answer other_mutator) to
 
     -- what others were promised is elsewhere
-    other_promise : (seat address words : ℕ) → seat ≢ t → block address ≡ Some (promised seat words) → address ≢ answer
+    other_promise : (seat address words : ℕ) → seat ≢ other_mutator → block address ≡ Some (promised seat words) → address ≢ answer
     other_promise seat address words differs promise same =
         let both : made ≡ promised seat words = same_Some made (promised seat words) (sym gave.4.here ∙ ap block (sym same) ∙ promise) in
-        let seats : t ≡ seat = cc in
+        let seats : other_mutator ≡ seat = cc in
         differs (sym seats)
 
-    answered_here : IsAsked written plot graph.count t (asking t)
+    answered_here : IsAsked written plot graph.count other_mutator (asking other_mutator)
     answered_here =
-        let now : written (Answer t) ≡ to = cond-true (t == t) to (other_memory (Answer t)) (eq-eqb t t refl) in
-        let inside_of = piece_inside config (λ r. other_memory (Top r)) plot moves.2.between.parsable.plotted to made moves.2.there in
+        let now : written (Answer other_mutator) ≡ to = cond-true (other_mutator == other_mutator) to (other_memory (Answer other_mutator)) (eq-eqb other_mutator other_mutator refl) in
+        let inside_of = piece_inside config (λ region. other_memory (Top region)) plot moves.2.between.parsable.plotted to made moves.2.there in
         let long = config.in_range.least_words in
-        subst (IsAsked written plot graph.count t) (sym gave.2) (
-          moves.2.same (Wait t) (λ never. never) ∙ gave.3,
+        subst (IsAsked written plot graph.count other_mutator) (sym gave.2) (
+          moves.2.same (Wait other_mutator) (λ never. never) ∙ gave.3,
           subst (λ k. 1 < k) (sym now) (omega (arith, inside_of.0, long)),
-          subst (IsPromise written plot graph.count t gave.0 gave.1) (sym now)
+          subst (IsPromise written plot graph.count other_mutator gave.0 gave.1) (sym now)
               (record {
                 here = moves.2.there;
                 words = λ k below. moves.2.copied k below ∙ gave.4.words k below;
-                only = λ p more promise. ⊎_elim
-                    (λ (new : (p ≡ to) × (made ≡ promised t more)). new.0)
-                    (λ (stood : (p ≢ answer) × (block p ≡ Some (promised t more))). absurd (stood.0 (gave.4.only p more stood.1)))
-                    (moves.2.promises p t more promise);
+                only = λ address more promise. ⊎_elim
+                    (λ (new : (address ≡ to) × (made ≡ promised other_mutator more)). new.0)
+                    (λ (stood : (address ≢ answer) × (block address ≡ Some (promised other_mutator more))). absurd (stood.0 (gave.4.only address more stood.1)))
+                    (moves.2.promises address other_mutator more promise);
                 few_refs = gave.4.few_refs;
                 few_nums = gave.4.few_nums;
                 few = gave.4.few;
               }),
         )
 
-    answered_there : (u : ℕ) → u < config.mutators → u ≢ t → IsAsked written plot graph.count u (asking u)
-    answered_there u within differs =
-        asked_stays memory written block plot graph.count u (moves.2.same (Wait u) (λ never. never))
-        (cond-false (t == u) to (other_memory (Answer u)) (ne_eqb t u (λ e. differs (sym e))) ∙ moves.2.same (Answer u) (λ never. never))
-        (λ p words k promise below. moves.2.kept p k (promised u words) (other_promise u p words differs promise) promise below)
-        (λ p words promise. moves.2.stays p (promised u words) (other_promise u p words differs promise) promise)
-        (λ p words promise. ⊎_elim
-        (λ (new : (p ≡ to) × (made ≡ promised u words)). let both = new.1 in let seats : t ≡ u = cc in absurd (differs (sym seats)))
-        (λ (stood : (p ≢ answer) × (block p ≡ Some (promised u words))). stood.1)
-        (moves.2.promises p u words promise))
-        (asking u) (s.asked u within)
+    answered_there : (mutator : ℕ) → mutator < config.mutators → mutator ≢ other_mutator → IsAsked written plot graph.count mutator (asking mutator)
+    answered_there mutator within differs =
+        asked_stays memory written block plot graph.count mutator (moves.2.same (Wait mutator) (λ never. never))
+        (cond-false (other_mutator == mutator) to (other_memory (Answer mutator)) (ne_eqb other_mutator mutator (λ e. differs (sym e))) ∙ moves.2.same (Answer mutator) (λ never. never))
+        (λ address words k promise below. moves.2.kept address k (promised mutator words) (other_promise mutator address words differs promise) promise below)
+        (λ address words promise. moves.2.stays address (promised mutator words) (other_promise mutator address words differs promise) promise)
+        (λ address words promise. ⊎_elim
+        (λ (new : (address ≡ to) × (made ≡ promised mutator words)). let both = new.1 in let seats : other_mutator ≡ mutator = cc in absurd (differs (sym seats)))
+        (λ (stood : (address ≢ answer) × (block address ≡ Some (promised mutator words))). stood.1)
+        (moves.2.promises address mutator words promise))
+        (asking mutator) (clearing.asked mutator within)
 
-    answer_cleared : (new_plot : Plot) × IsClearing config first (cleared_at config memory (Answer t)) new_plot owner graph asking
+    answer_cleared : (new_plot : Plot) × IsClearing config first (cleared_at config memory (Answer other_mutator)) new_plot owner graph asking
     answer_cleared = (
       plot,
-      subst (λ end. IsClearing config first end plot owner graph asking) (sym (copied_then config memory (Answer t) to collected made_header moves.2.header))
+      subst (λ end. IsClearing config first end plot owner graph asking) (sym (copied_then config memory (Answer other_mutator) to collected made_header moves.2.header))
           (record {
             between = moves.2.between;
             roots = λ u j within few.
                 subst (λ v. Points plot v (graph.root (u + 1) j)) (sym (moves.2.same (Root u j) (λ never. never)))
-                (points_stay block plot moves.2.names (memory (Root u j)) (graph.root (u + 1) j) (s.roots u j within few));
-            asked = λ u within. ⊎_elim
-                (λ (own : u ≡ t). subst (λ k. IsAsked written plot graph.count k (asking k)) (sym own) answered_here)
-                (λ (differs : u ≢ t). answered_there u within differs)
-                (cases_eq u t);
-            same = λ word fixed other. not_written other_memory (Answer t) to word tt other ∙ moves.2.same word fixed ∙ s.same word fixed other;
+                (points_stay block plot moves.2.names (memory (Root u j)) (graph.root (u + 1) j) (clearing.roots u j within few));
+            asked = λ mutator within. ⊎_elim
+                (λ (own : mutator ≡ other_mutator). subst (λ k. IsAsked written plot graph.count k (asking k)) (sym own) answered_here)
+                (λ (differs : mutator ≢ other_mutator). answered_there mutator within differs)
+                (cases_eq mutator other_mutator);
+            same = λ word fixed other. not_written other_memory (Answer other_mutator) to word tt other ∙ moves.2.same word fixed ∙ clearing.same word fixed other;
             pinned = pins_copied answer plot collected moves.2.stays;
-            apart = s.apart;
+            apart = clearing.apart;
           }),
     )
 
   -- One place is cleared.
   spared : (place : Word) → is_collected config memory (memory place) ≡ false → (plot : Plot) × IsClearing config first (cleared_at config memory place) plot owner graph asking
-  spared place outside = (block, subst (λ end. IsClearing config first end block owner graph asking) (sym (spared_is config memory place outside)) s)
+  spared place outside = (block, subst (λ end. IsClearing config first end block owner graph asking) (sym (spared_is config memory place outside)) clearing)
 
   pub place_cleared : (place : Word) → IsPlace config place → CanClear config memory (memory place) → (plot : Plot) × IsClearing config first (cleared_at config memory place) plot owner graph asking
-  place_cleared (Root t index) at can = ⊎_elim
-      (λ (collected : is_collected config memory (memory (Root t index)) ≡ true). root_cleared t index at.0 at.1 can collected)
-      (λ (outside : is_collected config memory (memory (Root t index)) ≡ false). spared (Root t index) outside)
-      (cases_Bool (is_collected config memory (memory (Root t index))))
-  place_cleared (Answer t) at can = ⊎_elim
-      (λ (collected : is_collected config memory (memory (Answer t)) ≡ true). answer_cleared t at can collected)
-      (λ (outside : is_collected config memory (memory (Answer t)) ≡ false). spared (Answer t) outside)
-      (cases_Bool (is_collected config memory (memory (Answer t))))
-  place_cleared _ at can = absurd at
+  place_cleared (Root other_mutator index) place can = ⊎_elim
+      (λ (collected : is_collected config memory (memory (Root other_mutator index)) ≡ true). root_cleared other_mutator index place.0 place.1 can collected)
+      (λ (outside : is_collected config memory (memory (Root other_mutator index)) ≡ false). spared (Root other_mutator index) outside)
+      (cases_Bool (is_collected config memory (memory (Root other_mutator index))))
+  place_cleared (Answer other_mutator) place can = ⊎_elim
+      (λ (collected : is_collected config memory (memory (Answer other_mutator)) ≡ true). answer_cleared other_mutator place can collected)
+      (λ (outside : is_collected config memory (memory (Answer other_mutator)) ≡ false). spared (Answer other_mutator) outside)
+      (cases_Bool (is_collected config memory (memory (Answer other_mutator))))
+  place_cleared _ place can = absurd place
 
 -- All of them are.
 pub is_first : (place : Word) (places : List Word) → Contains (place ∷ places) place
@@ -336,7 +337,7 @@ pub all_cleared : (config : Config) (first : Word → ℕ) (owner : ℕ → Opti
     → ((word : Word) → Contains places word → IsPlace config word) → IsClearing config first memory block owner graph asking → CanClearInTurn config memory places
     → (plot : Plot) × IsClearing config first (cleared_in_turn config memory places) plot owner graph asking
 unfolding cleared_in_turn CanClearInTurn
-all_cleared config first owner graph asking [] memory block are s can = (block, s)
-all_cleared config first owner graph asking (place ∷ places) memory block are s can =
-    let next = place_cleared config first memory block owner graph asking s place (are place (is_first place places)) can.0 in
+all_cleared config first owner graph asking [] memory block are clearing can = (block, clearing)
+all_cleared config first owner graph asking (place ∷ places) memory block are clearing can =
+    let next = place_cleared config first memory block owner graph asking clearing place (are place (is_first place places)) can.0 in
     all_cleared config first owner graph asking places (cleared_at config memory place) next.0 (λ word has. are word (is_later place places word has)) next.1 can.1

@@ -17,7 +17,7 @@ use Rattle.shen_graph.specs.declared.name.Name.{Name}
 use Rattle.shen_graph.specs.Graph.{Reference, Graph}
 use Rattle.regions.specs.Marks.{HasMark}
 use Rattle.heap_world.specs.World.{Block, thing, moved, spent, hand, promised, dead, filler, carved, words_of, room_of, Plot, name_at, Points, IsCollected, IsPlotted, IsFilled, IsThing, IsParsable, AreObjects, IsFreeWord, ShareIsOpen, AreBuffers, AreBuffersOutside, AreOwned, IsBlank, AreUnwritten, IsMoved, IsSpent, IsMarkable, IsYoung, HasCopy, body_at}
-use Rattle.heap_world.proofs.Updates.{updated, updated_same, updated_there, updated_else}
+use Rattle.heap_world.proofs.FunctionUpdates.{updated, updated_same, updated_there, updated_else}
 use Rattle.heap_world.proofs.Keeping.{points_stay}
 use Rattle.heap_world.proofs.Pointing.{named_piece}
 use Rattle.heap_world.proofs.Pieces.{some_words, beside, piece_cases, object_reads}
@@ -45,11 +45,11 @@ pub record HasCopied (config : Config) (memory other_memory : Word → ℕ) (blo
   pub promises : (other_address seat words : ℕ) → plot other_address ≡ Some (promised seat words) → ((other_address ≡ to) × (piece ≡ promised seat words)) ⊎ ((other_address ≢ address) × (block other_address ≡ Some (promised seat words)))
   pub same : (word : Word) → (MayChange word → ⊥) → other_memory word ≡ memory word
 
-module _ (config : Config) (memory : Word → ℕ) (block : Plot) (owner : ℕ → Option ℕ) (graph : Graph) (b : AreBetween config memory block owner graph)
+module _ (config : Config) (memory : Word → ℕ) (block : Plot) (owner : ℕ → Option ℕ) (graph : Graph) (between : AreBetween config memory block owner graph)
     (address : ℕ) (other_piece : Block) (here : block address ≡ Some other_piece) (live : IsLive other_piece) (inside : IsCollected config (memory Cset) address) (plain : memory (Heap address) ≡ plain_header) (words_are : words_at memory address ≡ words_of other_piece)
     (out : IsCopiedOut config memory (copied_out config memory address) address) where
-  abbrev n : Word → ℕ
-  n = copied_out config memory address
+  abbrev now : Word → ℕ
+  now = copied_out config memory address
 
   abbrev r : ℕ
   r = out.region
@@ -68,15 +68,15 @@ module _ (config : Config) (memory : Word → ℕ) (block : Plot) (owner : ℕ �
   heap address = memory (Heap address)
 
   abbrev after : ℕ → ℕ
-  after address = n (Heap address)
+  after address = now (Heap address)
 
   -- a piece has a word at least
   long : (address : ℕ) (piece : Block) → block address ≡ Some piece → 1 ≤ words_of piece
-  long address piece is = some_words config top block b.parsable b.owned.rooms address piece is
+  long address piece is = some_words config top block between.parsable between.owned.rooms address piece is
 
   joins : CanJoin config top block r (memory (Top r)) other_piece
   joins = record {
-    plotted = b.parsable.plotted;
+    plotted = between.parsable.plotted;
     long = long;
     within = out.below;
     top_is = refl;
@@ -88,7 +88,7 @@ module _ (config : Config) (memory : Word → ℕ) (block : Plot) (owner : ℕ �
   none_there : (piece : Block) → block to ≡ Some piece → ⊥
   none_there piece is =
       let some = long to piece is in
-      let where_is = beside config top block b.parsable.plotted r to piece is in
+      let where_is = beside config top block between.parsable.plotted r to piece is in
       let small = long address other_piece here in
       let room = out.room in
       omega (arith, some, where_is, small, room, words_are)
@@ -136,7 +136,7 @@ module _ (config : Config) (memory : Word → ℕ) (block : Plot) (owner : ℕ �
       (cases_eq p address)
 
   -- words of pieces stay, but for the header
-  word_stays : (p k : ℕ) (piece : Block) → block p ≡ Some piece → k < words_of piece → p + k ≢ address → n (Heap (p + k)) ≡ memory (Heap (p + k))
+  word_stays : (p k : ℕ) (piece : Block) → block p ≡ Some piece → k < words_of piece → p + k ≢ address → now (Heap (p + k)) ≡ memory (Heap (p + k))
   word_stays p k piece is below other =
       let room = out.room in
       out.copied.elsewhere (p + k) other
@@ -146,18 +146,18 @@ module _ (config : Config) (memory : Word → ℕ) (block : Plot) (owner : ℕ �
       (λ (within : (base_of config r ≤ p) × (p + words_of piece ≤ base_of config r + top r)). inl (omega (arith, within.1, below)))
       (λ (behind : base_of config r + config.region_words ≤ p). inr (omega (arith, behind, room)))
       rest)
-      (beside config top block b.parsable.plotted r p piece is))
+      (beside config top block between.parsable.plotted r p piece is))
 
-  kept : (p k : ℕ) (piece : Block) → p ≢ address → block p ≡ Some piece → k < words_of piece → n (Heap (p + k)) ≡ memory (Heap (p + k))
+  kept : (p k : ℕ) (piece : Block) → p ≢ address → block p ≡ Some piece → k < words_of piece → now (Heap (p + k)) ≡ memory (Heap (p + k))
   kept p k piece other is below =
-      let apart : p + k ≢ address + 0 = far config top block b.parsable.plotted p address k 0 piece other_piece is here other below (let some = long address other_piece here in omega (arith, some)) in
+      let apart : p + k ≢ address + 0 = far config top block between.parsable.plotted p address k 0 piece other_piece is here other below (let some = long address other_piece here in omega (arith, some)) in
       word_stays p k piece is below (λ same. apart (omega (arith, same)))
 
-  left : (k : ℕ) → 1 ≤ k → k < words_of other_piece → n (Heap (address + k)) ≡ memory (Heap (address + k))
-  left k some below = word_stays address k other_piece here below (λ same. omega (arith, same, some))
+  left : (k : ℕ) → 1 ≤ k → k < words_of other_piece → now (Heap (address + k)) ≡ memory (Heap (address + k))
+  left k positive below = word_stays address k other_piece here below (λ same. omega (arith, same, positive))
 
   -- the copy has the object's words
-  copied : (k : ℕ) → k < words_of other_piece → n (Heap (to + k)) ≡ memory (Heap (address + k))
+  copied : (k : ℕ) → k < words_of other_piece → now (Heap (to + k)) ≡ memory (Heap (address + k))
   copied k below = ⊎_elim
       (λ (none : k ≡ 0).
       let new : to + k ≡ to = omega (arith, none) in
@@ -167,21 +167,21 @@ module _ (config : Config) (memory : Word → ℕ) (block : Plot) (owner : ℕ �
       (cases_eq k 0)
 
   -- other words stay
-  word_same : (word : Word) → (MayChange word → ⊥) → n word ≡ memory word
+  word_same : (word : Word) → (MayChange word → ⊥) → now word ≡ memory word
   word_same word = out.copied.others word
 
-  set_same : n Cset ≡ memory Cset
+  set_same : now Cset ≡ memory Cset
   set_same = word_same Cset (λ never. never)
 
-  top_same : (region : ℕ) → region ≢ r → n (Top region) ≡ memory (Top region)
+  top_same : (region : ℕ) → region ≢ r → now (Top region) ≡ memory (Top region)
   top_same = out.copied.other_tops
 
-  tops_are : (λ q. n (Top q)) ≡ updated top r (memory (Top r) + words_of other_piece)
-  tops_are = fun_ext (λ q. ⊎_elim
-      (λ (same : r ≡ q).
-      ap (λ k. n (Top k)) (sym same) ∙ out.copied.top ∙ ap (λ w. memory (Top r) + w) words_are ∙ sym (updated_same top r (memory (Top r) + words_of other_piece) q same))
-      (λ (other : r ≢ q). top_same q (λ e. other (sym e)) ∙ sym (updated_else top r (memory (Top r) + words_of other_piece) q other))
-      (cases_eq r q))
+  tops_are : (λ region. now (Top region)) ≡ updated top r (memory (Top r) + words_of other_piece)
+  tops_are = fun_ext (λ region. ⊎_elim
+      (λ (same : r ≡ region).
+      ap (λ region. now (Top region)) (sym same) ∙ out.copied.top ∙ ap (λ w. memory (Top r) + w) words_are ∙ sym (updated_same top r (memory (Top r) + words_of other_piece) region same))
+      (λ (other : r ≢ region). top_same region (λ e. other (sym e)) ∙ sym (updated_else top r (memory (Top r) + words_of other_piece) region other))
+      (cases_eq r region))
 
   -- the copy lies outside the set
   region_is : region_with config to ≡ r
@@ -196,11 +196,11 @@ module _ (config : Config) (memory : Word → ℕ) (block : Plot) (owner : ℕ �
       let not_in = out.outside in
       omega (arith, member, not_in)
 
-  inside_now : IsCollected config (n Cset) address
-  inside_now = subst (λ s. IsCollected config s address) (sym set_same) inside
+  inside_now : IsCollected config (now Cset) address
+  inside_now = subst (λ cset. IsCollected config cset address) (sym set_same) inside
 
-  outside_now : IsCollected config (n Cset) to → ⊥
-  outside_now is = outside (subst (λ s. IsCollected config s to) set_same is)
+  outside_now : IsCollected config (now Cset) to → ⊥
+  outside_now is = outside (subst (λ cset. IsCollected config cset to) set_same is)
 
   -- so nothing outside is the old copy
   not_old : (p : ℕ) → (IsCollected config (memory Cset) p → ⊥) → p ≢ address
@@ -225,25 +225,25 @@ module _ (config : Config) (memory : Word → ℕ) (block : Plot) (owner : ℕ �
       rest)
       (plot_cases p (filler words) is)
 
-  parsable_again : IsParsable config (λ q. n (Top q)) plot
+  parsable_again : IsParsable config (λ region. now (Top region)) plot
   parsable_again = record {
-    plotted = subst (λ t. IsPlotted config t plot) (sym tops_are)
+    plotted = subst (λ top. IsPlotted config top plot) (sym tops_are)
         (plotted_still config (updated top r (memory (Top r) + words_of other_piece)) mid address other_piece old (mid_stays address other_piece here) (old_words other_piece to) (joined.plotted_more config top block r (memory (Top r)) other_piece joins));
-    filled = subst (λ t. IsFilled config t plot) (sym tops_are)
+    filled = subst (λ top. IsFilled config top plot) (sym tops_are)
         (filled_still config (updated top r (memory (Top r) + words_of other_piece)) mid address other_piece old (mid_stays address other_piece here) (old_words other_piece to)
-        (joined.filled_more config top block r (memory (Top r)) other_piece joins b.parsable.filled));
-    promises = λ p seat words is. let at = was_promise p seat words is in b.parsable.promises at.0 seat words at.1;
-    deads = λ p words is. b.parsable.deads p words (dead_from p words is).1;
-    spents = λ p words at is. ⊎_elim
-        (λ (gone : (p ≡ address) × (old ≡ spent words at)).
+        (joined.filled_more config top block r (memory (Top r)) other_piece joins between.parsable.filled));
+    promises = λ p seat words is. let at = was_promise p seat words is in between.parsable.promises at.0 seat words at.1;
+    deads = λ p words is. between.parsable.deads p words (dead_from p words is).1;
+    spents = λ other_address words at is. ⊎_elim
+        (λ (gone : (other_address ≡ address) × (old ≡ spent words at)).
         let was = was_promised other_piece to live words at gone.1 in
-        b.parsable.promises address was.0 words (here ∙ ap Some was.1))
+        between.parsable.promises address was.0 words (here ∙ ap Some was.1))
         (λ rest. ⊎_elim
-        (λ (new : (p ≡ to) × (other_piece ≡ spent words at)). absurd ((live_is_live other_piece live).1 words at new.1))
-        (λ (stood : (p ≢ address) × (block p ≡ Some (spent words at))). b.parsable.spents p words at stood.1)
+        (λ (new : (other_address ≡ to) × (other_piece ≡ spent words at)). absurd ((live_is_live other_piece live).1 words at new.1))
+        (λ (stood : (other_address ≢ address) × (block other_address ≡ Some (spent words at))). between.parsable.spents other_address words at stood.1)
         rest)
-        (plot_cases p (spent words at) is);
-    fillers = λ p words is. b.parsable.fillers p words (filler_from p words is).1;
+        (plot_cases other_address (spent words at) is);
+    fillers = λ p words is. between.parsable.fillers p words (filler_from p words is).1;
   }
     where
       was_promise : (p seat words : ℕ) → plot p ≡ Some (promised seat words) → (q : ℕ) × (block q ≡ Some (promised seat words))
@@ -273,116 +273,116 @@ module _ (config : Config) (memory : Word → ℕ) (block : Plot) (owner : ℕ �
   -- room is the same
   same_room : SameRoom block plot
   same_room = record {
-    stays = λ p seat y of is. stays p y (λ same. none-some seat (sym (live_is_live other_piece live).2 ∙ ap room_of (same_Some other_piece y (sym here ∙ ap block (sym same) ∙ is)) ∙ of)) is;
-    came = λ p seat y of is. ⊎_elim
-        (λ (gone : (p ≡ address) × (old ≡ y)). absurd (none-some seat (sym (old_is_old other_piece to).2 ∙ ap room_of gone.1 ∙ of)))
+    stays = λ p seat piece of is. stays p piece (λ same. none-some seat (sym (live_is_live other_piece live).2 ∙ ap room_of (same_Some other_piece piece (sym here ∙ ap block (sym same) ∙ is)) ∙ of)) is;
+    came = λ other_address seat piece of is. ⊎_elim
+        (λ (gone : (other_address ≡ address) × (old ≡ piece)). absurd (none-some seat (sym (old_is_old other_piece to).2 ∙ ap room_of gone.1 ∙ of)))
         (λ rest. ⊎_elim
-        (λ (new : (p ≡ to) × (other_piece ≡ y)). absurd (none-some seat (sym (live_is_live other_piece live).2 ∙ ap room_of new.1 ∙ of)))
-        (λ (stood : (p ≢ address) × (block p ≡ Some y)). stood.1)
+        (λ (new : (other_address ≡ to) × (other_piece ≡ piece)). absurd (none-some seat (sym (live_is_live other_piece live).2 ∙ ap room_of new.1 ∙ of)))
+        (λ (stood : (other_address ≢ address) × (block other_address ≡ Some piece)). stood.1)
         rest)
-        (plot_cases p y is);
+        (plot_cases other_address piece is);
   }
 
   objects_again : AreObjects after plot graph.object
   objects_again = record {
-    each = λ p refs nums name is. ⊎_elim
-        (λ (new : (p ≡ to) × (other_piece ≡ thing name refs nums)).
-        let o = b.contents.objects.each address refs nums name (here ∙ ap Some new.1) in
+    each = λ other_address refs nums name is. ⊎_elim
+        (λ (new : (other_address ≡ to) × (other_piece ≡ thing name refs nums)).
+        let o = between.contents.objects.each address refs nums name (here ∙ ap Some new.1) in
         let size : words_of other_piece ≡ 3 + refs + nums = ap words_of new.1 in
         let copy = object_copied heap after block plot address to refs nums name o.0 (λ k below. copied k (omega (arith, below, size))) names_stay o.2 in
         (o.0, o.1, subst (λ q. IsThing after plot q refs nums name o.0) (sym new.0) copy))
-        (λ (stood : (p ≢ address) × (block p ≡ Some (thing name refs nums))).
-        let o = b.contents.objects.each p refs nums name stood.1 in
-        (o.0, o.1, object_reads heap after block plot p refs nums name o.0 (λ k below. kept p k (thing name refs nums) stood.0 stood.1 below) names_stay o.2))
-        (thing_from p refs nums name is);
-    once = λ p q refs nums more_refs more_nums name is_p is_q. ⊎_elim
-        (λ (new_p : (p ≡ to) × (other_piece ≡ thing name refs nums)). ⊎_elim
+        (λ (stood : (other_address ≢ address) × (block other_address ≡ Some (thing name refs nums))).
+        let o = between.contents.objects.each other_address refs nums name stood.1 in
+        (o.0, o.1, object_reads heap after block plot other_address refs nums name o.0 (λ k below. kept other_address k (thing name refs nums) stood.0 stood.1 below) names_stay o.2))
+        (thing_from other_address refs nums name is);
+    once = λ other_address q refs nums more_refs more_nums name is_p is_q. ⊎_elim
+        (λ (new_p : (other_address ≡ to) × (other_piece ≡ thing name refs nums)). ⊎_elim
         (λ (new_q : (q ≡ to) × (other_piece ≡ thing name more_refs more_nums)). new_p.0 ∙ sym new_q.0)
         (λ (stood_q : (q ≢ address) × (block q ≡ Some (thing name more_refs more_nums))).
-        absurd (stood_q.0 (sym (b.contents.objects.once address q refs nums more_refs more_nums name (here ∙ ap Some new_p.1) stood_q.1))))
+        absurd (stood_q.0 (sym (between.contents.objects.once address q refs nums more_refs more_nums name (here ∙ ap Some new_p.1) stood_q.1))))
         (thing_from q more_refs more_nums name is_q))
-        (λ (stood_p : (p ≢ address) × (block p ≡ Some (thing name refs nums))). ⊎_elim
+        (λ (stood_p : (other_address ≢ address) × (block other_address ≡ Some (thing name refs nums))). ⊎_elim
         (λ (new_q : (q ≡ to) × (other_piece ≡ thing name more_refs more_nums)).
-        absurd (stood_p.0 (b.contents.objects.once p address refs nums more_refs more_nums name stood_p.1 (here ∙ ap Some new_q.1))))
+        absurd (stood_p.0 (between.contents.objects.once other_address address refs nums more_refs more_nums name stood_p.1 (here ∙ ap Some new_q.1))))
         (λ (stood_q : (q ≢ address) × (block q ≡ Some (thing name more_refs more_nums))).
-        b.contents.objects.once p q refs nums more_refs more_nums name stood_p.1 stood_q.1)
+        between.contents.objects.once other_address q refs nums more_refs more_nums name stood_p.1 stood_q.1)
         (thing_from q more_refs more_nums name is_q))
-        (thing_from p refs nums name is_p);
+        (thing_from other_address refs nums name is_p);
   }
 
   -- a region that is free was, and is another
-  free_was : (region : ℕ) → region < config.regions → IsIn (n Free) region → (region ≢ r) × IsIn (memory Free) region
+  free_was : (region : ℕ) → region < config.regions → IsIn (now Free) region → (region ≢ r) × IsIn (memory Free) region
   free_was region below is =
-      let differs : region ≢ r = λ same. (let member : bit_at (n Free) r ≡ 1 = subst (IsIn (n Free)) same is in let used = out.copied.in_use in omega (arith, member, used)) in
+      let differs : region ≢ r = λ same. (let member : bit_at (now Free) r ≡ 1 = subst (IsIn (now Free)) same is in let used = out.copied.in_use in omega (arith, member, used)) in
       (differs, sym (out.copied.others_free region below differs) ∙ is)
 
-  free_is : n Free ≡ bit_and (memory Free) (all_but r)
+  free_is : now Free ≡ bit_and (memory Free) (all_but r)
   unfolding copied_to
   free_is = ap (λ (memory : Word → ℕ). memory Free) (copied_as config memory address r out.found)
 
-  free_again : IsFreeWord config (n Free) (λ q. n (Top q)) owner
+  free_again : IsFreeWord config (now Free) (λ region. now (Top region)) owner
   free_again = record {
-    no_more = (let was = b.owned.free_word.no_more in let less = and_le_l (memory Free) (all_but r) in let is = free_is in omega (arith, was, less, is));
-    empty = λ q below is. let was = free_was q below is in top_same q was.0 ∙ b.owned.free_word.empty q below was.1;
-    nobodys = λ q below is. b.owned.free_word.nobodys q below (free_was q below is).1;
+    no_more = (let was = between.owned.free_word.no_more in let less = and_le_l (memory Free) (all_but r) in let is = free_is in omega (arith, was, less, is));
+    empty = λ region below is. let was = free_was region below is in top_same region was.0 ∙ between.owned.free_word.empty region below was.1;
+    nobodys = λ q below is. between.owned.free_word.nobodys q below (free_was q below is).1;
   }
 
   -- no top falls
-  rises : (region : ℕ) → memory (Top region) ≤ n (Top region)
+  rises : (region : ℕ) → memory (Top region) ≤ now (Top region)
   rises region = ⊎_elim
-      (λ (same : region ≡ r). (let grown = out.copied.top in let own : n (Top region) ≡ n (Top r) = ap (λ k. n (Top k)) same in let was : memory (Top region) ≡ memory (Top r) = ap (λ k. memory (Top k)) same in omega (arith, grown, own, was)))
+      (λ (same : region ≡ r). (let grown = out.copied.top in let own : now (Top region) ≡ now (Top r) = ap (λ region. now (Top region)) same in let was : memory (Top region) ≡ memory (Top r) = ap (λ region. memory (Top region)) same in omega (arith, grown, own, was)))
       (λ (other : region ≢ r). (let same = top_same region other in omega (arith, same)))
       (cases_eq region r)
 
   -- so regions and buffers are owned as before
   abbrev currents : ℕ → ℕ
-  currents seat = n (Current seat)
+  currents seat = now (Current seat)
 
   abbrev currents_were : ℕ → ℕ
   currents_were seat = memory (Current seat)
 
   currents_same : currents ≡ currents_were
-  currents_same = fun_ext (λ s. word_same (Current s) (λ never. never))
+  currents_same = fun_ext (λ seat. word_same (Current seat) (λ never. never))
 
-  buffers_again : AreBuffers config (λ q. n (Top q)) currents plot
-  buffers_again = subst (λ k. AreBuffers config (λ q. n (Top q)) k plot) (sym currents_same)
-      (buffers_stay config top (λ q. n (Top q)) currents_were block plot same_room b.owned.buffers (λ seat some. rises (b.owned.buffers.each seat some).region))
+  buffers_again : AreBuffers config (λ region. now (Top region)) currents plot
+  buffers_again = subst (λ current. AreBuffers config (λ region. now (Top region)) current plot) (sym currents_same)
+      (buffers_stay config top (λ region. now (Top region)) currents_were block plot same_room between.owned.buffers (λ seat some. rises (between.owned.buffers.each seat some).region))
 
-  outside_again : AreBuffersOutside config (n Cset) currents
-  outside_again = subst (λ k. AreBuffersOutside config (n Cset) k) (sym currents_same) (subst (λ set. AreBuffersOutside config set currents_were) (sym set_same) b.owned.outside)
+  outside_again : AreBuffersOutside config (now Cset) currents
+  outside_again = subst (λ current. AreBuffersOutside config (now Cset) current) (sym currents_same) (subst (λ set. AreBuffersOutside config set currents_were) (sym set_same) between.owned.outside)
 
-  share_again : ShareIsOpen config (n Share) (n Free) (n Cset) owner
-  share_again = subst (λ share. ShareIsOpen config share (n Free) (n Cset) owner) (sym (word_same Share (λ never. never)))
-      (subst (λ free. ShareIsOpen config (memory Share) free (n Cset) owner) (sym free_is)
-      (subst (λ set. ShareIsOpen config (memory Share) (bit_and (memory Free) (all_but r)) set owner) (sym set_same) (share_stays config (memory Share) (memory Free) (memory Cset) r owner out.below b.owned.shared_one)))
+  share_again : ShareIsOpen config (now Share) (now Free) (now Cset) owner
+  share_again = subst (λ share. ShareIsOpen config share (now Free) (now Cset) owner) (sym (word_same Share (λ never. never)))
+      (subst (λ free. ShareIsOpen config (memory Share) free (now Cset) owner) (sym free_is)
+      (subst (λ set. ShareIsOpen config (memory Share) (bit_and (memory Free) (all_but r)) set owner) (sym set_same) (share_stays config (memory Share) (memory Free) (memory Cset) r owner out.below between.owned.shared_one)))
 
-  owned_again : AreOwned config (λ q. n (Top q)) (n Share) (n Free) (n Cset) currents plot owner
-  owned_again = record { free_word = free_again; shared_one = share_again; rooms = rooms_stay config block plot same_room b.owned.rooms; buffers = buffers_again; outside = outside_again }
+  owned_again : AreOwned config (λ region. now (Top region)) (now Share) (now Free) (now Cset) currents plot owner
+  owned_again = record { free_word = free_again; shared_one = share_again; rooms = rooms_stay config block plot same_room between.owned.rooms; buffers = buffers_again; outside = outside_again }
 
   unwritten_again : AreUnwritten after plot
   unwritten_again = record {
-    blanks = λ p seat words is. ⊎_elim
-        (λ (new : (p ≡ to) × (other_piece ≡ promised seat words)).
+    blanks = λ other_address seat words is. ⊎_elim
+        (λ (new : (other_address ≡ to) × (other_piece ≡ promised seat words)).
         let size : words_of other_piece ≡ words = ap words_of new.1 in
-        subst (λ q. IsBlank after q words) (sym new.0)
-        (blank_copied heap after address to words (λ k below. copied k (omega (arith, below, size))) (b.unwritten.blanks address seat words (here ∙ ap Some new.1))))
-        (λ (stood : (p ≢ address) × (block p ≡ Some (promised seat words))).
-        blank_copied heap after p p words (λ k below. kept p k (promised seat words) stood.0 stood.1 below) (b.unwritten.blanks p seat words stood.1))
-        (promised_from p seat words is);
+        subst (λ address. IsBlank after address words) (sym new.0)
+        (blank_copied heap after address to words (λ k below. copied k (omega (arith, below, size))) (between.unwritten.blanks address seat words (here ∙ ap Some new.1))))
+        (λ (stood : (other_address ≢ address) × (block other_address ≡ Some (promised seat words))).
+        blank_copied heap after other_address other_address words (λ k below. kept other_address k (promised seat words) stood.0 stood.1 below) (between.unwritten.blanks other_address seat words stood.1))
+        (promised_from other_address seat words is);
     headers = λ p words is.
         let was = dead_from p words is in
         let some = long p (dead words) was.1 in
         let first : p + 0 ≡ p = omega arith in
-        sym (ap after first) ∙ kept p 0 (dead words) was.0 was.1 some ∙ ap heap first ∙ b.unwritten.headers p words was.1;
+        sym (ap after first) ∙ kept p 0 (dead words) was.0 was.1 some ∙ ap heap first ∙ between.unwritten.headers p words was.1;
     lengths = λ p words is.
         let was = dead_from p words is in
-        let some = b.parsable.deads p words was.1 in
-        ap object_words (kept p 1 (dead words) was.0 was.1 (omega (arith, some))) ∙ b.unwritten.lengths p words was.1;
+        let some = between.parsable.deads p words was.1 in
+        ap object_words (kept p 1 (dead words) was.0 was.1 (omega (arith, some))) ∙ between.unwritten.lengths p words was.1;
     fillers = λ p words is.
         let was = filler_from p words is in
         let some = long p (filler words) was.1 in
         let first : p + 0 ≡ p = omega arith in
-        sym (ap after first) ∙ kept p 0 (filler words) was.0 was.1 some ∙ ap heap first ∙ b.unwritten.fillers p words was.1;
+        sym (ap after first) ∙ kept p 0 (filler words) was.0 was.1 some ∙ ap heap first ∙ between.unwritten.fillers p words was.1;
   }
 
   -- an object that is not the one that is copied is where it was
@@ -394,14 +394,14 @@ module _ (config : Config) (memory : Word → ℕ) (block : Plot) (owner : ℕ �
   refers_still : (at : ℕ) (reference : Reference) → after at ≡ heap at → Points block (heap at) reference → Points plot (after at) reference
   refers_still at reference same points = subst (λ v. Points plot v reference) (sym same) (points_stay block plot names_stay (heap at) reference points)
 
-  moved_again : (p refs nums at : ℕ) (name : Name) → plot p ≡ Some (moved name refs nums at) → IsMoved config (n Cset) after plot p refs nums at name
+  moved_again : (p refs nums at : ℕ) (name : Name) → plot p ≡ Some (moved name refs nums at) → IsMoved config (now Cset) after plot p refs nums at name
   moved_again p refs nums at name is = ⊎_elim
       (λ (gone : (p ≡ address) × (old ≡ moved name refs nums at)).
       let was = was_thing other_piece to live name refs nums at gone.1 in
-      let o = b.contents.objects.each address refs nums name (here ∙ ap Some was.0) in
+      let o = between.contents.objects.each address refs nums name (here ∙ ap Some was.0) in
       let size : words_of other_piece ≡ 3 + refs + nums = ap words_of was.0 in
-      subst (λ q. IsMoved config (n Cset) after plot q refs nums at name) (sym gone.0)
-      (subst (λ k. IsMoved config (n Cset) after plot address refs nums k name) (sym was.1)
+      subst (λ address. IsMoved config (now Cset) after plot address refs nums at name) (sym gone.0)
+      (subst (λ k. IsMoved config (now Cset) after plot address refs nums k name) (sym was.1)
       (record {
         header = out.copied.forwarded;
         shape = left 1 (omega arith) (omega (arith, size)) ∙ o.2.shape;
@@ -420,7 +420,7 @@ module _ (config : Config) (memory : Word → ℕ) (block : Plot) (owner : ℕ �
       (λ rest. ⊎_elim
       (λ (new : (p ≡ to) × (other_piece ≡ moved name refs nums at)). absurd ((live_is_live other_piece live).0 name refs nums at new.1))
       (λ (stood : (p ≢ address) × (block p ≡ Some (moved name refs nums at))).
-      let was = b.moves.moveds p refs nums at name stood.1 in
+      let was = between.moves.moveds p refs nums at name stood.1 in
       let first : p + 0 ≡ p = omega arith in
       record {
         header = sym (ap after first) ∙ kept p 0 (moved name refs nums at) stood.0 stood.1 (omega arith) ∙ ap heap first ∙ was.header;
@@ -428,9 +428,9 @@ module _ (config : Config) (memory : Word → ℕ) (block : Plot) (owner : ℕ �
         name_word = kept p 2 (moved name refs nums at) stood.0 stood.1 (omega arith) ∙ was.name_word;
         few_refs = was.few_refs;
         few_nums = was.few_nums;
-        inside = subst (λ s. IsCollected config s p) (sym set_same) was.inside;
+        inside = subst (λ cset. IsCollected config cset p) (sym set_same) was.inside;
         copy = stays at (thing name refs nums) (not_old at was.outside) was.copy;
-        outside = λ member. was.outside (subst (λ s. IsCollected config s at) set_same member);
+        outside = λ member. was.outside (subst (λ cset. IsCollected config cset at) set_same member);
         references = λ k below.
             let there = was.references k below in
             let place : p + (3 + k) ≡ p + 3 + k = omega arith in
@@ -439,17 +439,17 @@ module _ (config : Config) (memory : Word → ℕ) (block : Plot) (owner : ℕ �
       rest)
       (plot_cases p (moved name refs nums at) is)
 
-  spent_again : (p words at : ℕ) → plot p ≡ Some (spent words at) → IsSpent config (n Cset) after plot p words at
+  spent_again : (p words at : ℕ) → plot p ≡ Some (spent words at) → IsSpent config (now Cset) after plot p words at
   spent_again p words at is = ⊎_elim
       (λ (gone : (p ≡ address) × (old ≡ spent words at)).
       let was = was_promised other_piece to live words at gone.1 in
-      let blank = b.unwritten.blanks address was.0 words (here ∙ ap Some was.1) in
+      let blank = between.unwritten.blanks address was.0 words (here ∙ ap Some was.1) in
       let size : words_of other_piece ≡ words = ap words_of was.1 in
       let three = blank.long in
       let refs = blank.few_refs in
       let nums = blank.few_nums in
-      subst (λ q. IsSpent config (n Cset) after plot q words at) (sym gone.0)
-      (subst (λ k. IsSpent config (n Cset) after plot address words k) (sym was.2)
+      subst (λ address. IsSpent config (now Cset) after plot address words at) (sym gone.0)
+      (subst (λ k. IsSpent config (now Cset) after plot address words k) (sym was.2)
       (record {
         header = out.copied.forwarded;
         shape = ap object_words (left 1 (omega arith) (omega (arith, size, three)) ∙ blank.shape) ∙ shape_words blank.refs blank.nums refs nums ∙ sym three;
@@ -463,19 +463,19 @@ module _ (config : Config) (memory : Word → ℕ) (block : Plot) (owner : ℕ �
       (λ rest. ⊎_elim
       (λ (new : (p ≡ to) × (other_piece ≡ spent words at)). absurd ((live_is_live other_piece live).1 words at new.1))
       (λ (stood : (p ≢ address) × (block p ≡ Some (spent words at))).
-      let was = b.moves.spents p words at stood.1 in
-      let some = b.parsable.spents p words at stood.1 in
+      let was = between.moves.spents p words at stood.1 in
+      let some = between.parsable.spents p words at stood.1 in
       let first : p + 0 ≡ p = omega arith in
       let away = not_old at was.outside in
       record {
         header = sym (ap after first) ∙ kept p 0 (spent words at) stood.0 stood.1 (omega (arith, some)) ∙ ap heap first ∙ was.header;
         shape = ap object_words (kept p 1 (spent words at) stood.0 stood.1 (omega (arith, some))) ∙ was.shape;
-        inside = subst (λ s. IsCollected config s p) (sym set_same) was.inside;
+        inside = subst (λ cset. IsCollected config cset p) (sym set_same) was.inside;
         copy = markable_stays at away was.copy;
         piece = was.piece;
         there = stays at was.piece away was.there;
         long = was.long;
-        outside = λ member. was.outside (subst (λ s. IsCollected config s at) set_same member);
+        outside = λ member. was.outside (subst (λ cset. IsCollected config cset at) set_same member);
       })
       rest)
       (plot_cases p (spent words at) is)
@@ -484,13 +484,13 @@ module _ (config : Config) (memory : Word → ℕ) (block : Plot) (owner : ℕ �
       shape_words refs nums few less = omega (arith, few, less)
 
   abbrev marks : ℕ → ℕ
-  marks k = n (Black k)
+  marks number = now (Black number)
 
   abbrev marks_were : ℕ → ℕ
-  marks_were k = memory (Black k)
+  marks_were number = memory (Black number)
 
   abbrev tams : ℕ → ℕ
-  tams region = n (Tams region)
+  tams region = now (Tams region)
 
   abbrev tams_were : ℕ → ℕ
   tams_were region = memory (Tams region)
@@ -498,15 +498,15 @@ module _ (config : Config) (memory : Word → ℕ) (block : Plot) (owner : ℕ �
   -- the copy is young
   young_there : IsYoung config tams to
   young_there =
-      let floor = b.floors r out.below in
-      let same : n (Tams r) ≡ memory (Tams r) = word_same (Tams r) (λ never. never) in
-      subst (λ q. base_of config q + n (Tams q) ≤ to) (sym region_is) (omega (arith, floor, same))
+      let floor = between.floors r out.below in
+      let same : now (Tams r) ≡ memory (Tams r) = word_same (Tams r) (λ never. never) in
+      subst (λ region. base_of config region + now (Tams region) ≤ to) (sym region_is) (omega (arith, floor, same))
 
   marks_same : marks ≡ marks_were
-  marks_same = fun_ext (λ k. word_same (Black k) (λ never. never))
+  marks_same = fun_ext (λ number. word_same (Black number) (λ never. never))
 
   tams_same : tams ≡ tams_were
-  tams_same = fun_ext (λ q. word_same (Tams q) (λ never. never))
+  tams_same = fun_ext (λ region. word_same (Tams region) (λ never. never))
 
   -- so what stood and is marked or young is so still
   marked_still : (address : ℕ) → HasMark config marks_were address ⊎ IsYoung config tams_were address → HasMark config marks address ⊎ IsYoung config tams address
@@ -515,11 +515,11 @@ module _ (config : Config) (memory : Word → ℕ) (block : Plot) (owner : ℕ �
   marked_again : (p : ℕ) → IsMarkable plot p → HasMark config marks p ⊎ IsYoung config tams p
   marked_again p (IsMarkable.object name refs nums is) = ⊎_elim
       (λ (new : (p ≡ to) × (other_piece ≡ thing name refs nums)). inr (subst (IsYoung config tams) (sym new.0) young_there))
-      (λ (stood : (p ≢ address) × (block p ≡ Some (thing name refs nums))). marked_still p (b.marked p (IsMarkable.object name refs nums stood.1)))
+      (λ (stood : (p ≢ address) × (block p ≡ Some (thing name refs nums))). marked_still p (between.marked p (IsMarkable.object name refs nums stood.1)))
       (thing_from p refs nums name is)
   marked_again p (IsMarkable.to_come seat words is) = ⊎_elim
       (λ (new : (p ≡ to) × (other_piece ≡ promised seat words)). inr (subst (IsYoung config tams) (sym new.0) young_there))
-      (λ (stood : (p ≢ address) × (block p ≡ Some (promised seat words))). marked_still p (b.marked p (IsMarkable.to_come seat words stood.1)))
+      (λ (stood : (p ≢ address) × (block p ≡ Some (promised seat words))). marked_still p (between.marked p (IsMarkable.to_come seat words stood.1)))
       (promised_from p seat words is)
 
   -- what has a copy in the set has one still
@@ -527,19 +527,19 @@ module _ (config : Config) (memory : Word → ℕ) (block : Plot) (owner : ℕ �
   copy_stays p other differs (HasCopy.copy body is) = HasCopy.copy body (ap body_at (same_plot p other differs) ∙ is)
   copy_stays p other differs (HasCopy.spent_copy words at is) = HasCopy.spent_copy words at (same_plot p other differs ∙ is)
 
-  only_again : (p : ℕ) → config.region_words ≤ p → HasMark config marks p → IsCollected config (n Cset) p → IsMarkable plot p ⊎ HasCopy plot p
+  only_again : (p : ℕ) → config.region_words ≤ p → HasMark config marks p → IsCollected config (now Cset) p → IsMarkable plot p ⊎ HasCopy plot p
   only_again p above mark member = ⊎_elim
       (λ (same : p ≡ address). inr (subst (HasCopy plot) (sym same) (old_has_copy plot address to other_piece live old_there)))
       (λ (other : p ≢ address).
-      let was_in : IsCollected config (memory Cset) p = subst (λ s. IsCollected config s p) set_same member in
+      let was_in : IsCollected config (memory Cset) p = subst (λ cset. IsCollected config cset p) set_same member in
       let differs : p ≢ to = λ same. outside (subst (IsCollected config (memory Cset)) same was_in) in
       ⊎_elim
       (λ (markable : IsMarkable block p). inl (markable_stays p other markable))
       (λ (copy : HasCopy block p). inr (copy_stays p other differs copy))
-      (b.only p above (subst (λ bits. HasMark config bits p) marks_same mark) was_in))
+      (between.only p above (subst (λ bits. HasMark config bits p) marks_same mark) was_in))
       (cases_eq p address)
 
-  in_set_was : (region : ℕ) → IsIn (n Cset) region → IsIn (memory Cset) region
+  in_set_was : (region : ℕ) → IsIn (now Cset) region → IsIn (memory Cset) region
   in_set_was region is = subst (λ s. IsIn s region) set_same is
 
   -- a region of the set is not the one that has grown
@@ -550,40 +550,40 @@ module _ (config : Config) (memory : Word → ℕ) (block : Plot) (owner : ℕ �
       omega (arith, there, not_in)
 
   -- all of it holds again
-  copied_between : AreBetween config n plot owner graph
+  copied_between : AreBetween config now plot owner graph
   copied_between = record {
     parsable = parsable_again;
-    contents = record { objects = objects_again; given = b.contents.given };
+    contents = record { objects = objects_again; given = between.contents.given };
     owned = owned_again;
     unwritten = unwritten_again;
     moves = record { moveds = moved_again; spents = spent_again };
-    unheld = λ p seat words is. b.unheld p seat words (same_room.came p seat (hand seat words) refl is);
-    uncarved = λ p seat words is. b.uncarved p seat words (same_room.came p seat (carved seat words) refl is);
-    no_rooms = λ p seat y is room member. b.no_rooms p seat y (same_room.came p seat y room is) room (subst (λ set. IsCollected config set p) set_same member);
-    promised_to = λ p seat words is. ⊎_elim
-        (λ (new : (p ≡ to) × (other_piece ≡ promised seat words)). b.promised_to address seat words (here ∙ ap Some new.1))
-        (λ (stood : (p ≢ address) × (block p ≡ Some (promised seat words))). b.promised_to p seat words stood.1)
-        (promised_from p seat words is);
-    in_heap = λ q is. b.in_heap q (in_set_was q is);
-    used = λ q free is. let was = in_set_was q is in b.used q (free_was q (b.in_heap q was) free).1 was;
-    nobodys = λ q seat own is. b.nobodys q seat own (in_set_was q is);
-    no_new = λ q is. let was = in_set_was q is in top_same q (not_grown q was) ∙ b.no_new q was ∙ sym (word_same (Tams q) (λ never. never));
+    unheld = λ address seat words is. between.unheld address seat words (same_room.came address seat (hand seat words) refl is);
+    uncarved = λ address seat words is. between.uncarved address seat words (same_room.came address seat (carved seat words) refl is);
+    no_rooms = λ p seat y is room member. between.no_rooms p seat y (same_room.came p seat y room is) room (subst (λ set. IsCollected config set p) set_same member);
+    promised_to = λ other_address seat words is. ⊎_elim
+        (λ (new : (other_address ≡ to) × (other_piece ≡ promised seat words)). between.promised_to address seat words (here ∙ ap Some new.1))
+        (λ (stood : (other_address ≢ address) × (block other_address ≡ Some (promised seat words))). between.promised_to other_address seat words stood.1)
+        (promised_from other_address seat words is);
+    in_heap = λ region is. between.in_heap region (in_set_was region is);
+    used = λ region free is. let was = in_set_was region is in between.used region (free_was region (between.in_heap region was) free).1 was;
+    nobodys = λ region seat own is. between.nobodys region seat own (in_set_was region is);
+    no_new = λ region is. let was = in_set_was region is in top_same region (not_grown region was) ∙ between.no_new region was ∙ sym (word_same (Tams region) (λ never. never));
     marked = marked_again;
-    young = λ p seat y is room. subst (λ floor. IsYoung config floor p) (sym tams_same) (b.young p seat y (same_room.came p seat y room is) room);
-    floors = λ q below. ⊎_elim
-        (λ (same : q ≡ r).
-        let floor = b.floors r out.below in
+    young = λ p seat y is room. subst (λ floor. IsYoung config floor p) (sym tams_same) (between.young p seat y (same_room.came p seat y room is) room);
+    floors = λ region below. ⊎_elim
+        (λ (same : region ≡ r).
+        let floor = between.floors r out.below in
         let grown = out.copied.top in
-        let tams : n (Tams r) ≡ memory (Tams r) = word_same (Tams r) (λ never. never) in
-        subst (λ k. n (Tams k) ≤ n (Top k)) (sym same) (omega (arith, floor, grown, tams)))
-        (λ (other : q ≢ r).
-        let floor = b.floors q below in
-        let same = top_same q other in
-        let tams : n (Tams q) ≡ memory (Tams q) = word_same (Tams q) (λ never. never) in
+        let tams : now (Tams r) ≡ memory (Tams r) = word_same (Tams r) (λ never. never) in
+        subst (λ region. now (Tams region) ≤ now (Top region)) (sym same) (omega (arith, floor, grown, tams)))
+        (λ (other : region ≢ r).
+        let floor = between.floors region below in
+        let same = top_same region other in
+        let tams : now (Tams region) ≡ memory (Tams region) = word_same (Tams region) (λ never. never) in
         omega (arith, floor, same, tams))
-        (cases_eq q r);
-    unmarked = λ p words is mark. let stood = dead_from p words is in b.unmarked p words stood.1 (subst (λ bits. HasMark config bits p) marks_same mark);
-    deads = λ p words is young. let stood = dead_from p words is in b.deads p words stood.1 (subst (λ floor. IsYoung config floor p) tams_same young);
+        (cases_eq region r);
+    unmarked = λ p words is mark. let stood = dead_from p words is in between.unmarked p words stood.1 (subst (λ bits. HasMark config bits p) marks_same mark);
+    deads = λ p words is young. let stood = dead_from p words is in between.deads p words stood.1 (subst (λ floor. IsYoung config floor p) tams_same young);
     only = only_again;
   }
 

@@ -1,9 +1,10 @@
 -- What the beginning of evacuation leaves as it was: words that are no words of the table read 0 still, and words before the image
 -- stay.
-use Rattle.std.proofs.Common.{◌≡◌, ◌≢◌, ℕ, ◌+◌, ◌<◌, ◌≤◌, ◌⊎◌, ◌==◌, if◌then◌else◌, Bool, true, false, List, [], ◌∷◌, Option, Some, None, inl, inr, ⊎_elim, refl, sym, ap, ◌∙◌, subst, arith}
+use Rattle.std.proofs.Common.{◌≡◌, ◌≢◌, ℕ, ◌+◌, ◌<◌, ◌≤◌, ◌⊎◌, ◌==◌, true, false, List, [], ◌∷◌, Option, Some, None, inl, inr, ⊎_elim, refl, sym, ap, ◌∙◌, subst, arith}
 use Rattle.std.specs.Prelude.{Contains}
 use Rattle.std.proofs.lemmas.Bool.{cases_Bool, cases_lt, cond-true, cond-false, true≢false}
 use Rattle.std.proofs.lemmas.Nat.{mod_below}
+use Rattle.shen_graph.proofs.Bools.{either_is}
 use Rattle.heap_words.specs.declared.config.Config.{Config}
 use Rattle.heap_words.specs.Words.{Word, Pause, Left, End, State, Phase, Cset, Evac, Claim, Free, Top, Current, Root, Answer, Heap, is_word, is_image, same_word}
 use Rattle.heap_words.specs.Encoding.{is_forwarded}
@@ -26,13 +27,13 @@ use Rattle.cycle_pauses.proofs.Evacuation.ClearingInTurn.{is_first, is_later}
 
 -- a word of the table is one
 no_word : (config : Config) (region address : ℕ) → region < config.regions → IsOf config region address → is_word config (Heap address) ≡ false → ⊥
-no_word config region address below of other = true≢false (sym (is_word_from config (Heap address) (regions_tile.in_heap config region address below of)) ∙ other)
+no_word config region address below is_of other = true≢false (sym (is_word_from config (Heap address) (regions_tile.in_heap config region address below is_of)) ∙ other)
 
 -- a place is a word of the table
 no_place : (config : Config) (place : Word) → IsPlace config place → is_word config place ≡ false → ⊥
-no_place config (Root t i) at other = true≢false (sym (is_word_from config (Root t i) at) ∙ other)
-no_place config (Answer t) at other = true≢false (sym (is_word_from config (Answer t) at) ∙ other)
-no_place config _ at other = at
+no_place config (Root mutator index) place other = true≢false (sym (is_word_from config (Root mutator index) place) ∙ other)
+no_place config (Answer mutator) place other = true≢false (sym (is_word_from config (Answer mutator) place) ∙ other)
+no_place config _ place other = place
 
 -- one object is copied out
 module _ (config : Config) (memory : Word → ℕ) (address : ℕ) (can : CanCopyOut config memory address) (out : IsCopiedOut config memory (copied_out config memory address) address) (nothing : IsZeroOutside config memory) where
@@ -54,8 +55,8 @@ module _ (config : Config) (memory : Word → ℕ) (address : ℕ) (can : CanCop
 
   pub copied_outside : IsZeroOutside config (copied_out config memory address)
   copied_outside (Heap x) other = let apart = other_heap x other in out.copied.elsewhere x apart.0 apart.1 ∙ nothing (Heap x) other
-  copied_outside (Top q) other =
-      out.copied.other_tops q (λ same. true≢false (sym (is_word_from config (Top q) (let below = out.below in omega (arith, below, same))) ∙ other)) ∙ nothing (Top q) other
+  copied_outside (Top region) other =
+      out.copied.other_tops region (λ same. true≢false (sym (is_word_from config (Top region) (let below = out.below in omega (arith, below, same))) ∙ other)) ∙ nothing (Top region) other
   copied_outside Free other = absurd (true≢false other)
   copied_outside word other = out.copied.others word (λ never. never) ∙ nothing word other
 
@@ -114,19 +115,19 @@ begun_outside config memory set can nothing word other = ⊎_elim
     (cases_Bool (set == 0))
 
 -- Words before the image stay, whatever is copied.
-to_same : (config : Config) (memory : Word → ℕ) (a r : ℕ) (word : Word) → (MayChange word → ⊥) → copied_to config memory a r word ≡ memory word
+to_same : (config : Config) (memory : Word → ℕ) (address region : ℕ) (word : Word) → (MayChange word → ⊥) → copied_to config memory address region word ≡ memory word
 unfolding copied_to
-to_same config memory a r (Heap x) stays = absurd (stays tt)
-to_same config memory a r (Top q) stays = absurd (stays tt)
-to_same config memory a r Free stays = absurd (stays tt)
-to_same config memory a r word stays = refl
+to_same config memory address region (Heap other_address) stays = absurd (stays tt)
+to_same config memory address region (Top other_region) stays = absurd (stays tt)
+to_same config memory address region Free stays = absurd (stays tt)
+to_same config memory address region word stays = refl
 
-pub copied_same : (config : Config) (memory : Word → ℕ) (a : ℕ) (word : Word) → (MayChange word → ⊥) → copied_out config memory a word ≡ memory word
-copied_same config memory a word fixed = by_room (copy_room config memory a)
+pub copied_same : (config : Config) (memory : Word → ℕ) (address : ℕ) (word : Word) → (MayChange word → ⊥) → copied_out config memory address word ≡ memory word
+copied_same config memory address word fixed = by_room (copy_room config memory address)
   where
-    by_room : (found : Option ℕ) → copied_in config memory a found word ≡ memory word
+    by_room : (found : Option ℕ) → copied_in config memory address found word ≡ memory word
     by_room None = refl
-    by_room (Some r) = to_same config memory a r word fixed
+    by_room (Some r) = to_same config memory address r word fixed
 
 place_same : (config : Config) (memory : Word → ℕ) (place word : Word) → IsPlace config place → (MayChange word → ⊥) → (IsPlace config word → ⊥) → cleared_at config memory place word ≡ memory word
 place_same config memory place word at fixed other = ⊎_elim
@@ -153,15 +154,10 @@ places_same config (place ∷ places) memory word are fixed other =
     places_same config places (cleared_at config memory place) word (λ other_word has. are other_word (is_later place places other_word has)) fixed other
     ∙ place_same config memory place word (are place (is_first place places)) fixed other
 
--- of two numbers that are the same
-pub of_two : (holds : Bool) (x y n : ℕ) → x ≡ n → y ≡ n → (if holds then x else y) ≡ n
-of_two true x y n one other = one
-of_two false x y n one other = other
-
 begun_before : (config : Config) (memory : Word → ℕ) (set : ℕ) (word : Word) → (evac_spared memory word ≡ memory word) → ((other_memory : Word → ℕ) → evac_started other_memory word ≡ other_memory word) → with_set memory set word ≡ memory word
     → (MayChange word → ⊥) → (IsPlace config word → ⊥) → evac_begun config memory set word ≡ memory word
 begun_before config memory set word spared started same fixed other =
-    of_two (set == 0) (evac_spared memory word) (evac_started (cleared_in_turn config (with_set memory set) (naming_places config)) word) (memory word) spared
+    either_is (set == 0) (evac_spared memory word) (evac_started (cleared_in_turn config (with_set memory set) (naming_places config)) word) (memory word) spared
     (started (cleared_in_turn config (with_set memory set) (naming_places config)) ∙ places_same config (naming_places config) (with_set memory set) word (are_places config) fixed other ∙ same)
 
 -- the end of marking and the beginning of evacuation leave the words before the image
@@ -169,7 +165,7 @@ pub next_before : (config : Config) (memory : Word → ℕ) (word : Word) → is
 next_before config memory Pause other = begun_before config (final_marked config memory) (chosen config (final_marked config memory)) Pause refl (λ n. refl) refl (λ never. never) (λ never. never)
 next_before config memory Left other = begun_before config (final_marked config memory) (chosen config (final_marked config memory)) Left refl (λ n. refl) refl (λ never. never) (λ never. never)
 next_before config memory End other = begun_before config (final_marked config memory) (chosen config (final_marked config memory)) End refl (λ n. refl) refl (λ never. never) (λ never. never)
-next_before config memory (State s) other = begun_before config (final_marked config memory) (chosen config (final_marked config memory)) (State s) refl (λ n. refl) refl (λ never. never) (λ never. never)
+next_before config memory (State seat) other = begun_before config (final_marked config memory) (chosen config (final_marked config memory)) (State seat) refl (λ n. refl) refl (λ never. never) (λ never. never)
 next_before config memory _ other = absurd (true≢false other)
 
 -- and the words of buffers

@@ -4,7 +4,7 @@ use Rattle.std.proofs.lemmas.Bool.{cases_eq}
 use Rattle.heap_words.specs.declared.config.Config.{Config}
 use Rattle.regions.specs.Place.{base_of}
 use Rattle.heap_world.specs.World.{Block, words_of, Plot, IsInUse, IsPlotted, IsFilled}
-use Rattle.heap_world.proofs.Updates.{updated, updated_there, updated_else}
+use Rattle.heap_world.proofs.FunctionUpdates.{updated, updated_there, updated_else}
 use Rattle.heap_world.proofs.Pieces.{piece_cases}
 
 module _ (config : Config) (top : ℕ → ℕ) (block : Plot) (address : ℕ) (x y : Block) (here : block address ≡ Some x) (long : words_of y ≡ words_of x) where
@@ -28,7 +28,7 @@ module _ (config : Config) (top : ℕ → ℕ) (block : Plot) (address : ℕ) (x
   pub plotted_still : IsPlotted config top block → IsPlotted config top new_block
   plotted_still plotted = record {
     tops = plotted.tops;
-    in_use = λ p z is. let old = was p z is in subst (λ w. IsInUse config top p w) old.2 (plotted.in_use p old.0 old.1);
+    in_use = λ address piece is. let old = was address piece is in subst (λ words. IsInUse config top address words) old.2 (plotted.in_use address old.0 old.1);
     apart = λ p q z w is_z is_w before.
         let old_z = was p z is_z in
         let old_w = was q w is_w in

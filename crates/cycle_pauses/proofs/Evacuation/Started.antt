@@ -57,14 +57,14 @@ module _ (config : Config) (memory : Word → ℕ) (block : Plot) (ghost : Ghost
 
   -- A region where a buffer ends is some seat's.
   ends_somewhere : (seat : ℕ) → memory (Current seat) ≢ 0 → IsSomeSeats config memory (region_with config (end_in (memory (Current seat)) - 1))
-  ends_somewhere seat some =
-      let b = out.owned.buffers.each seat some in
+  ends_somewhere seat positive =
+      let b = out.owned.buffers.each seat positive in
       let most = out.parsable.plotted.tops b.region b.within in
-      let is = buffer_region_is config (λ q. memory (Top q)) block seat (memory (Current seat)) b most in
+      let is = buffer_region_is config (λ region. memory (Top region)) block seat (memory (Current seat)) b most in
       inr (
         seat,
-        ⊎_elim (λ (below : seat < seat_count config.mutators config.helpers). below) (λ (past : seat_count config.mutators config.helpers ≤ seat). absurd (some (out.seated seat past))) (cases_lt seat (seat_count config.mutators config.helpers)),
-        (some, subst (λ q. IsOf config q (end_in (memory (Current seat)) - 1)) (sym is) (buffer_ends config (λ q. memory (Top q)) block seat (memory (Current seat)) b most)),
+        ⊎_elim (λ (below : seat < seat_count config.mutators config.helpers). below) (λ (past : seat_count config.mutators config.helpers ≤ seat). absurd (positive (out.seated seat past))) (cases_lt seat (seat_count config.mutators config.helpers)),
+        (positive, subst (λ region. IsOf config region (end_in (memory (Current seat)) - 1)) (sym is) (buffer_ends config (λ region. memory (Top region)) block seat (memory (Current seat)) b most)),
       )
 
   -- the free words of a buffer lie where it ends
@@ -91,7 +91,7 @@ module _ (config : Config) (memory : Word → ℕ) (block : Plot) (ghost : Ghost
 
   -- .. nor does the region that is shared.
   owned_away : (set : ℕ) → ((region : ℕ) → IsIn set region → (region < config.regions) × IsCandidate config memory region)
-      → AreOwned config (λ q. memory (Top q)) (memory Share) (memory Free) set (λ s. memory (Current s)) block ghost.owner
+      → AreOwned config (λ region. memory (Top region)) (memory Share) (memory Free) set (λ seat. memory (Current seat)) block ghost.owner
   owned_away set candidates = record {
     free_word = out.owned.free_word;
     shared_one = λ q is.
@@ -110,8 +110,8 @@ module _ (config : Config) (memory : Word → ℕ) (block : Plot) (ghost : Ghost
   -- it may be used, for nothing has been copied yet
   pin_before : (set word : ℕ) (held : Option Pinned) → is_collected config (with_set memory set) word ≡ false → PinStands config (memory Cset) (memory Evac) block word held → PinStands config set 0 block word held
   pin_before set word None outside is = is
-  pin_before set word (Some x) outside is =
-      let above = piece_inside config (λ r. memory (Top r)) block out.parsable.plotted word (thing x.name is.1 is.2) is.3.piece in (
+  pin_before set word (Some pinned) outside is =
+      let above = piece_inside config (λ region. memory (Top region)) block out.parsable.plotted word (thing pinned.name is.1 is.2) is.3.piece in (
         is.0,
         is.1,
         is.2,
@@ -132,8 +132,8 @@ module _ (config : Config) (memory : Word → ℕ) (block : Plot) (ghost : Ghost
       owned = owned_away set candidates;
       unwritten = out.unwritten;
       moves = record {
-        moveds = λ a refs nums to name is. absurd (out.unmoved.no_moved a refs nums to name is);
-        spents = λ a words to is. absurd (out.unmoved.no_spent a words to is);
+        moveds = λ address refs nums to name is. absurd (out.unmoved.no_moved address refs nums to name is);
+        spents = λ address words to is. absurd (out.unmoved.no_spent address words to is);
       };
       unheld = out.unmoved.no_hand;
       uncarved = out.unmoved.no_carved;
@@ -155,23 +155,23 @@ module _ (config : Config) (memory : Word → ℕ) (block : Plot) (ghost : Ghost
     roots = out.roots;
     asked = λ t inside. asked_stays memory (with_set memory set) block block graph.count t refl refl (λ a words k is below. refl) (λ a words is. is) (λ a words is. is) (asking t) (out.asked t inside);
     same = λ word fixed other. refl;
-    pinned = λ t i inside few. pin_before set (memory (Pin t i)) (graph.pin (t + 1) i) (pins_away set candidates t i inside few) (out.pinned t i inside few);
+    pinned = λ mutator slot inside few. pin_before set (memory (Pin mutator slot)) (graph.pin (mutator + 1) slot) (pins_away set candidates mutator slot inside few) (out.pinned mutator slot inside few);
     apart = pins_away set candidates;
   }
 
   -- After the last one, where roots and answers name nothing in the set.
-  module _ (set : ℕ) (other_memory : Word → ℕ) (plot : Plot) (s : IsClearing config (with_set memory set) other_memory plot ghost.owner graph asking)
+  module _ (set : ℕ) (other_memory : Word → ℕ) (plot : Plot) (clearing : IsClearing config (with_set memory set) other_memory plot ghost.owner graph asking)
       (cleared : (place : Word) → IsPlace config place → is_collected config (with_set memory set) (other_memory place) ≡ false) where
-    abbrev n : Word → ℕ
-    n = evac_started other_memory
+    abbrev now : Word → ℕ
+    now = evac_started other_memory
 
     set_is : other_memory Cset ≡ set
-    set_is = s.same Cset (λ never. never) (λ never. never)
+    set_is = clearing.same Cset (λ never. never) (λ never. never)
 
     -- so no piece that one of them names lies there
     away : (place : Word) → IsPlace config place → config.region_words ≤ other_memory place → IsCollected config (other_memory Cset) (other_memory place) → ⊥
     away place at above inside =
-        let member : bit_at set (region_with config (other_memory place)) ≡ 1 = subst (λ x. IsCollected config x (other_memory place)) set_is inside in
+        let member : bit_at set (region_with config (other_memory place)) ≡ 1 = subst (λ cset. IsCollected config cset (other_memory place)) set_is inside in
         true≢false
         (sym (and_from (nat_le config.region_words (other_memory place)) (bit_at set (region_with config (other_memory place)) == 1) (le-leb config.region_words (other_memory place) above)
         (eq-eqb (bit_at set (region_with config (other_memory place))) 1 member))
@@ -179,16 +179,16 @@ module _ (config : Config) (memory : Word → ℕ) (block : Plot) (ghost : Ghost
 
     no_promises : (address seat words : ℕ) → plot address ≡ Some (promised seat words) → IsCollected config (other_memory Cset) address → ⊥
     no_promises address seat words is inside =
-        let mutator = s.between.promised_to address seat words is in
-        let here : address ≡ other_memory (Answer seat) = promise_is_answer other_memory plot graph.count seat (asking seat) (s.asked seat mutator) address words is in
-        let above = piece_inside config (λ r. other_memory (Top r)) plot s.between.parsable.plotted address (promised seat words) is in
+        let mutator = clearing.between.promised_to address seat words is in
+        let here : address ≡ other_memory (Answer seat) = promise_is_answer other_memory plot graph.count seat (asking seat) (clearing.asked seat mutator) address words is in
+        let above = piece_inside config (λ region. other_memory (Top region)) plot clearing.between.parsable.plotted address (promised seat words) is in
         away (Answer seat) mutator (omega (arith, above.0, here)) (subst (IsCollected config (other_memory Cset)) here inside)
 
     usable : (mutator index : ℕ) → mutator < config.mutators → index < 16 → IsUsable config (other_memory Cset) 0 plot (other_memory (Root mutator index))
-    usable mutator index inside few = of_reference (graph.root (mutator + 1) index) (s.roots mutator index inside few)
+    usable mutator index inside below = of_reference (graph.root (mutator + 1) index) (clearing.roots mutator index inside below)
       where
         outside : (piece : Block) → plot (other_memory (Root mutator index)) ≡ Some piece → IsCollected config (other_memory Cset) (other_memory (Root mutator index)) → ⊥
-        outside piece is = (let above = piece_inside config (λ r. other_memory (Top r)) plot s.between.parsable.plotted (other_memory (Root mutator index)) piece is in away (Root mutator index) (inside, few) above.0)
+        outside piece is = (let above = piece_inside config (λ region. other_memory (Top region)) plot clearing.between.parsable.plotted (other_memory (Root mutator index)) piece is in away (Root mutator index) (inside, below) above.0)
 
         of_reference : (reference : Reference) → Points plot (other_memory (Root mutator index)) reference → IsUsable config (other_memory Cset) 0 plot (other_memory (Root mutator index))
         of_reference None none = inl none
@@ -198,7 +198,7 @@ module _ (config : Config) (memory : Word → ℕ) (block : Plot) (ghost : Ghost
             (λ (current : plot (other_memory (Root mutator index)) ≡ Some (thing name body.0 body.1)).
             inr (name, body.0, body.1, record { piece = current; safe = λ collected. absurd (outside (thing name body.0 body.1) current collected) }))
             (λ (old : (to : ℕ) × (plot (other_memory (Root mutator index)) ≡ Some (moved name body.0 body.1 to))).
-            absurd (outside (moved name body.0 body.1 old.0) old.1 (s.between.moves.moveds (other_memory (Root mutator index)) body.0 body.1 old.0 name old.1).inside))
+            absurd (outside (moved name body.0 body.1 old.0) old.1 (clearing.between.moves.moveds (other_memory (Root mutator index)) body.0 body.1 old.0 name old.1).inside))
             (copy_cases (plot (other_memory (Root mutator index))) (body_of name body.0 body.1) body.2)
 
     has_copy : (address : ℕ) → IsCollected config (other_memory Cset) address → IsMarkable plot address ⊎ HasCopy plot address → HasCopy plot address
@@ -206,50 +206,50 @@ module _ (config : Config) (memory : Word → ℕ) (block : Plot) (ghost : Ghost
     has_copy address inside (inl (IsMarkable.to_come seat words is)) = absurd (no_promises address seat words is inside)
     has_copy address inside (inr kept) = kept
 
-    pub evacuation_starts : Represents config n graph asking
+    pub evacuation_starts : Represents config now graph asking
     evacuation_starts = record {
       block = plot;
       ghost = bare;
       shared = record {
-        parsable = s.between.parsable;
-        contents = s.between.contents;
-        owned = s.between.owned;
+        parsable = clearing.between.parsable;
+        contents = clearing.between.contents;
+        owned = clearing.between.owned;
         phased = record { phase_is = omega arith; cset_is = λ low. absurd (omega (arith, low)); evac_is = λ other. refl };
-        unwritten = s.between.unwritten;
-        marked = none_marked_in config 2 (λ q. n (Grey q)) (λ q. n (Black q)) (λ t. n (Count t)) (λ t k. n (Buffer t k)) (λ q. n (Top q)) (λ q. n (Tams q)) (λ a. n (Heap a)) plot
+        unwritten = clearing.between.unwritten;
+        marked = none_marked_in config 2 (λ number. now (Grey number)) (λ number. now (Black number)) (λ mutator. now (Count mutator)) (λ mutator entry. now (Buffer mutator entry)) (λ region. now (Top region)) (λ region. now (Tams region)) (λ address. now (Heap address)) plot
             ghost.recording ghost.scanning (λ is. omega (arith, is));
         evacuated = record {
-          moved = s.between.moves;
+          moved = clearing.between.moves;
           counted = counted_none config ghost.copying out.uncopying.copies_none;
           aside = record {
-            in_heap = s.between.in_heap;
-            in_use = s.between.used;
-            nobodys = s.between.nobodys;
-            no_new = s.between.no_new;
+            in_heap = clearing.between.in_heap;
+            in_use = clearing.between.used;
+            nobodys = clearing.between.nobodys;
+            no_new = clearing.between.no_new;
             no_promises = no_promises;
-            no_rooms = s.between.no_rooms;
+            no_rooms = clearing.between.no_rooms;
           };
           kept = λ on. record {
-            objects = s.between.marked;
-            young = s.between.young;
-            floors = s.between.floors;
-            unmarked = s.between.unmarked;
-            deads = s.between.deads;
-            only = λ a above mark inside. has_copy a inside (s.between.only a above mark inside);
+            objects = clearing.between.marked;
+            young = clearing.between.young;
+            floors = clearing.between.floors;
+            unmarked = clearing.between.unmarked;
+            deads = clearing.between.deads;
+            only = λ address above mark inside. has_copy address inside (clearing.between.only address above mark inside);
           };
           units = λ on r below. absurd (omega (arith, below));
         };
         updated = λ on. absurd (omega (arith, on));
         pinned = λ t i inside few.
-            pin_same config set 0 (other_memory Cset) 0 plot (memory (Pin t i)) (other_memory (Pin t i)) (graph.pin (t + 1) i) (sym set_is) refl (sym (s.same (Pin t i) (λ never. never) (λ never. never))) (s.pinned t i inside few);
+            pin_same config set 0 (other_memory Cset) 0 plot (memory (Pin t i)) (other_memory (Pin t i)) (graph.pin (t + 1) i) (sym set_is) refl (sym (clearing.same (Pin t i) (λ never. never) (λ never. never))) (clearing.pinned t i inside few);
       };
-      roots = s.roots;
+      roots = clearing.roots;
       usable = usable;
-      none = s.between.unheld;
-      uncarved = s.between.uncarved;
-      asked = λ t inside. asked_stays other_memory n plot plot graph.count t refl refl (λ a words k is below. refl) (λ a words is. is) (λ a words is. is) (asking t) (s.asked t inside);
-      heard = λ t refs nums inside is. ap (λ k. bit_at k 1) (s.same Ask (λ never. never) (λ never. never)) ∙ out.heard t refs nums inside is;
-      promised_to = s.between.promised_to;
+      none = clearing.between.unheld;
+      uncarved = clearing.between.uncarved;
+      asked = λ t inside. asked_stays other_memory now plot plot graph.count t refl refl (λ a words k is below. refl) (λ a words is. is) (λ a words is. is) (asking t) (clearing.asked t inside);
+      heard = λ t refs nums inside is. ap (λ k. bit_at k 1) (clearing.same Ask (λ never. never) (λ never. never)) ∙ out.heard t refs nums inside is;
+      promised_to = clearing.between.promised_to;
       unmarking = record { records_none = out.unmarking.records_none; scans_none = out.unmarking.scans_none };
       uncopying = record { copies_none = out.uncopying.copies_none; works_none = out.uncopying.works_none };
       no_more = out.no_more;
@@ -267,22 +267,22 @@ module _ (config : Config) (memory : Word → ℕ) (block : Plot) (ghost : Ghost
     shared = record {
       parsable = out.parsable;
       contents = out.contents;
-      owned = subst (λ set. AreOwned config (λ q. memory (Top q)) (memory Share) (memory Free) set (λ s. memory (Current s)) block ghost.owner) out.cset_is out.owned;
+      owned = subst (λ set. AreOwned config (λ region. memory (Top region)) (memory Share) (memory Free) set (λ seat. memory (Current seat)) block ghost.owner) out.cset_is out.owned;
       phased = record { phase_is = omega arith; cset_is = λ other. refl; evac_is = λ other. out.evac_is };
       unwritten = out.unwritten;
-      marked = none_marked_in config 0 (λ q. idle (Grey q)) (λ q. idle (Black q)) (λ t. idle (Count t)) (λ t k. idle (Buffer t k)) (λ q. idle (Top q)) (λ q. idle (Tams q)) (λ a. idle (Heap a)) block
+      marked = none_marked_in config 0 (λ number. idle (Grey number)) (λ number. idle (Black number)) (λ mutator. idle (Count mutator)) (λ mutator entry. idle (Buffer mutator entry)) (λ region. idle (Top region)) (λ region. idle (Tams region)) (λ address. idle (Heap address)) block
           ghost.recording ghost.scanning (λ is. omega (arith, is));
       evacuated = subst
-          (λ evac. IsEvacuating config 0 0 evac 0 (idle Free) (λ q. idle (Top q)) (λ q. idle (Tams q)) (λ a. idle (Heap a)) (λ q. idle (Black q)) block ghost.owner ghost.copying ghost.working)
+          (λ evac. IsEvacuating config 0 0 evac 0 (idle Free) (λ region. idle (Top region)) (λ region. idle (Tams region)) (λ address. idle (Heap address)) (λ number. idle (Black number)) block ghost.owner ghost.copying ghost.working)
           (sym out.evac_is)
-          (none_evacuated config 0 0 (idle Free) (λ q. idle (Top q)) (λ q. idle (Tams q)) (λ a. idle (Heap a)) (λ q. idle (Black q)) block ghost.owner ghost.copying ghost.working (λ is. omega (arith, is))
+          (none_evacuated config 0 0 (idle Free) (λ region. idle (Top region)) (λ region. idle (Tams region)) (λ address. idle (Heap address)) (λ number. idle (Black number)) block ghost.owner ghost.copying ghost.working (λ is. omega (arith, is))
           out.unmoved.no_moved out.unmoved.no_spent out.uncopying.copies_none);
       updated = λ on. absurd (omega (arith, on));
       pinned = λ t i inside few.
           pin_same config (memory Cset) (memory Evac) 0 (memory Evac) block (memory (Pin t i)) (memory (Pin t i)) (graph.pin (t + 1) i) out.cset_is refl refl (out.pinned t i inside few);
     };
     roots = out.roots;
-    usable = λ t i inside few. usable_now config (memory Evac) block (λ a refs nums to name. out.unmoved.no_moved a refs nums to name) (memory (Root t i)) (graph.root (t + 1) i) (out.roots t i inside few);
+    usable = λ mutator index inside few. usable_now config (memory Evac) block (λ address refs nums to name. out.unmoved.no_moved address refs nums to name) (memory (Root mutator index)) (graph.root (mutator + 1) index) (out.roots mutator index inside few);
     none = out.unmoved.no_hand;
     uncarved = out.unmoved.no_carved;
     asked = λ t inside. asked_stays memory idle block block graph.count t refl refl (λ a words k is below. refl) (λ a words is. is) (λ a words is. is) (asking t) (out.asked t inside);

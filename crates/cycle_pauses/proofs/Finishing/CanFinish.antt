@@ -50,41 +50,41 @@ few_bits x n each =
     (cases_lt i n)) in
     omega (arith, same, low)
 
-module _ (config : Config) (memory : Word → ℕ) (graph : Graph) (asking : ℕ → Asking) (r : RepresentsByCopies config memory graph asking) (bare : HasNoBuffers config memory) where
-  some : (address : ℕ) (piece : Block) → r.block address ≡ Some piece → 1 ≤ words_of piece
-  some = some_words config (λ q. memory (Top q)) r.block r.shared.parsable r.shared.owned.rooms
+module _ (config : Config) (memory : Word → ℕ) (graph : Graph) (asking : ℕ → Asking) (represents_by_copies : RepresentsByCopies config memory graph asking) (bare : HasNoBuffers config memory) where
+  some : (address : ℕ) (piece : Block) → represents_by_copies.block address ≡ Some piece → 1 ≤ words_of piece
+  some = some_words config (λ region. memory (Top region)) represents_by_copies.block represents_by_copies.shared.parsable represents_by_copies.shared.owned.rooms
 
   -- a piece has as many words as its header or its shape word says
-  sized : AreSized memory r.block
-  sized = pieces_sized config memory r.block graph.object r.shared.contents.objects r.shared.unwritten r.shared.evacuated.moved
+  sized : AreSized memory represents_by_copies.block
+  sized = pieces_sized config memory represents_by_copies.block graph.object represents_by_copies.shared.contents.objects represents_by_copies.shared.unwritten represents_by_copies.shared.evacuated.moved
 
   small : memory Cset < 2 ^ config.regions
-  small = few_bits (memory Cset) config.regions r.shared.evacuated.aside.in_heap
+  small = few_bits (memory Cset) config.regions represents_by_copies.shared.evacuated.aside.in_heap
 
   can_update : CanUpdateAll config memory
-  can_update = updates.can_update config memory r.block r.shared.parsable.plotted r.shared.parsable.filled some (λ a x is stay. strides memory r.block sized (none_have_room config memory graph asking r bare) a x is) small
+  can_update = updates.can_update config memory represents_by_copies.block represents_by_copies.shared.parsable.plotted represents_by_copies.shared.parsable.filled some (λ address piece is stay. strides memory represents_by_copies.block sized (none_have_room config memory graph asking represents_by_copies bare) address piece is) small
 
   -- then what has moved can be filled over, where objects of the set lie in pinned regions
-  module _ (pinned : (a refs nums : ℕ) (name : Name) → r.block a ≡ Some (thing name refs nums) → IsCollected config (memory Cset) a → is_pinned config memory (region_with config a) ≡ true) where
-    abbrev n : Word → ℕ
-    n = all_updated config memory
+  module _ (pinned : (a refs nums : ℕ) (name : Name) → represents_by_copies.block a ≡ Some (thing name refs nums) → IsCollected config (memory Cset) a → is_pinned config memory (region_with config a) ≡ true) where
+    abbrev now : Word → ℕ
+    now = all_updated config memory
 
-    filled_there : (region : ℕ) → region < config.regions → 2 ≤ memory Phase → CanFill config n region
+    filled_there : (region : ℕ) → region < config.regions → 2 ≤ memory Phase → CanFill config now region
     filled_there region inside two =
-        let no_room = none_have_room config memory graph asking r bare in
-        let again = sized_again config memory memory r.block r.ghost.owner graph asking config.region_words (copying_begins config memory graph asking r two) pinned no_room in
+        let no_room = none_have_room config memory graph asking represents_by_copies bare in
+        let again = sized_again config memory memory represents_by_copies.block represents_by_copies.ghost.owner graph asking config.region_words (copying_begins config memory graph asking represents_by_copies two) pinned no_room in
         record {
-          within = r.shared.parsable.plotted.tops region inside;
-          ends = updates.end_inside config (all_updated config memory) r.block r.shared.parsable.plotted r.shared.parsable.filled some (λ k. Unit {0}) (λ a x is any. strides (all_updated config memory) r.block again no_room a x is) region inside tt;
+          within = represents_by_copies.shared.parsable.plotted.tops region inside;
+          ends = updates.end_inside config (all_updated config memory) represents_by_copies.block represents_by_copies.shared.parsable.plotted represents_by_copies.shared.parsable.filled some (λ k. Unit {0}) (λ address piece is any. strides (all_updated config memory) represents_by_copies.block again no_room address piece is) region inside tt;
         }
 
-    can_free : CanFree config n
+    can_free : CanFree config now
     can_free = record {
       set = small;
       fills = λ q inside stay.
           let member : IsIn (memory Cset) q = in_set memory q (and_parts (is_chosen memory q) (is_pinned config memory q) stay).0 in
           ⊎_elim
-          (λ (low : memory Phase < 2). absurd (none_is_in q (subst (λ set. IsIn set q) (r.shared.phased.cset_is low) member)))
+          (λ (low : memory Phase < 2). absurd (none_is_in q (subst (λ set. IsIn set q) (represents_by_copies.shared.phased.cset_is low) member)))
           (λ (two : 2 ≤ memory Phase). filled_there q inside two)
           (cases_lt (memory Phase) 2);
     }

@@ -29,7 +29,7 @@ use Rattle.cycle_pauses.proofs.Full.Promises.{promises_of}
 use Rattle.cycle_pauses.proofs.Full.Before.{live}
 use Rattle.cycle_pauses.proofs.Full.Holding.{waits_for, holds_by, are_sized}
 use Rattle.cycle_pauses.proofs.Full.Pauses.{paused_from, paused}
-use Rattle.cycle_pauses.proofs.Finished.{all_copied_same}
+use Rattle.cycle_pauses.proofs.LeftByFinishing.{all_copied_same}
 use Rattle.image_graph.specs.Buffers.{HasNoMoreSeats}
 use Rattle.cycle_words.proofs.Marking.Alike.{holds_alike, sized_alike}
 use Rattle.cycle_words.proofs.Marking.Vanished.{free_is, top_out, tams_out, limit_out}
@@ -76,20 +76,20 @@ served_so asking other_asking (IsServedSo.as_before v) refs nums is = inl is
 served_so asking other_asking (IsServedSo.with_object more less) refs nums is = inr cc
 
 -- an asking is answered as it should be, where it asks no more
-answered_so : (x y : Asking) → IsServedSo x y → ((refs nums : ℕ) → y ≡ asks refs nums → ⊥) → Answers x y
-answered_so x y (IsServedSo.as_before v) no_more = same v no_more
+answered_so : (asking other_asking : Asking) → IsServedSo asking other_asking → ((refs nums : ℕ) → other_asking ≡ asks refs nums → ⊥) → Answers asking other_asking
+answered_so asking other_asking (IsServedSo.as_before v) no_more = same v no_more
   where
     same : (z : Asking) → ((refs nums : ℕ) → z ≡ asks refs nums → ⊥) → Answers z z
     same nothing no_more = tt
     same (asks refs nums) no_more = absurd (no_more refs nums refl)
     same refused no_more = tt
     same (given refs nums) no_more = (refl, refl)
-answered_so x y (IsServedSo.with_object refs nums) no_more = (refl, refl)
+answered_so asking other_asking (IsServedSo.with_object refs nums) no_more = (refl, refl)
 
 -- and where it is answered later
 answered_later : (x y z : Asking) → IsServedSo x y → Answers y z → Answers x z
-answered_later x y z (IsServedSo.as_before v) later = later
-answered_later x y z (IsServedSo.with_object refs nums) later = by_later z later
+answered_later asking other_asking z (IsServedSo.as_before v) later = later
+answered_later asking other_asking z (IsServedSo.with_object refs nums) later = by_later z later
   where
     by_later : (w : Asking) → Answers (given refs nums) w → Answers (asks refs nums) w
     by_later nothing is = absurd is
@@ -105,7 +105,7 @@ asking_waits : (memory : Word → ℕ) (block : Plot) (count : ℕ → ℕ) (mut
 asking_waits memory block count mutator refs nums asking asked is = waits_for memory count mutator refs nums (subst (IsAsked memory block count mutator) is asked).0
 
 -- Where nobody has a buffer, and all that was left found room.
-module _ (config : Config) (memory : Word → ℕ) (graph : Graph) (asking : ℕ → Asking) (r : Represents config memory graph asking) (bare : HasNoBuffers config memory) (room : is_room_for_all config memory ≡ true) where
+module _ (config : Config) (memory : Word → ℕ) (graph : Graph) (asking : ℕ → Asking) (represents : Represents config memory graph asking) (bare : HasNoBuffers config memory) (room : is_room_for_all config memory ≡ true) where
   abbrev w : Word → ℕ
   w = served config (cycle_finished config memory) config.mutators
 
@@ -114,7 +114,7 @@ module _ (config : Config) (memory : Word → ℕ) (graph : Graph) (asking : ℕ
 
   turns : (plot : Plot) × (owner : ℕ → Option ℕ) × (then : ℕ → Asking) × IsIdle config w plot owner graph then × ((t : ℕ) → IsServedSo (asking t) (then t))
   turns =
-      let idle = finished_idle config memory graph asking r bare room in
+      let idle = finished_idle config memory graph asking represents bare room in
       let served_all = turns_idle config (cycle_finished config memory) idle.0 idle.1 graph asking idle.2 config.mutators (omega arith) in
       (served_all.0, idle.1, served_all.1, served_all.2, served_all.3)
 
@@ -130,23 +130,23 @@ module _ (config : Config) (memory : Word → ℕ) (graph : Graph) (asking : ℕ
     whole_stands : Represents config w graph then
     whole_stands =
         idle_represents config w turns.0 turns.1 graph then turns.3 (phase_still config (cycle_finished config memory) config.mutators) (cset_still config (cycle_finished config memory) config.mutators) (evac_still config (cycle_finished config memory) config.mutators)
-        (λ t refs nums inside is. absurd (nobody_asks t refs nums inside is)) r.no_more r.no_more_pins
+        (λ mutator refs nums inside is. absurd (nobody_asks mutator refs nums inside is)) represents.no_more represents.no_more_pins
 
     whole_paused : IsWholePause config memory w graph asking
     whole_paused = record {
       paused = record {
         asked_then = then;
         stands = whole_stands;
-        answers = λ t inside. answered_so (asking t) (then t) (turns.4 t) (λ refs nums is. nobody_asks t refs nums inside is);
-        crowded = λ t refs nums inside is was_refused. ⊎_elim
-            (λ (asks_still : then t ≡ asks refs nums). absurd (nobody_asks t refs nums inside asks_still))
-            (λ (gave : then t ≡ given refs nums). let differ : given refs nums ≡ refused = sym gave ∙ was_refused in cc)
-            (served_so (asking t) (then t) (turns.4 t) refs nums is);
+        answers = λ mutator inside. answered_so (asking mutator) (then mutator) (turns.4 mutator) (λ refs nums is. nobody_asks mutator refs nums inside is);
+        crowded = λ mutator refs nums inside is was_refused. ⊎_elim
+            (λ (asks_still : then mutator ≡ asks refs nums). absurd (nobody_asks mutator refs nums inside asks_still))
+            (λ (gave : then mutator ≡ given refs nums). let differ : given refs nums ≡ refused = sym gave ∙ was_refused in cc)
+            (served_so (asking mutator) (then mutator) (turns.4 mutator) refs nums is);
       };
-      given_all = λ t refs nums inside is. ⊎_elim
-          (λ (asks_still : then t ≡ asks refs nums). absurd (nobody_asks t refs nums inside asks_still))
-          (λ (gave : then t ≡ given refs nums). gave)
-          (served_so (asking t) (then t) (turns.4 t) refs nums is);
+      given_all = λ mutator refs nums inside is. ⊎_elim
+          (λ (asks_still : then mutator ≡ asks refs nums). absurd (nobody_asks mutator refs nums inside asks_still))
+          (λ (gave : then mutator ≡ given refs nums). gave)
+          (served_so (asking mutator) (then mutator) (turns.4 mutator) refs nums is);
     }
 
     pub whole_pause : IsWholePause config memory (finished_from config memory) graph asking
@@ -173,7 +173,7 @@ module _ (config : Config) (memory : Word → ℕ) (graph : Graph) (asking : ℕ
   asked_stands : Represents config asked_word graph then
   asked_stands =
       idle_represents config asked_word turns.0 turns.1 graph then asked_idle (phase_still config (cycle_finished config memory) config.mutators) (cset_still config (cycle_finished config memory) config.mutators) (evac_still config (cycle_finished config memory) config.mutators)
-      (λ t refs nums inside is. refl) r.no_more r.no_more_pins
+      (λ t refs nums inside is. refl) represents.no_more represents.no_more_pins
 
   -- a full collection does not read that word
   packed_same : (word : Word) → packed_in config asked_word word ≡ packed_in config w word
@@ -184,23 +184,23 @@ module _ (config : Config) (memory : Word → ℕ) (graph : Graph) (asking : ℕ
   packed_same Claim = refl
   packed_same Evac = refl
   packed_same Free = refl
-  packed_same (Top q) = refl
-  packed_same (Tams q) = refl
-  packed_same (Limit q) = refl
-  packed_same (Heap x) = refl
-  packed_same (Root t i) = refl
-  packed_same (Pin t i) = refl
-  packed_same (Answer t) = refl
+  packed_same (Top region) = refl
+  packed_same (Tams region) = refl
+  packed_same (Limit region) = refl
+  packed_same (Heap address) = refl
+  packed_same (Root mutator index) = refl
+  packed_same (Pin mutator slot) = refl
+  packed_same (Answer mutator) = refl
   packed_same Pause = refl
   packed_same Left = refl
   packed_same End = refl
   packed_same (State seat) = refl
   packed_same (Current seat) = refl
-  packed_same (Count t) = refl
-  packed_same (Buffer t i) = refl
-  packed_same (Wait t) = refl
-  packed_same (Grey n) = refl
-  packed_same (Black n) = refl
+  packed_same (Count mutator) = refl
+  packed_same (Buffer mutator entry) = refl
+  packed_same (Wait mutator) = refl
+  packed_same (Grey number) = refl
+  packed_same (Black number) = refl
   packed_same Share = refl
 
   -- nor is there a buffer to let go
@@ -208,7 +208,7 @@ module _ (config : Config) (memory : Word → ℕ) (graph : Graph) (asking : ℕ
   unfolding made_in
   still_bare seat below =
       served_still config (Current seat) (λ v t q. refl) (cycle_finished config memory) config.mutators
-      ∙ (copying_keeps config memory graph asking r).same (Current seat) (λ never. never) ∙ bare seat below
+      ∙ (copying_keeps config memory graph asking represents).same (Current seat) (λ never. never) ∙ bare seat below
 
   full_same : full config asked_word ≡ full config w
   full_same =
@@ -249,13 +249,13 @@ module _ (config : Config) (memory : Word → ℕ) (graph : Graph) (asking : ℕ
   }
 
 -- Where something found no room.
-module _ (config : Config) (memory : Word → ℕ) (graph : Graph) (asking : ℕ → Asking) (r : Represents config memory graph asking) (no_room : is_room_for_all config memory ≡ false) where
+module _ (config : Config) (memory : Word → ℕ) (graph : Graph) (asking : ℕ → Asking) (represents : Represents config memory graph asking) (no_room : is_room_for_all config memory ≡ false) where
   finished_early : finished_from config memory ≡ all_copied config memory
   finished_early = fun_ext (λ word. cond-false (is_room_for_all config memory) (served config (cycle_finished config memory) config.mutators word) (all_copied config memory word) no_room)
 
   pub copied_short : FallsShort config memory (finished_from config memory) graph asking
   copied_short =
-      let stands = (copying_keeps config memory graph asking r).stands in
+      let stands = (copying_keeps config memory graph asking represents).stands in
       let paused_then = paused config (all_copied config memory) graph asking stands in
       record {
         holds = subst (λ v. HoldsInSizes config v graph) (sym finished_early)
@@ -265,9 +265,9 @@ module _ (config : Config) (memory : Word → ℕ) (graph : Graph) (asking : ℕ
       }
 
 -- So it is once buffers were let go.
-module _ (config : Config) (memory : Word → ℕ) (graph : Graph) (asking : ℕ → Asking) (r : Represents config memory graph asking) (seats : HasNoMoreSeats config memory) where
+module _ (config : Config) (memory : Word → ℕ) (graph : Graph) (asking : ℕ → Asking) (represents : Represents config memory graph asking) (seats : HasNoMoreSeats config memory) where
   gone : Represents config (let_go config memory) graph asking
-  gone = (letting_go_keeps config memory graph asking seats).represents r
+  gone = (letting_go_keeps config memory graph asking seats).represents represents
 
   whole : is_whole config memory ≡ true → IsWholePause config memory (finished config memory) graph asking
   whole is =
@@ -309,7 +309,7 @@ set_is_free c m g asking r room q inside member unpinned =
     λ word fixed other. all_copied_same c (let_go c m) word fixed ∙ let_go_same word other c m (seat_count c.mutators c.helpers) in
     let chosen : is_chosen (all_copied c (let_go c m)) q ≡ true =
     chosen_if (all_copied c (let_go c m)) q (subst (λ set. IsIn set q) (sym (same Cset (λ never. never) (λ never. never))) member) in
-    let loose : is_pinned c (all_copied c (let_go c m)) q ≡ false = same_pinned c m (all_copied c (let_go c m)) (λ t i. same (Pin t i) (λ never. never) (λ never. never)) q ∙ unpinned in
+    let loose : is_pinned c (all_copied c (let_go c m)) q ≡ false = same_pinned c m (all_copied c (let_go c m)) (λ mutator slot. same (Pin mutator slot) (λ never. never) (λ never. never)) q ∙ unpinned in
     let gone : is_to_free c (all_updated c (all_copied c (let_go c m))) q ≡ true =
     and_from (is_chosen (all_copied c (let_go c m)) q) (not (is_pinned c (all_copied c (let_go c m)) q)) chosen (not_from_false (is_pinned c (all_copied c (let_go c m)) q) loose) in
     freed_there c (all_updated c (all_copied c (let_go c m))) q inside gone

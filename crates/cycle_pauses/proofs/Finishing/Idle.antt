@@ -36,33 +36,33 @@ use Rattle.cycle_pauses.proofs.Finishing.Serving.{IsIdle}
 -- Such words represent the graph.
 pub idle_represents : (config : Config) (memory : Word → ℕ) (block : Plot) (owner : ℕ → Option ℕ) (graph : Graph) (asking : ℕ → Asking) → IsIdle config memory block owner graph asking
     → memory Phase ≡ 0 → memory Cset ≡ 0 → memory Evac ≡ 0 → ((mutator refs nums : ℕ) → mutator < config.mutators → asking mutator ≡ asks refs nums → bit_at (memory Ask) 1 ≡ 1) → HasNoMoreRoots config.mutators graph → HasNoMorePins config.mutators graph → Represents config memory graph asking
-idle_represents config memory block owner graph asking s no_phase no_cset no_evac heard no_more no_more_pins = record {
+idle_represents config memory block owner graph asking idle no_phase no_cset no_evac heard no_more no_more_pins = record {
   block = block;
   ghost = with_owner no_ghost owner;
   shared = record {
-    parsable = s.parsable;
-    contents = s.contents;
-    owned = s.owned;
+    parsable = idle.parsable;
+    contents = idle.contents;
+    owned = idle.owned;
     phased = record { phase_is = omega (arith, no_phase); cset_is = λ low. no_cset; evac_is = λ other. no_evac };
-    unwritten = s.unwritten;
-    marked = none_marked_in config (memory Phase) (λ q. memory (Grey q)) (λ q. memory (Black q)) (λ mutator. memory (Count mutator)) (λ mutator k. memory (Buffer mutator k)) (λ q. memory (Top q)) (λ q. memory (Tams q)) (λ a. memory (Heap a)) block
+    unwritten = idle.unwritten;
+    marked = none_marked_in config (memory Phase) (λ number. memory (Grey number)) (λ number. memory (Black number)) (λ mutator. memory (Count mutator)) (λ mutator entry. memory (Buffer mutator entry)) (λ region. memory (Top region)) (λ region. memory (Tams region)) (λ address. memory (Heap address)) block
         no_ghost.recording no_ghost.scanning (λ is. omega (arith, is, no_phase));
     evacuated =
-        subst (λ set. IsEvacuating config (memory Phase) set (memory Evac) (memory Claim) (memory Free) (λ q. memory (Top q)) (λ q. memory (Tams q)) (λ a. memory (Heap a)) (λ q. memory (Black q)) block owner no_ghost.copying no_ghost.working) (sym no_cset)
-        (subst (λ evac. IsEvacuating config (memory Phase) 0 evac (memory Claim) (memory Free) (λ q. memory (Top q)) (λ q. memory (Tams q)) (λ a. memory (Heap a)) (λ q. memory (Black q)) block owner no_ghost.copying no_ghost.working) (sym no_evac)
-        (none_evacuated config (memory Phase) (memory Claim) (memory Free) (λ q. memory (Top q)) (λ q. memory (Tams q)) (λ a. memory (Heap a)) (λ q. memory (Black q)) block owner no_ghost.copying no_ghost.working
-        (λ is. omega (arith, is, no_phase)) s.unmoved.no_moved s.unmoved.no_spent (λ seat seated. refl)));
+        subst (λ set. IsEvacuating config (memory Phase) set (memory Evac) (memory Claim) (memory Free) (λ region. memory (Top region)) (λ region. memory (Tams region)) (λ address. memory (Heap address)) (λ number. memory (Black number)) block owner no_ghost.copying no_ghost.working) (sym no_cset)
+        (subst (λ evac. IsEvacuating config (memory Phase) 0 evac (memory Claim) (memory Free) (λ region. memory (Top region)) (λ region. memory (Tams region)) (λ address. memory (Heap address)) (λ number. memory (Black number)) block owner no_ghost.copying no_ghost.working) (sym no_evac)
+        (none_evacuated config (memory Phase) (memory Claim) (memory Free) (λ region. memory (Top region)) (λ region. memory (Tams region)) (λ address. memory (Heap address)) (λ number. memory (Black number)) block owner no_ghost.copying no_ghost.working
+        (λ is. omega (arith, is, no_phase)) idle.unmoved.no_moved idle.unmoved.no_spent (λ seat seated. refl)));
     updated = λ on. absurd (omega (arith, on, no_phase));
-    pinned = s.pinned;
+    pinned = idle.pinned;
   };
-  roots = s.roots;
+  roots = idle.roots;
   usable = λ mutator i inside few.
-      subst (λ set. IsUsable config set (memory Evac) block (memory (Root mutator i))) (sym no_cset) (usable_now config (memory Evac) block s.unmoved.no_moved (memory (Root mutator i)) (graph.root (mutator + 1) i) (s.roots mutator i inside few));
-  none = s.unmoved.no_hand;
-  uncarved = s.unmoved.no_carved;
-  asked = s.asked;
+      subst (λ set. IsUsable config set (memory Evac) block (memory (Root mutator i))) (sym no_cset) (usable_now config (memory Evac) block idle.unmoved.no_moved (memory (Root mutator i)) (graph.root (mutator + 1) i) (idle.roots mutator i inside few));
+  none = idle.unmoved.no_hand;
+  uncarved = idle.unmoved.no_carved;
+  asked = idle.asked;
   heard = heard;
-  promised_to = s.promised_to;
+  promised_to = idle.promised_to;
   unmarking = record { records_none = λ seat seated. refl; scans_none = λ seat seated. refl };
   uncopying = record { copies_none = λ seat seated. refl; works_none = λ seat seated. refl };
   no_more = no_more;
@@ -89,32 +89,32 @@ module _ (config : Config) (memory : Word → ℕ) (none : memory Cset ≡ 0) wh
   word_still address = word_spared config memory address (collected_none config memory address (λ inside. none_in_0 config address (subst (λ set. IsCollected config set address) none inside)))
 
   -- the words once references were updated
-  abbrev n : Word → ℕ
-  n = all_updated config memory
+  abbrev now : Word → ℕ
+  now = all_updated config memory
 
-  unchosen : (r : ℕ) → is_chosen memory r ≡ false
-  unchosen r = ne_eqb (bit_at (memory Cset) r) 1 (λ is. none_is_in r (subst (λ set. bit_at set r ≡ 1) none is))
+  unchosen : (region : ℕ) → is_chosen memory region ≡ false
+  unchosen region = ne_eqb (bit_at (memory Cset) region) 1 (λ is. none_is_in region (subst (λ set. bit_at set region ≡ 1) none is))
 
-  not_freed : (r : ℕ) → is_to_free config n r ≡ false
-  not_freed r = and_left (is_chosen memory r) (not (is_pinned config memory r)) (unchosen r)
+  not_freed : (region : ℕ) → is_to_free config now region ≡ false
+  not_freed region = and_left (is_chosen memory region) (not (is_pinned config memory region)) (unchosen region)
 
-  not_staying : (r : ℕ) → is_to_stay config n r ≡ false
-  not_staying r = and_left (is_chosen memory r) (is_pinned config memory r) (unchosen r)
+  not_staying : (region : ℕ) → is_to_stay config now region ≡ false
+  not_staying region = and_left (is_chosen memory region) (is_pinned config memory region) (unchosen region)
 
-  no_bits : (first k : ℕ) → bits_of (is_to_free config n) first k ≡ 0
+  no_bits : (first k : ℕ) → bits_of (is_to_free config now) first k ≡ 0
   unfolding bits_of
   no_bits first zero = refl
   no_bits first (suc k) =
       let rest = no_bits first k in
       rw (not_freed (first + k), rest) (omega arith)
 
-  free_still : bit_or (memory Free) (bits_of (is_to_free config n) 0 config.regions) ≡ memory Free
+  free_still : bit_or (memory Free) (bits_of (is_to_free config now) 0 config.regions) ≡ memory Free
   free_still = ap (bit_or (memory Free)) (no_bits 0 config.regions) ∙ or_zero_r (memory Free)
 
-  kept_word : (r k : ℕ) → cond (is_to_free config n r) 0 k ≡ k
-  kept_word r k = cond-false (is_to_free config n r) 0 k (not_freed r)
+  kept_word : (region k : ℕ) → cond (is_to_free config now region) 0 k ≡ k
+  kept_word region k = cond-false (is_to_free config now region) 0 k (not_freed region)
 
-  heap_word : (address : ℕ) → n (Heap address) ≡ memory (Heap address)
+  heap_word : (address : ℕ) → now (Heap address) ≡ memory (Heap address)
   heap_word address = either_way (is_kept_field config memory address) (updated_word config memory (memory (Heap address))) (memory (Heap address)) (memory (Heap address)) (word_still (memory (Heap address))) refl
 
   pub settled_is : (word : Word) → set_freed config (all_updated config memory) word ≡ settled word
@@ -124,54 +124,51 @@ module _ (config : Config) (memory : Word → ℕ) (none : memory Cset ≡ 0) wh
   settled_is Evac = refl
   settled_is Ask = refl
   settled_is Free = free_still
-  settled_is (Top r) = kept_word r (memory (Top r))
-  settled_is (Tams r) = kept_word r (memory (Tams r))
-  settled_is (Limit r) = kept_word r (memory (Limit r))
-  settled_is (Heap x) =
-      cond-false (is_to_stay config n (region_with config x) && begins config n x && has_moved n x) (filler_header (object_words (n (Heap (x + 1))))) (n (Heap x))
-      (and_left (is_to_stay config n (region_with config x) && begins config n x) (has_moved n x) (and_left (is_to_stay config n (region_with config x)) (begins config n x) (not_staying (region_with config x))))
-      ∙ heap_word x
-  settled_is (Root t i) = word_still (memory (Root t i))
-  settled_is (Pin t i) = refl
-  settled_is (Answer t) = word_still (memory (Answer t))
+  settled_is (Top region) = kept_word region (memory (Top region))
+  settled_is (Tams region) = kept_word region (memory (Tams region))
+  settled_is (Limit region) = kept_word region (memory (Limit region))
+  settled_is (Heap address) =
+      cond-false (is_to_stay config now (region_with config address) && begins config now address && has_moved now address) (filler_header (object_words (now (Heap (address + 1))))) (now (Heap address))
+      (and_left (is_to_stay config now (region_with config address) && begins config now address) (has_moved now address) (and_left (is_to_stay config now (region_with config address)) (begins config now address) (not_staying (region_with config address))))
+      ∙ heap_word address
+  settled_is (Root mutator index) = word_still (memory (Root mutator index))
+  settled_is (Pin mutator slot) = refl
+  settled_is (Answer mutator) = word_still (memory (Answer mutator))
   settled_is Pause = refl
   settled_is Left = refl
   settled_is End = refl
   settled_is (State seat) = refl
   settled_is (Current seat) = refl
-  settled_is (Count t) = refl
-  settled_is (Buffer t i) = refl
-  settled_is (Wait t) = refl
-  settled_is (Grey n) = refl
-  settled_is (Black n) = refl
+  settled_is (Count mutator) = refl
+  settled_is (Buffer mutator entry) = refl
+  settled_is (Wait mutator) = refl
+  settled_is (Grey number) = refl
+  settled_is (Black number) = refl
   settled_is Share = refl
 
-  pub settled_idle : (graph : Graph) (asking : ℕ → Asking) (r : Represents config memory graph asking) → memory Phase ≢ 2 → IsIdle config (set_freed config (all_updated config memory)) r.block r.ghost.owner graph asking
-  settled_idle graph asking r out = subst (λ w. IsIdle config w r.block r.ghost.owner graph asking) (sym (fun_ext settled_is)) (record {
-    parsable = r.shared.parsable;
-    contents = r.shared.contents;
-    owned = subst (λ set. AreOwned config (λ q. memory (Top q)) (memory Share) (memory Free) set (λ s. memory (Current s)) r.block r.ghost.owner) none r.shared.owned;
-    unwritten = r.shared.unwritten;
+  pub settled_idle : (graph : Graph) (asking : ℕ → Asking) (represents : Represents config memory graph asking) → memory Phase ≢ 2 → IsIdle config (set_freed config (all_updated config memory)) represents.block represents.ghost.owner graph asking
+  settled_idle graph asking represents out = subst (λ memory. IsIdle config memory represents.block represents.ghost.owner graph asking) (sym (fun_ext settled_is)) (record {
+    parsable = represents.shared.parsable;
+    contents = represents.shared.contents;
+    owned = subst (λ set. AreOwned config (λ region. memory (Top region)) (memory Share) (memory Free) set (λ seat. memory (Current seat)) represents.block represents.ghost.owner) none represents.shared.owned;
+    unwritten = represents.shared.unwritten;
     unmoved = record {
-      no_moved = λ a refs nums to name is. none_in_0 config a (subst (λ set. IsCollected config set a) none (r.shared.evacuated.moved.moveds a refs nums to name is).inside);
-      no_spent = λ a words to is. none_in_0 config a (subst (λ set. IsCollected config set a) none (r.shared.evacuated.moved.spents a words to is).inside);
-      no_hand = r.none;
-      no_carved = r.uncarved;
+      no_moved = λ address refs nums to name is. none_in_0 config address (subst (λ set. IsCollected config set address) none (represents.shared.evacuated.moved.moveds address refs nums to name is).inside);
+      no_spent = λ address words to is. none_in_0 config address (subst (λ set. IsCollected config set address) none (represents.shared.evacuated.moved.spents address words to is).inside);
+      no_hand = represents.none;
+      no_carved = represents.uncarved;
     };
-    roots = r.roots;
+    roots = represents.roots;
     pinned = λ t i inside few.
-        pin_same config (memory Cset) (memory Evac) 0 0 r.block (memory (Pin t i)) (memory (Pin t i)) (graph.pin (t + 1) i) none (r.shared.phased.evac_is out) refl (r.shared.pinned t i inside few);
-    asked = λ t inside. asked_stays memory settled r.block r.block graph.count t refl refl (λ a words k is below. refl) (λ a words is. is) (λ a words is. is) (asking t) (r.asked t inside);
-    promised_to = r.promised_to;
+        pin_same config (memory Cset) (memory Evac) 0 0 represents.block (memory (Pin t i)) (memory (Pin t i)) (graph.pin (t + 1) i) none (represents.shared.phased.evac_is out) refl (represents.shared.pinned t i inside few);
+    asked = λ t inside. asked_stays memory settled represents.block represents.block graph.count t refl refl (λ a words k is below. refl) (λ a words is. is) (λ a words is. is) (asking t) (represents.asked t inside);
+    promised_to = represents.promised_to;
   })
 
 -- Where nobody has a buffer and all that was left found room, the words stand for the graph while no cycle runs.
-module _ (config : Config) (memory : Word → ℕ) (graph : Graph) (asking : ℕ → Asking) (r : Represents config memory graph asking) (bare : HasNoBuffers config memory) where
+module _ (config : Config) (memory : Word → ℕ) (graph : Graph) (asking : ℕ → Asking) (represents : Represents config memory graph asking) (bare : HasNoBuffers config memory) where
   copied_all : IsCopiedAll config memory graph asking
-  copied_all = copying_keeps config memory graph asking r
-
-  abbrev w : Word → ℕ
-  w = all_copied config memory
+  copied_all = copying_keeps config memory graph asking represents
 
   abbrev Idle : Type 0
   Idle = (plot : Plot) × (owner : ℕ → Option ℕ) × IsIdle config (cycle_finished config memory) plot owner graph asking
@@ -182,10 +179,10 @@ module _ (config : Config) (memory : Word → ℕ) (graph : Graph) (asking : ℕ
 
   -- while objects are evacuated or references updated
   in_cycle : 2 ≤ memory Phase → is_room_for_all config memory ≡ true → Idle
-  in_cycle on room =
+  in_cycle at_most room =
       let phase = copied_all.same Phase (λ never. never) in
       let stands = copied_all.stands in
-      let copies = copying_begins config (all_copied config memory) graph asking stands (omega (arith, on, phase)) in
+      let copies = copying_begins config (all_copied config memory) graph asking stands (omega (arith, at_most, phase)) in
       let pinned = left_pinned config memory graph asking copied_all room in (
         leaving.plot config (all_copied config memory) stands.block stands.ghost.owner graph asking config.region_words copies pinned no_room,
         stands.ghost.owner,
@@ -198,10 +195,10 @@ module _ (config : Config) (memory : Word → ℕ) (graph : Graph) (asking : ℕ
 
   out_of_cycle : memory Phase < 2 → Idle
   out_of_cycle low =
-      let none = r.shared.phased.cset_is low in (
-        r.block,
-        r.ghost.owner,
-        subst (λ v. IsIdle config (set_freed config (all_updated config v)) r.block r.ghost.owner graph asking) (sym (copied_else (λ two. omega (arith, two, low)))) (settled_idle config memory none graph asking r (λ two. omega (arith, two, low))),
+      let none = represents.shared.phased.cset_is low in (
+        represents.block,
+        represents.ghost.owner,
+        subst (λ v. IsIdle config (set_freed config (all_updated config v)) represents.block represents.ghost.owner graph asking) (sym (copied_else (λ two. omega (arith, two, low)))) (settled_idle config memory none graph asking represents (λ two. omega (arith, two, low))),
       )
 
   pub finished_idle : is_room_for_all config memory ≡ true → (plot : Plot) × (owner : ℕ → Option ℕ) × IsIdle config (cycle_finished config memory) plot owner graph asking

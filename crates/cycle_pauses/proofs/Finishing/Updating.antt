@@ -28,23 +28,23 @@ use Rattle.cycle_words.proofs.Finishing.Strides.{filler_fills, strides}
 use Rattle.cycle_pauses.proofs.Full.Sizes.{pieces_sized}
 use Rattle.cycle_pauses.proofs.Finishing.Copying.{IsCopying}
 
-module _ (config : Config) (first memory : Word → ℕ) (block : Plot) (owner : ℕ → Option ℕ) (graph : Graph) (asking : ℕ → Asking) (passed : ℕ) (s : IsCopying config first memory block owner graph asking passed)
+module _ (config : Config) (first memory : Word → ℕ) (block : Plot) (owner : ℕ → Option ℕ) (graph : Graph) (asking : ℕ → Asking) (passed : ℕ) (copying : IsCopying config first memory block owner graph asking passed)
     (pinned : (address refs nums : ℕ) (name : Name) → block address ≡ Some (thing name refs nums) → IsCollected config (memory Cset) address → is_pinned config memory (region_with config address) ≡ true) (no_room : HasNoRoom block) where
-  abbrev n : Word → ℕ
-  n = all_updated config memory
+  abbrev now : Word → ℕ
+  now = all_updated config memory
 
   abbrev heap : ℕ → ℕ
   heap address = memory (Heap address)
 
   abbrev after : ℕ → ℕ
-  after address = n (Heap address)
+  after address = now (Heap address)
 
   pub some : (address : ℕ) (piece : Block) → block address ≡ Some piece → 1 ≤ words_of piece
-  some = some_words config (λ q. memory (Top q)) block s.between.parsable s.between.owned.rooms
+  some = some_words config (λ region. memory (Top region)) block copying.between.parsable copying.between.owned.rooms
 
   -- a piece has as many words as its header or its shape word says
   sized : AreSized memory block
-  sized = pieces_sized config memory block graph.object s.between.contents.objects s.between.unwritten s.between.moves
+  sized = pieces_sized config memory block graph.object copying.between.contents.objects copying.between.unwritten copying.between.moves
 
   sizes : (address : ℕ) (piece : Block) → block address ≡ Some piece → stays config memory (region_with config address) ≡ true → stride_at heap address ≡ words_of piece
   sizes address piece is stay = strides memory block sized no_room address piece is
@@ -52,8 +52,8 @@ module _ (config : Config) (first memory : Word → ℕ) (block : Plot) (owner :
   -- a word that is no reference stays
   no_reference_stays : (address k : ℕ) (piece : Block) → block address ≡ Some piece → k < words_of piece → is_reference memory address (address + k) ≡ false → after (address + k) ≡ heap (address + k)
   no_reference_stays address k piece here below other = ⊎_elim
-      (λ (stay : stays config memory (region_with config address) ≡ true). other_stays config memory block s.between.parsable.plotted s.between.parsable.filled some sizes address k piece here below stay other)
-      (λ (gone : stays config memory (region_with config address) ≡ false). gone_stays config memory block s.between.parsable.plotted s.between.parsable.filled some sizes address k piece here below gone)
+      (λ (stay : stays config memory (region_with config address) ≡ true). other_stays config memory block copying.between.parsable.plotted copying.between.parsable.filled some sizes address k piece here below stay other)
+      (λ (gone : stays config memory (region_with config address) ≡ false). gone_stays config memory block copying.between.parsable.plotted copying.between.parsable.filled some sizes address k piece here below gone)
       (cases_Bool (stays config memory (region_with config address)))
 
   -- the address of what has not moved stays
@@ -95,7 +95,7 @@ module _ (config : Config) (first memory : Word → ℕ) (block : Plot) (owner :
         (cases_eq (bit_at (memory Cset) (region_with config address)) 1)
 
     object : (o : Object) × (graph.object name ≡ Some o) × IsThing heap block address refs nums name o
-    object = s.between.contents.objects.each address refs nums name here
+    object = copying.between.contents.objects.each address refs nums name here
 
     refs_are : refs_in (heap (address + 1)) ≡ refs
     refs_are = ap refs_in object.2.shape ∙ refs_read refs nums object.2.few_refs object.2.few_nums
@@ -104,21 +104,21 @@ module _ (config : Config) (first memory : Word → ℕ) (block : Plot) (owner :
     word_stays k below out = no_reference_stays address k (thing name refs nums) here below (not_reference address k refs refs_are out)
 
     field_is : (i : ℕ) → i < refs → after (address + 3 + i) ≡ updated_word config memory (heap (address + 3 + i))
-    field_is i few =
+    field_is i below =
         let place : address + (3 + i) ≡ address + 3 + i = omega arith in
         let reference : is_reference memory address (address + (3 + i)) ≡ true =
         and_from (not (fills address) && low_end address (3 + i)) (high_end address (3 + i)) (and_from (not (fills address)) (low_end address (3 + i)) (not_from_false (fills address) (ap is_filler object.2.header)) (le-leb (address + 3) (address + (3 + i)) (omega arith)))
-        (lt-ltb (address + (3 + i)) (address + 3 + refs_in (heap (address + 1))) (omega (arith, few, refs_are))) in
+        (lt-ltb (address + (3 + i)) (address + 3 + refs_in (heap (address + 1))) (omega (arith, below, refs_are))) in
         sym (ap after place)
-        ∙ field_updated config memory block s.between.parsable.plotted s.between.parsable.filled some sizes address (3 + i) (thing name refs nums) here (omega (arith, few)) stay
-        (plain_is_plain (heap address) object.2.header) (s.between.marked address (IsMarkable.object name refs nums here)) reference
+        ∙ field_updated config memory block copying.between.parsable.plotted copying.between.parsable.filled some sizes address (3 + i) (thing name refs nums) here (omega (arith, below)) stay
+        (plain_is_plain (heap address) object.2.header) (copying.between.marked address (IsMarkable.object name refs nums here)) reference
         ∙ ap (λ y. updated_word config memory (heap y)) place
 
   -- those of an object that is promised stay, since its references are null
   pub promised_word : (address seat words k : ℕ) → block address ≡ Some (promised seat words) → k < words → after (address + k) ≡ heap (address + k)
   promised_word address seat words k here below =
-      let blank = s.between.unwritten.blanks address seat words here in
-      let stay : stays config memory (region_with config address) ≡ true = stays_outside config memory (region_with config address) (s.no_promises address seat words here) in
+      let blank = copying.between.unwritten.blanks address seat words here in
+      let stay : stays config memory (region_with config address) ≡ true = stays_outside config memory (region_with config address) (copying.no_promises address seat words here) in
       let refs_are : refs_in (heap (address + 1)) ≡ blank.refs = ap refs_in blank.shape ∙ refs_read blank.refs blank.nums blank.few_refs blank.few_nums in
       ⊎_elim
       (λ (reference : is_reference memory address (address + k) ≡ true).
@@ -127,8 +127,8 @@ module _ (config : Config) (first memory : Word → ℕ) (block : Plot) (owner :
       let high = parts.2 in
       let place : address + 3 + (k - 3) ≡ address + k = omega (arith, low) in
       let null : heap (address + k) ≡ 0 = sym (ap heap place) ∙ blank.nulls (k - 3) (omega (arith, low, high, refs_are)) in
-      field_updated config memory block s.between.parsable.plotted s.between.parsable.filled some sizes address k (promised seat words) here below stay
-      (plain_is_plain (heap address) blank.header) (s.between.marked address (IsMarkable.to_come seat words here)) reference
+      field_updated config memory block copying.between.parsable.plotted copying.between.parsable.filled some sizes address k (promised seat words) here below stay
+      (plain_is_plain (heap address) blank.header) (copying.between.marked address (IsMarkable.to_come seat words here)) reference
       ∙ low_spared config memory (heap (address + k)) (omega (arith, null)))
       (λ (other : is_reference memory address (address + k) ≡ false). no_reference_stays address k (promised seat words) here below other)
       (cases_Bool (is_reference memory address (address + k)))
@@ -137,9 +137,9 @@ module _ (config : Config) (first memory : Word → ℕ) (block : Plot) (owner :
   dead_word : (address words k : ℕ) → block address ≡ Some (dead words) → k < words → after (address + k) ≡ heap (address + k)
   dead_word address words k here below = ⊎_elim
       (λ (stay : stays config memory (region_with config address) ≡ true).
-      dead_stays config memory block s.between.parsable.plotted s.between.parsable.filled some sizes address k (dead words) here below stay
-      (s.between.unmarked address words here) (s.between.deads address words here))
-      (λ (gone : stays config memory (region_with config address) ≡ false). gone_stays config memory block s.between.parsable.plotted s.between.parsable.filled some sizes address k (dead words) here below gone)
+      dead_stays config memory block copying.between.parsable.plotted copying.between.parsable.filled some sizes address k (dead words) here below stay
+      (copying.between.unmarked address words here) (copying.between.deads address words here))
+      (λ (gone : stays config memory (region_with config address) ≡ false). gone_stays config memory block copying.between.parsable.plotted copying.between.parsable.filled some sizes address k (dead words) here below gone)
       (cases_Bool (stays config memory (region_with config address)))
 
   -- the header of words that only fill, ..
@@ -149,14 +149,14 @@ module _ (config : Config) (first memory : Word → ℕ) (block : Plot) (owner :
       let some_word = some address (filler words) here in
       ap after (sym first_word)
       ∙ no_reference_stays address 0 (filler words) here some_word
-      (and_left (not (fills address) && low_end address 0) (high_end address 0) (and_left (not (fills address)) (low_end address 0) (ap (λ k. not (is_filler k)) (s.between.unwritten.fillers address words here) ∙ ap not (filler_fills words))))
+      (and_left (not (fills address) && low_end address 0) (high_end address 0) (and_left (not (fills address)) (low_end address 0) (ap (λ k. not (is_filler k)) (copying.between.unwritten.fillers address words here) ∙ ap not (filler_fills words))))
       ∙ ap heap first_word
 
   -- .. and those of old copies
   old_word : (address k : ℕ) (piece : Block) → block address ≡ Some piece → is_forwarded (heap address) ≡ true → k < words_of piece → after (address + k) ≡ heap (address + k)
   old_word address k piece here old below = ⊎_elim
-      (λ (stay : stays config memory (region_with config address) ≡ true). moved_stays config memory block s.between.parsable.plotted s.between.parsable.filled some sizes address k piece here below stay old)
-      (λ (gone : stays config memory (region_with config address) ≡ false). gone_stays config memory block s.between.parsable.plotted s.between.parsable.filled some sizes address k piece here below gone)
+      (λ (stay : stays config memory (region_with config address) ≡ true). moved_stays config memory block copying.between.parsable.plotted copying.between.parsable.filled some sizes address k piece here below stay old)
+      (λ (gone : stays config memory (region_with config address) ≡ false). gone_stays config memory block copying.between.parsable.plotted copying.between.parsable.filled some sizes address k piece here below gone)
       (cases_Bool (stays config memory (region_with config address)))
 
   -- a word that was updated stands for what it stood for, and is current
@@ -168,12 +168,12 @@ module _ (config : Config) (first memory : Word → ℕ) (block : Plot) (owner :
       let body = named_body (block address) name points in
       ⊎_elim
       (λ (current : block address ≡ Some (thing name body.0 body.1)).
-      let spared : updated_word config memory address ≡ address = own_spared address (plain_is_plain (heap address) (s.between.contents.objects.each address body.0 body.1 name current).2.header) in
+      let spared : updated_word config memory address ≡ address = own_spared address (plain_is_plain (heap address) (copying.between.contents.objects.each address body.0 body.1 name current).2.header) in
       let there : block (updated_word config memory address) ≡ Some (thing name body.0 body.1) = ap block spared ∙ current in
       (ap name_at there, IsCurrent.names body.0 body.1 name there))
       (λ (old : (to : ℕ) × (block address ≡ Some (moved name body.0 body.1 to))).
-      let was = s.between.moves.moveds address body.0 body.1 old.0 name old.1 in
-      let above = piece_inside config (λ q. memory (Top q)) block s.between.parsable.plotted address (moved name body.0 body.1 old.0) old.1 in
+      let was = copying.between.moves.moveds address body.0 body.1 old.0 name old.1 in
+      let above = piece_inside config (λ region. memory (Top region)) block copying.between.parsable.plotted address (moved name body.0 body.1 old.0) old.1 in
       let renewed : updated_word config memory address ≡ old.0 = word_renewed config memory address old.0 above.0 was.inside was.header in
       let there : block (updated_word config memory address) ≡ Some (thing name body.0 body.1) = ap block renewed ∙ was.copy in
       (ap name_at there, IsCurrent.names body.0 body.1 name there))
@@ -203,25 +203,25 @@ module _ (config : Config) (first memory : Word → ℕ) (block : Plot) (owner :
 
   pub objects_again : AreObjects after block graph.object
   objects_again = record {
-    each = λ address refs nums name is. let o = s.between.contents.objects.each address refs nums name is in (o.0, o.1, thing_again address refs nums name o.0 is o.2);
-    once = s.between.contents.objects.once;
+    each = λ address refs nums name is. let o = copying.between.contents.objects.each address refs nums name is in (o.0, o.1, thing_again address refs nums name o.0 is o.2);
+    once = copying.between.contents.objects.once;
   }
 
   -- each reference is current
   pub field_current : (address refs nums k : ℕ) (name : Name) → block address ≡ Some (thing name refs nums) → k < refs → IsCurrent block (after (address + 3 + k))
-  field_current address refs nums k name here few = subst (IsCurrent block) (sym (field_is address refs nums name here k few)) (by_object (s.between.contents.objects.each address refs nums name here))
+  field_current address refs nums k name here below = subst (IsCurrent block) (sym (field_is address refs nums name here k below)) (by_object (copying.between.contents.objects.each address refs nums name here))
     where
       by_object : (object : Object) × (graph.object name ≡ Some object) × IsThing heap block address refs nums name object → IsCurrent block (updated_word config memory (heap (address + 3 + k)))
       by_object object =
           let is = object.2 in
           let null : Reference = None in
-          let there = slice_get-get_or object.0.refs k null (omega (arith, few, is.refs_are)) in
+          let there = slice_get-get_or object.0.refs k null (omega (arith, below, is.refs_are)) in
           (updated_points (heap (address + 3 + k)) (get_or object.0.refs k null) (is.references k (get_or object.0.refs k null) there)).1
 
   pub unwritten_again : AreUnwritten after block
   unwritten_again = record {
     blanks = λ address seat words is.
-        let blank = s.between.unwritten.blanks address seat words is in
+        let blank = copying.between.unwritten.blanks address seat words is in
         record {
           refs = blank.refs;
           nums = blank.nums;
@@ -236,18 +236,18 @@ module _ (config : Config) (first memory : Word → ℕ) (block : Plot) (owner :
         };
     headers = λ address words is.
         let first_word : address + 0 ≡ address = omega arith in
-        let long = s.between.parsable.deads address words is in
-        sym (ap after first_word) ∙ dead_word address words 0 is (omega (arith, long)) ∙ ap heap first_word ∙ s.between.unwritten.headers address words is;
+        let long = copying.between.parsable.deads address words is in
+        sym (ap after first_word) ∙ dead_word address words 0 is (omega (arith, long)) ∙ ap heap first_word ∙ copying.between.unwritten.headers address words is;
     lengths = λ address words is.
-        let long = s.between.parsable.deads address words is in
-        ap object_words (dead_word address words 1 is (omega (arith, long))) ∙ s.between.unwritten.lengths address words is;
-    fillers = λ address words is. filler_word address words is ∙ s.between.unwritten.fillers address words is;
+        let long = copying.between.parsable.deads address words is in
+        ap object_words (dead_word address words 1 is (omega (arith, long))) ∙ copying.between.unwritten.lengths address words is;
+    fillers = λ address words is. filler_word address words is ∙ copying.between.unwritten.fillers address words is;
   }
 
   pub moves_again : HaveMoved config (memory Cset) after block
   moves_again = record {
     moveds = λ address refs nums to name is.
-        let was = s.between.moves.moveds address refs nums to name is in
+        let was = copying.between.moves.moveds address refs nums to name is in
         let led = led_is_forwarded (heap address) to was.header in
         let first_word : address + 0 ≡ address = omega arith in
         record {
@@ -265,9 +265,9 @@ module _ (config : Config) (first memory : Word → ℕ) (block : Plot) (owner :
               (there.0, subst (λ v. Points block v there.0) (sym (subst (λ d. after d ≡ heap d) place (old_word address (3 + k) (moved name refs nums to) is led (omega (arith, below))))) there.1);
         };
     spents = λ address words to is.
-        let was = s.between.moves.spents address words to is in
+        let was = copying.between.moves.spents address words to is in
         let led = led_is_forwarded (heap address) to was.header in
-        let long = s.between.parsable.spents address words to is in
+        let long = copying.between.parsable.spents address words to is in
         let first_word : address + 0 ≡ address = omega arith in
         record {
           header = sym (ap after first_word) ∙ old_word address 0 (spent words to) is led (omega (arith, long)) ∙ ap heap first_word ∙ was.header;
@@ -286,8 +286,8 @@ module _ (config : Config) (first memory : Word → ℕ) (block : Plot) (owner :
   answer_stays mutator nothing asked = low_spared config memory (memory (Answer mutator)) (let none = asked.1 in omega (arith, none))
   answer_stays mutator (asks refs nums) asked = low_spared config memory (memory (Answer mutator)) (let none = asked.1 in omega (arith, none))
   answer_stays mutator refused asked = low_spared config memory (memory (Answer mutator)) (let one = asked.1 in omega (arith, one))
-  answer_stays mutator (given refs nums) asked = word_spared config memory (memory (Answer mutator)) (collected_none config memory (memory (Answer mutator)) (s.no_promises (memory (Answer mutator)) mutator (3 + refs + nums) asked.2.here))
+  answer_stays mutator (given refs nums) asked = word_spared config memory (memory (Answer mutator)) (collected_none config memory (memory (Answer mutator)) (copying.no_promises (memory (Answer mutator)) mutator (3 + refs + nums) asked.2.here))
 
   -- so each piece says how many words it has
-  pub sized_again : AreSized n block
-  sized_again = pieces_sized config n block graph.object objects_again unwritten_again moves_again
+  pub sized_again : AreSized now block
+  sized_again = pieces_sized config now block graph.object objects_again unwritten_again moves_again

@@ -1,9 +1,10 @@
 -- Words that stand for a graph with promised objects represent it: the promised objects are no objects of the graph any more.
-use Rattle.std.proofs.Common.{zero, suc, length, replicate, subst, ◌≡◌, ℕ, ◌+◌, ◌-◌, ◌<◌, ◌≤◌, Bool, true, false, slice_get, Option, Some, None, ⊎_elim, refl, sym, ap, ◌∙◌, arith}
+use Rattle.std.proofs.Common.{length, subst, ◌≡◌, ℕ, ◌+◌, ◌-◌, ◌<◌, ◌≤◌, Bool, true, false, slice_get, Option, Some, None, ⊎_elim, refl, sym, ap, ◌∙◌, arith}
 use Rattle.std.specs.Prelude.{if◌then◌else◌}
 use Rattle.std.proofs.lemmas.Bool.{cond-true, cond-false, cases_Bool}
 use Rattle.std.proofs.lemmas.List.{length-replicate}
 use Rattle.std.proofs.lemmas.Option.{same_Some, none-some}
+use Rattle.shen_graph.proofs.Lists.{replicate_at}
 use Rattle.heap_words.specs.declared.config.Config.{Config}
 use Rattle.heap_words.specs.Words.{Word, Free, Top, Root, Pin, Heap}
 use Rattle.shen_graph.specs.declared.name.Name.{Name}
@@ -21,12 +22,6 @@ use Rattle.image_graph.proofs.Named.{thing_at}
 use Rattle.image_graph.proofs.Promised.{same_reference-true}
 use Rattle.cycle_words.proofs.Marking.Trimmed.{object_stands}
 use Rattle.cycle_pauses.proofs.Full.Mapped.{mapped, mapped_at, mapped_from, plotted_alike, filled_alike}
-
--- an element of a list of equal ones
-pub replicate_at : {A : Type 0} (n index : ℕ) (x : A) → index < n → slice_get (replicate n x) index ≡ Some x
-replicate_at zero index x below = absurd (omega (arith, below))
-replicate_at (suc n) zero x below = refl
-replicate_at (suc n) (suc index) x below = replicate_at n index x (omega (arith, below))
 
 -- whether a name is that of a promised object
 abbrev pub is_promised : Promises → Name → Bool
@@ -48,8 +43,8 @@ pub record IsAfter (config : Config) (memory : Word → ℕ) (block : Plot) (gra
   pub next : (thread : ℕ) (name : Name) → promises.ref thread ≡ Some name → name ≡ fresh graph thread
   pub given : (name : Name) (object : Object) → graph.object name ≡ Some object → IsGiven config graph.count name
   pub fields : (address refs nums i : ℕ) (name other_name : Name) (object : Object) → block address ≡ Some (thing name refs nums) → graph.object name ≡ Some object → slice_get object.refs i ≡ Some (Some other_name) → IsKnown graph other_name
-  pub roots : (thread i : ℕ) (name : Name) → graph.root thread i ≡ Some name → IsKnown graph name
-  pub pins : (thread i : ℕ) (held : Pinned) → graph.pin thread i ≡ Some held → IsKnown graph held.name
+  pub roots : (thread index : ℕ) (name : Name) → graph.root thread index ≡ Some name → IsKnown graph name
+  pub pins : (thread slot : ℕ) (held : Pinned) → graph.pin thread slot ≡ Some held → IsKnown graph held.name
 
 -- an object at an address, that is no promised one
 abbrev pub IsOld : Plot → Promises → ℕ → ℕ → ℕ → Name → Type 0
@@ -132,32 +127,32 @@ module _ (config : Config) (memory : Word → ℕ) (block : Plot) (graph : Graph
       only_fills fills.0 (was.1 ∙ ap Some fills.2) (sym was.2 ∙ ap (as_promised promises) fills.2))
       (stands.things address was.0 was.1)
 
-  left_of : (a refs nums : ℕ) (n : Name) → TakenPiece a (thing n refs nums) → IsOld block promises a refs nums n
+  left_of : (a refs nums : ℕ) (name : Name) → TakenPiece a (thing name refs nums) → IsOld block promises a refs nums name
   left_of a refs nums n (stays_old name more less here other same) =
       let name_is : n ≡ name = same_Some n name (ap (λ b. name_at (Some b)) same) in
       (here ∙ ap Some (sym same), ap (is_promised promises) name_is ∙ other)
   left_of a refs nums n (is_taken name more less here test wrong) = (let differ = wrong in cc)
-  left_of a refs nums n (only_fills words here wrong) = (let differ = wrong in cc)
+  left_of a refs nums name (only_fills words here wrong) = (let differ = wrong in cc)
 
-  pub left : (a refs nums : ℕ) (name : Name) → taken a ≡ Some (thing name refs nums) → IsOld block promises a refs nums name
-  left a refs nums name is = left_of a refs nums name (taken_at a (thing name refs nums) is)
+  pub left : (address refs nums : ℕ) (name : Name) → taken address ≡ Some (thing name refs nums) → IsOld block promises address refs nums name
+  left address refs nums name is = left_of address refs nums name (taken_at address (thing name refs nums) is)
 
   -- a promised piece is a promised object
-  gone_of : (a seat words : ℕ) → TakenPiece a (promised seat words) → IsPromisedThing block promises a seat words
-  gone_of a seat words (stays_old name refs nums here other wrong) = (let differ = wrong in cc)
-  gone_of a seat words (only_fills more here wrong) = (let differ = wrong in cc)
-  gone_of a seat words (is_taken name refs nums here test same) =
+  gone_of : (address seat words : ℕ) → TakenPiece address (promised seat words) → IsPromisedThing block promises address seat words
+  gone_of address seat words (stays_old name refs nums here other wrong) = (let differ = wrong in cc)
+  gone_of address seat words (only_fills more here wrong) = (let differ = wrong in cc)
+  gone_of address seat words (is_taken name refs nums here test same) =
       record { name = name; refs = refs; nums = nums; here = here; named = same_reference-true (promises.ref name.thread) name test; seat_is = cc; words_are = cc }
 
-  pub gone : (a seat words : ℕ) → taken a ≡ Some (promised seat words) → IsPromisedThing block promises a seat words
-  gone a seat words is = gone_of a seat words (taken_at a (promised seat words) is)
+  pub gone : (address seat words : ℕ) → taken address ≡ Some (promised seat words) → IsPromisedThing block promises address seat words
+  gone address seat words is = gone_of address seat words (taken_at address (promised seat words) is)
 
   -- and of no other kind
-  no_other : (a : ℕ) (piece : Block) → ((name : Name) (refs nums : ℕ) → piece ≡ thing name refs nums → ⊥) → ((seat words : ℕ) → piece ≡ promised seat words → ⊥)
-      → ((words : ℕ) → piece ≡ filler words → ⊥) → taken a ≡ Some piece → ⊥
-  no_other a piece unlike unpromised unfilled is = by_kind (taken_at a piece is)
+  no_other : (address : ℕ) (piece : Block) → ((name : Name) (refs nums : ℕ) → piece ≡ thing name refs nums → ⊥) → ((seat words : ℕ) → piece ≡ promised seat words → ⊥)
+      → ((words : ℕ) → piece ≡ filler words → ⊥) → taken address ≡ Some piece → ⊥
+  no_other address piece unlike unpromised unfilled is = by_kind (taken_at address piece is)
     where
-      by_kind : TakenPiece a piece → ⊥
+      by_kind : TakenPiece address piece → ⊥
       by_kind (only_fills words here same) = unfilled words same
       by_kind (stays_old name refs nums here other same) = unlike name refs nums same
       by_kind (is_taken name refs nums here test same) = unpromised (name.thread - 1) (3 + refs + nums) same
@@ -175,20 +170,20 @@ module _ (config : Config) (memory : Word → ℕ) (block : Plot) (graph : Graph
   filler_was : (address words : ℕ) → taken address ≡ Some (filler words) → block address ≡ Some (filler words)
   filler_was address words is = filler_of address words (taken_at address (filler words) is)
 
-  filler_some : (a words : ℕ) → taken a ≡ Some (filler words) → 1 ≤ words
-  filler_some a words is = ⊎_elim
+  filler_some : (address words : ℕ) → taken address ≡ Some (filler words) → 1 ≤ words
+  filler_some address words is = ⊎_elim
       (λ (t : (name : Name) × (refs : ℕ) × (nums : ℕ) × (filler words ≡ thing name refs nums)). (let differ = t.3 in cc))
       (λ (fills : (more : ℕ) × (1 ≤ more) × (filler words ≡ filler more)). (let some = fills.1 in let same : words ≡ fills.0 = ap words_of fills.2 in omega (arith, some, same)))
-      (stands.things a (filler words) (filler_was a words is))
+      (stands.things address (filler words) (filler_was address words is))
 
-  no_deads : (a words : ℕ) → taken a ≡ Some (dead words) → ⊥
-  no_deads a words = no_other a (dead words) (λ name refs nums wrong. (let differ = wrong in cc)) (λ other more wrong. (let differ = wrong in cc)) (λ more wrong. (let differ = wrong in cc))
+  no_deads : (address words : ℕ) → taken address ≡ Some (dead words) → ⊥
+  no_deads address words = no_other address (dead words) (λ name refs nums wrong. (let differ = wrong in cc)) (λ other more wrong. (let differ = wrong in cc)) (λ more wrong. (let differ = wrong in cc))
 
-  no_moveds : (a refs nums to : ℕ) (n : Name) → taken a ≡ Some (moved n refs nums to) → ⊥
-  no_moveds a refs nums to n = no_other a (moved n refs nums to) (λ name more less wrong. (let differ = wrong in cc)) (λ other more wrong. (let differ = wrong in cc)) (λ more wrong. (let differ = wrong in cc))
+  no_moveds : (address refs nums to : ℕ) (name : Name) → taken address ≡ Some (moved name refs nums to) → ⊥
+  no_moveds address refs nums to n = no_other address (moved n refs nums to) (λ name more less wrong. (let differ = wrong in cc)) (λ other more wrong. (let differ = wrong in cc)) (λ more wrong. (let differ = wrong in cc))
 
-  no_spents : (a words to : ℕ) → taken a ≡ Some (spent words to) → ⊥
-  no_spents a words to = no_other a (spent words to) (λ name refs nums wrong. (let differ = wrong in cc)) (λ other more wrong. (let differ = wrong in cc)) (λ more wrong. (let differ = wrong in cc))
+  no_spents : (address words to : ℕ) → taken address ≡ Some (spent words to) → ⊥
+  no_spents address words to = no_other address (spent words to) (λ name refs nums wrong. (let differ = wrong in cc)) (λ other more wrong. (let differ = wrong in cc)) (λ more wrong. (let differ = wrong in cc))
 
   -- the object of an old name
   old_object : (name : Name) (object : Object) → is_promised promises name ≡ false → (with_promised graph promises).object name ≡ Some object → graph.object name ≡ Some object
@@ -239,36 +234,36 @@ module _ (config : Config) (memory : Word → ℕ) (block : Plot) (graph : Graph
       (blank_of address x.refs x.nums (promises.refs x.name.thread) (promises.nums x.name.thread) x.name o.0 o.2 (same_Some o.0 (blank (promises.refs x.name.thread) (promises.nums x.name.thread)) new))
 
   -- a pin word stands for what its slot holds, where nothing is collected
-  pin_left : (cset evac t i word : ℕ) (found : Option Pinned) → cset ≡ 0 → graph.pin (t + 1) i ≡ found → PinWordStands memory block word found → PinStands config cset evac taken word found
-  pin_left cset evac t i word None none held is = is
-  pin_left cset evac t i word (Some x) none held is =
+  pin_left : (cset evac t slot word : ℕ) (found : Option Pinned) → cset ≡ 0 → graph.pin (t + 1) slot ≡ found → PinWordStands memory block word found → PinStands config cset evac taken word found
+  pin_left cset evac t slot word None none held is = is
+  pin_left cset evac t slot word (Some pinned) none held is =
       let copy = is.1 in (
         is.0,
         copy.0,
         copy.1,
         record {
           piece =
-              mapped_at (as_promised promises) block word (thing x.name copy.0 copy.1) copy.2
-              ∙ ap Some (cond-false (is_promised promises x.name) (promised (x.name.thread - 1) (3 + copy.0 + copy.1)) (thing x.name copy.0 copy.1) (not_promised x.name (is_after.pins (t + 1) i x held)));
+              mapped_at (as_promised promises) block word (thing pinned.name copy.0 copy.1) copy.2
+              ∙ ap Some (cond-false (is_promised promises pinned.name) (promised (pinned.name.thread - 1) (3 + copy.0 + copy.1)) (thing pinned.name copy.0 copy.1) (not_promised pinned.name (is_after.pins (t + 1) slot pinned held)));
           safe = λ inside. absurd (none_in_0 config word (subst (λ set. IsCollected config set word) none inside));
         },
       )
 
-  pub pins_left : (cset evac : ℕ) → cset ≡ 0 → ArePinned config cset evac taken (λ t i. memory (Pin t i)) graph.pin
+  pub pins_left : (cset evac : ℕ) → cset ≡ 0 → ArePinned config cset evac taken (λ mutator slot. memory (Pin mutator slot)) graph.pin
   pins_left cset evac none t i inside few = pin_left cset evac t i (memory (Pin t i)) (graph.pin (t + 1) i) none refl (stands.rooted.pins t i inside few)
 
   -- what all machines share holds, where nothing is collected and no seat has a region
   pub shared_facts : (phase cset evac claim : ℕ) (current grey black entries : ℕ → ℕ) (buffer : ℕ → ℕ → ℕ) (tams limit : ℕ → ℕ) (share : ℕ)
       → phase ≡ 0 → cset ≡ 0 → evac ≡ 0 → ((seat : ℕ) → current seat ≡ 0) → share ≡ 0
-      → SharedFacts config (λ q. memory (Top q)) heap taken no_ghost graph.object graph.count phase cset evac (memory Free) current grey black entries buffer tams claim limit share (λ t i. memory (Pin t i)) graph.pin
+      → SharedFacts config (λ region. memory (Top region)) heap taken no_ghost graph.object graph.count phase cset evac (memory Free) current grey black entries buffer tams claim limit share (λ mutator slot. memory (Pin mutator slot)) graph.pin
   shared_facts phase cset evac claim current grey black entries buffer tams limit share no_phase no_cset no_evac none no_share = record {
     parsable = record {
-      plotted = plotted_alike config (λ q. memory (Top q)) block (as_promised promises) same_words stands.plotted;
-      filled = filled_alike config (λ q. memory (Top q)) block (as_promised promises) same_words stands.filled;
-      promises = λ a seat words is. (let at = gone a seat words is in omega (arith, at.words_are));
-      deads = λ a words is. absurd (no_deads a words is);
-      spents = λ a words to is. absurd (no_spents a words to is);
-      fillers = λ a words is. filler_some a words is;
+      plotted = plotted_alike config (λ region. memory (Top region)) block (as_promised promises) same_words stands.plotted;
+      filled = filled_alike config (λ region. memory (Top region)) block (as_promised promises) same_words stands.filled;
+      promises = λ address seat words is. (let at = gone address seat words is in omega (arith, at.words_are));
+      deads = λ address words is. absurd (no_deads address words is);
+      spents = λ address words to is. absurd (no_spents address words to is);
+      fillers = λ address words is. filler_some address words is;
     };
     contents = record { objects = objects_left; given = is_after.given };
     owned = record {
@@ -279,20 +274,20 @@ module _ (config : Config) (memory : Word → ℕ) (block : Plot) (graph : Graph
       outside = λ seat some. absurd (some (none seat));
     };
     phased = record { phase_is = omega (arith, no_phase); cset_is = λ other. no_cset; evac_is = λ other. no_evac };
-    unwritten = record { blanks = blank_at; headers = λ a words is. absurd (no_deads a words is); lengths = λ a words is. absurd (no_deads a words is); fillers = λ a words is. stands.fillers a words (filler_was a words is) };
-    marked = none_marked config phase grey black entries buffer (λ q. memory (Top q)) tams heap taken no_ghost.recording no_ghost.scanning no_phase;
+    unwritten = record { blanks = blank_at; headers = λ address words is. absurd (no_deads address words is); lengths = λ address words is. absurd (no_deads address words is); fillers = λ address words is. stands.fillers address words (filler_was address words is) };
+    marked = none_marked config phase grey black entries buffer (λ region. memory (Top region)) tams heap taken no_ghost.recording no_ghost.scanning no_phase;
     evacuated =
-        subst (λ set. IsEvacuating config phase set evac claim (memory Free) (λ q. memory (Top q)) tams heap black taken no_ghost.owner no_ghost.copying no_ghost.working) (sym no_cset)
-        (subst (λ count. IsEvacuating config phase 0 count claim (memory Free) (λ q. memory (Top q)) tams heap black taken no_ghost.owner no_ghost.copying no_ghost.working) (sym no_evac)
-        (none_evacuated config phase claim (memory Free) (λ q. memory (Top q)) tams heap black taken no_ghost.owner no_ghost.copying no_ghost.working (λ on. omega (arith, on, no_phase)) no_moveds no_spents (λ seat inside. refl)));
+        subst (λ set. IsEvacuating config phase set evac claim (memory Free) (λ region. memory (Top region)) tams heap black taken no_ghost.owner no_ghost.copying no_ghost.working) (sym no_cset)
+        (subst (λ count. IsEvacuating config phase 0 count claim (memory Free) (λ region. memory (Top region)) tams heap black taken no_ghost.owner no_ghost.copying no_ghost.working) (sym no_evac)
+        (none_evacuated config phase claim (memory Free) (λ region. memory (Top region)) tams heap black taken no_ghost.owner no_ghost.copying no_ghost.working (λ on. omega (arith, on, no_phase)) no_moveds no_spents (λ seat inside. refl)));
     updated = λ on. absurd (omega (arith, on, no_phase));
     pinned = pins_left cset evac no_cset;
   }
 
   pub roots_left : (mutator index : ℕ) → mutator < config.mutators → index < 16 → Points taken (memory (Root mutator index)) (graph.root (mutator + 1) index)
-  roots_left mutator index inside few = points_on (memory (Root mutator index)) (graph.root (mutator + 1) index) (is_after.roots (mutator + 1) index) (stands.rooted.roots mutator index inside few)
+  roots_left mutator index inside below = points_on (memory (Root mutator index)) (graph.root (mutator + 1) index) (is_after.roots (mutator + 1) index) (stands.rooted.roots mutator index inside below)
 
   -- each root may be used
-  pub roots_usable : (cset evac : ℕ) → cset ≡ 0 → AreUsable config cset evac taken (λ t i. memory (Root t i))
+  pub roots_usable : (cset evac : ℕ) → cset ≡ 0 → AreUsable config cset evac taken (λ mutator index. memory (Root mutator index))
   roots_usable cset evac no_cset t i inside few =
       subst (λ set. IsUsable config set evac taken (memory (Root t i))) (sym no_cset) (usable_now config evac taken no_moveds (memory (Root t i)) (graph.root (t + 1) i) (roots_left t i inside few))

@@ -16,11 +16,11 @@ use Rattle.image_graph.specs.Promised.{Promises}
 use Rattle.image_graph.specs.Serving.{served_promises}
 use Rattle.cycle_pauses.proofs.Full.Promises.{promised_ref, promised_refs, promised_nums, promises_of, ref_of, refs_of, nums_of}
 use Rattle.cycle_pauses.proofs.Full.Holding.{request_reads, waits_for}
-use Rattle.image_graph.proofs.Turned.{SamePromise, IsPromisedAsAsked, promise_after}
+use Rattle.image_graph.proofs.PromisesAfterTurns.{SamePromise, IsPromisedAsAsked, promise_after}
 use Rattle.cycle_pauses.proofs.Full.After.{gone, no_room, shared_facts, roots_left, roots_usable}
 use Rattle.cycle_pauses.proofs.Full.Made.{promised_if_some, some_if_promised, no_promise, promise}
 use Rattle.image_graph.proofs.Still.{full_phase, full_cset, full_evac, full_current, full_share, full_wait, packed_wait}
-use Rattle.cycle_pauses.proofs.Full.Paused.{then_of, packed_answer, asked_then, plot, is_after, plot_then, answer_left, answer_found}
+use Rattle.cycle_pauses.proofs.Full.SameGraph.{then_of, packed_answer, asked_then, plot, is_after, plot_then, answer_left, answer_found}
 
 -- an asking is answered as it should be
 pub is_answer : (asking : Asking) (answer : ℕ) → Answers asking (then_of asking answer)
@@ -42,55 +42,55 @@ nobody_asks (asks more less) answer refs nums is = ⊎_elim
 nobody_asks refused answer refs nums is = cc
 nobody_asks (given more less) answer refs nums is = cc
 
-module _ (config : Config) (memory : Word → ℕ) (graph : Graph) (asking : ℕ → Asking) (r : RepresentsByCopies config memory graph asking) (bare : HasNoBuffers config memory) where
-  abbrev p : Promises
-  p = promises_of config graph asking
+module _ (config : Config) (memory : Word → ℕ) (graph : Graph) (asking : ℕ → Asking) (represents_by_copies : RepresentsByCopies config memory graph asking) (bare : HasNoBuffers config memory) where
+  abbrev promises : Promises
+  promises = promises_of config graph asking
 
-  abbrev q : Promises
-  q = served_promises config (packed_in config memory) p config.mutators
+  abbrev promises_then : Promises
+  promises_then = served_promises config (packed_in config memory) promises config.mutators
 
   -- who keeps an answer that is no address
   keeps_answer : (mutator : ℕ) → mutator < config.mutators → memory (Wait mutator) ≡ 0 → memory (Answer mutator) ≤ 1 → full_from config memory (Answer mutator) ≡ memory (Answer mutator)
-  keeps_answer mutator inside idle none = answer_left config memory graph asking r mutator inside idle ∙ packed_answer config memory mutator none
+  keeps_answer mutator inside idle none = answer_left config memory graph asking represents_by_copies mutator inside idle ∙ packed_answer config memory mutator none
 
   -- what is promised to who did not wait is what was
-  same_promise : (mutator : ℕ) → memory (Wait mutator) ≡ 0 → SamePromise p q (mutator + 1)
+  same_promise : (mutator : ℕ) → memory (Wait mutator) ≡ 0 → SamePromise promises promises_then (mutator + 1)
   same_promise mutator idle = ⊎_elim
-      (λ (same : SamePromise p q (mutator + 1)). same)
-      (λ (new : IsPromisedAsAsked (packed_in config memory) q mutator). absurd (new.waits (packed_wait config memory mutator ∙ idle)))
-      (promise_after config (packed_in config memory) p mutator config.mutators)
+      (λ (same : SamePromise promises promises_then (mutator + 1)). same)
+      (λ (new : IsPromisedAsAsked (packed_in config memory) promises_then mutator). absurd (new.waits (packed_wait config memory mutator ∙ idle)))
+      (promise_after config (packed_in config memory) promises mutator config.mutators)
 
   -- and to who was given an object, what it asked for
-  new_promise : (mutator refs nums : ℕ) → mutator < config.mutators → asking mutator ≡ asks refs nums → 1 < full_from config memory (Answer mutator) → IsPromisedAsAsked (packed_in config memory) q mutator
-  new_promise mutator refs nums inside is some = ⊎_elim
-      (λ (same : SamePromise p q (mutator + 1)).
-      let none : q.ref (mutator + 1) ≡ None = same.ref ∙ ref_of config graph asking mutator inside ∙ ap (promised_ref graph (mutator + 1)) is in
-      let one = promised_if_some config (full_from config memory) (plot config memory graph asking r) graph q (is_after config memory graph asking r bare) mutator inside some in
+  new_promise : (mutator refs nums : ℕ) → mutator < config.mutators → asking mutator ≡ asks refs nums → 1 < full_from config memory (Answer mutator) → IsPromisedAsAsked (packed_in config memory) promises_then mutator
+  new_promise mutator refs nums inside is below = ⊎_elim
+      (λ (same : SamePromise promises promises_then (mutator + 1)).
+      let none : promises_then.ref (mutator + 1) ≡ None = same.ref ∙ ref_of config graph asking mutator inside ∙ ap (promised_ref graph (mutator + 1)) is in
+      let one = promised_if_some config (full_from config memory) (plot config memory graph asking represents_by_copies) graph promises_then (is_after config memory graph asking represents_by_copies bare) mutator inside below in
       absurd (none-some one.0 (sym none ∙ one.1)))
-      (λ (new : IsPromisedAsAsked (packed_in config memory) q mutator). new)
-      (promise_after config (packed_in config memory) p mutator config.mutators)
+      (λ (new : IsPromisedAsAsked (packed_in config memory) promises_then mutator). new)
+      (promise_after config (packed_in config memory) promises mutator config.mutators)
 
   -- an object that was promised is promised still
   still_given : (mutator refs nums : ℕ) → mutator < config.mutators → asking mutator ≡ given refs nums → memory (Wait mutator) ≡ 0 → 1 < full_from config memory (Answer mutator)
   still_given mutator refs nums inside is idle =
-      some_if_promised config (full_from config memory) (plot config memory graph asking r) graph q (is_after config memory graph asking r bare) mutator (fresh graph (mutator + 1)) inside
+      some_if_promised config (full_from config memory) (plot config memory graph asking represents_by_copies) graph promises_then (is_after config memory graph asking represents_by_copies bare) mutator (fresh graph (mutator + 1)) inside
       ((same_promise mutator idle).ref ∙ ref_of config graph asking mutator inside ∙ ap (promised_ref graph (mutator + 1)) is)
 
   -- what words, pieces and counts say of a mutator then
-  asked_by : (mutator : ℕ) (x : Asking) → mutator < config.mutators → asking mutator ≡ x → IsAsked memory r.block graph.count mutator x
-      → IsAsked (full_from config memory) (plot_then config memory graph asking r bare) graph.count mutator (then_of x (full_from config memory (Answer mutator)))
+  asked_by : (mutator : ℕ) (x : Asking) → mutator < config.mutators → asking mutator ≡ x → IsAsked memory represents_by_copies.block graph.count mutator x
+      → IsAsked (full_from config memory) (plot_then config memory graph asking represents_by_copies bare) graph.count mutator (then_of x (full_from config memory (Answer mutator)))
   asked_by mutator nothing inside is asked =
       let answer = keeps_answer mutator inside asked.0 (omega (arith, asked.1)) ∙ asked.1 in
-      (full_wait config memory mutator, answer, no_promise config (full_from config memory) (plot config memory graph asking r) graph q (is_after config memory graph asking r bare) mutator inside (omega (arith, answer)))
+      (full_wait config memory mutator, answer, no_promise config (full_from config memory) (plot config memory graph asking represents_by_copies) graph promises_then (is_after config memory graph asking represents_by_copies bare) mutator inside (omega (arith, answer)))
   asked_by mutator refused inside is asked =
       let answer = keeps_answer mutator inside asked.0 (omega (arith, asked.1)) ∙ asked.1 in
-      (full_wait config memory mutator, answer, no_promise config (full_from config memory) (plot config memory graph asking r) graph q (is_after config memory graph asking r bare) mutator inside (omega (arith, answer)))
+      (full_wait config memory mutator, answer, no_promise config (full_from config memory) (plot config memory graph asking represents_by_copies) graph promises_then (is_after config memory graph asking represents_by_copies bare) mutator inside (omega (arith, answer)))
   asked_by mutator (given refs nums) inside is asked =
       let some = still_given mutator refs nums inside is asked.0 in
       let same = same_promise mutator asked.0 in (
         full_wait config memory mutator,
         some,
-        promise config (full_from config memory) (plot config memory graph asking r) graph q (is_after config memory graph asking r bare) mutator refs nums inside some
+        promise config (full_from config memory) (plot config memory graph asking represents_by_copies) graph promises_then (is_after config memory graph asking represents_by_copies bare) mutator refs nums inside some
             (same.refs ∙ refs_of config graph asking mutator ∙ ap promised_refs is) (same.nums ∙ nums_of config graph asking mutator ∙ ap promised_nums is)
             asked.2.few_refs asked.2.few_nums asked.2.few,
       )
@@ -101,40 +101,40 @@ module _ (config : Config) (memory : Word → ℕ) (graph : Graph) (asking : ℕ
       (λ (some : 1 < full_from config memory (Answer mutator)).
       let new = new_promise mutator refs nums inside is some in
       let word = packed_wait config memory mutator in
-      let more : q.refs (mutator + 1) ≡ refs = new.refs ∙ ap (λ k. refs_in (request_shape_in k)) word ∙ reads.refs_are in
-      let less : q.nums (mutator + 1) ≡ nums = new.nums ∙ ap (λ k. nums_in (request_shape_in k)) word ∙ reads.nums_are in
-      let there = promise config (full_from config memory) (plot config memory graph asking r) graph q (is_after config memory graph asking r bare) mutator refs nums inside some more less request.few_refs request.few_nums request.few in
-      subst (IsAsked (full_from config memory) (plot_then config memory graph asking r bare) graph.count mutator)
+      let more : promises_then.refs (mutator + 1) ≡ refs = new.refs ∙ ap (λ k. refs_in (request_shape_in k)) word ∙ reads.refs_are in
+      let less : promises_then.nums (mutator + 1) ≡ nums = new.nums ∙ ap (λ k. nums_in (request_shape_in k)) word ∙ reads.nums_are in
+      let there = promise config (full_from config memory) (plot config memory graph asking represents_by_copies) graph promises_then (is_after config memory graph asking represents_by_copies bare) mutator refs nums inside some more less request.few_refs request.few_nums request.few in
+      subst (IsAsked (full_from config memory) (plot_then config memory graph asking represents_by_copies bare) graph.count mutator)
       (sym (cond-false (full_from config memory (Answer mutator) == 1) refused (given refs nums) (ne_eqb (full_from config memory (Answer mutator)) 1 (λ e. omega (arith, e, some)))))
       (full_wait config memory mutator, some, there))
       (λ (one : full_from config memory (Answer mutator) ≡ 1).
-      subst (IsAsked (full_from config memory) (plot_then config memory graph asking r bare) graph.count mutator)
+      subst (IsAsked (full_from config memory) (plot_then config memory graph asking represents_by_copies bare) graph.count mutator)
       (sym (cond-true (full_from config memory (Answer mutator) == 1) refused (given refs nums) (eq-eqb (full_from config memory (Answer mutator)) 1 one)))
-      (full_wait config memory mutator, one, no_promise config (full_from config memory) (plot config memory graph asking r) graph q (is_after config memory graph asking r bare) mutator inside (omega (arith, one))))
-      (answer_found config memory graph asking r mutator inside (waits_for memory graph.count mutator refs nums request))
+      (full_wait config memory mutator, one, no_promise config (full_from config memory) (plot config memory graph asking represents_by_copies) graph promises_then (is_after config memory graph asking represents_by_copies bare) mutator inside (omega (arith, one))))
+      (answer_found config memory graph asking represents_by_copies mutator inside (waits_for memory graph.count mutator refs nums request))
 
   -- the words represent the graph again
-  pub represents_again : Represents config (full_from config memory) graph (asked_then config memory graph asking r)
+  pub represents_again : Represents config (full_from config memory) graph (asked_then config memory graph asking represents_by_copies)
   represents_again =
-      let facts = is_after config memory graph asking r bare in
+      let facts = is_after config memory graph asking represents_by_copies bare in
       record {
-        block = plot_then config memory graph asking r bare;
+        block = plot_then config memory graph asking represents_by_copies bare;
         ghost = no_ghost;
-        shared = shared_facts config (full_from config memory) (plot config memory graph asking r) graph q facts (full_from config memory Phase) (full_from config memory Cset) (full_from config memory Evac) (full_from config memory Claim) (λ s. full_from config memory (Current s))
-            (λ n. full_from config memory (Grey n)) (λ n. full_from config memory (Black n)) (λ t. full_from config memory (Count t)) (λ t k. full_from config memory (Buffer t k)) (λ q. full_from config memory (Tams q)) (λ q. full_from config memory (Limit q)) (full_from config memory Share)
+        shared = shared_facts config (full_from config memory) (plot config memory graph asking represents_by_copies) graph promises_then facts (full_from config memory Phase) (full_from config memory Cset) (full_from config memory Evac) (full_from config memory Claim) (λ seat. full_from config memory (Current seat))
+            (λ number. full_from config memory (Grey number)) (λ number. full_from config memory (Black number)) (λ mutator. full_from config memory (Count mutator)) (λ mutator entry. full_from config memory (Buffer mutator entry)) (λ region. full_from config memory (Tams region)) (λ region. full_from config memory (Limit region)) (full_from config memory Share)
             (full_phase config memory) (full_cset config memory) (full_evac config memory) (full_current config memory) (full_share config memory);
-        roots = roots_left config (full_from config memory) (plot config memory graph asking r) graph q facts;
-        usable = roots_usable config (full_from config memory) (plot config memory graph asking r) graph q facts (full_from config memory Cset) (full_from config memory Evac) (full_cset config memory);
-        none = λ a seat words is. no_room config (full_from config memory) (plot config memory graph asking r) graph q facts a seat (hand seat words) is refl;
-        uncarved = λ a seat words is. no_room config (full_from config memory) (plot config memory graph asking r) graph q facts a seat (carved seat words) is refl;
-        asked = λ t inside. asked_by t (asking t) inside refl (r.asked t inside);
+        roots = roots_left config (full_from config memory) (plot config memory graph asking represents_by_copies) graph promises_then facts;
+        usable = roots_usable config (full_from config memory) (plot config memory graph asking represents_by_copies) graph promises_then facts (full_from config memory Cset) (full_from config memory Evac) (full_cset config memory);
+        none = λ a seat words is. no_room config (full_from config memory) (plot config memory graph asking represents_by_copies) graph promises_then facts a seat (hand seat words) is refl;
+        uncarved = λ address seat words is. no_room config (full_from config memory) (plot config memory graph asking represents_by_copies) graph promises_then facts address seat (carved seat words) is refl;
+        asked = λ mutator inside. asked_by mutator (asking mutator) inside refl (represents_by_copies.asked mutator inside);
         promised_to = λ a seat words is.
-            let x = gone config (full_from config memory) (plot config memory graph asking r) graph q facts a seat words is in
+            let x = gone config (full_from config memory) (plot config memory graph asking represents_by_copies) graph promises_then facts a seat words is in
             let at = facts.stands.rooted.no_more_promised x.name.thread x.name x.named in
             omega (arith, x.seat_is, at.1, at.2);
-        heard = λ t refs nums inside is. absurd (nobody_asks (asking t) (full_from config memory (Answer t)) refs nums is);
+        heard = λ mutator refs nums inside is. absurd (nobody_asks (asking mutator) (full_from config memory (Answer mutator)) refs nums is);
         unmarking = record { records_none = λ t inside. refl; scans_none = λ seat inside. refl };
         uncopying = record { copies_none = λ seat inside. refl; works_none = λ seat inside. refl };
-        no_more = r.no_more;
-        no_more_pins = r.no_more_pins;
+        no_more = represents_by_copies.no_more;
+        no_more_pins = represents_by_copies.no_more_pins;
       }

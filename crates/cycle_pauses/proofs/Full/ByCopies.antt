@@ -7,19 +7,19 @@ use Rattle.heap_world.specs.Asking.{Asking}
 use Rattle.heap_world.specs.Represents.{Represents, RepresentsByCopies}
 
 abbrev pub by_copies : (config : Config) (memory : Word → ℕ) (graph : Graph) (asking : ℕ → Asking) → Represents config memory graph asking → RepresentsByCopies config memory graph asking
-by_copies config memory graph asking r = record {
-  block = r.block;
-  ghost = r.ghost;
-  shared = r.shared;
-  roots = r.roots;
+by_copies config memory graph asking represents = record {
+  block = represents.block;
+  ghost = represents.ghost;
+  shared = represents.shared;
+  roots = represents.roots;
   usable = tt;
-  none = r.none;
-  uncarved = r.uncarved;
-  asked = r.asked;
-  heard = r.heard;
-  promised_to = r.promised_to;
-  unmarking = r.unmarking;
-  uncopying = r.uncopying;
-  no_more = r.no_more;
-  no_more_pins = r.no_more_pins;
+  none = represents.none;
+  uncarved = represents.uncarved;
+  asked = represents.asked;
+  heard = represents.heard;
+  promised_to = represents.promised_to;
+  unmarking = represents.unmarking;
+  uncopying = represents.uncopying;
+  no_more = represents.no_more;
+  no_more_pins = represents.no_more_pins;
 }

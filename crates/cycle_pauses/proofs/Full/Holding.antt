@@ -38,11 +38,11 @@ pub record ReadsAs (memory : Word → ℕ) (mutator count refs nums : ℕ) : Typ
   pub refs_are : refs_in (asked_shape memory mutator) ≡ refs
   pub nums_are : nums_in (asked_shape memory mutator) ≡ nums
 
-pub request_reads : (memory : Word → ℕ) (count : ℕ → ℕ) (t refs nums : ℕ) → IsRequest memory count t refs nums → ReadsAs memory t (count (t + 1) + 1) refs nums
-request_reads memory count t refs nums request =
-    let shape : asked_shape memory t ≡ shape_word refs nums = ap request_shape_in request.wait_is ∙ reads_shape (count (t + 1) + 1) refs nums request.few_refs request.few_nums in
+pub request_reads : (memory : Word → ℕ) (count : ℕ → ℕ) (mutator refs nums : ℕ) → IsRequest memory count mutator refs nums → ReadsAs memory mutator (count (mutator + 1) + 1) refs nums
+request_reads memory count mutator refs nums request =
+    let shape : asked_shape memory mutator ≡ shape_word refs nums = ap request_shape_in request.wait_is ∙ reads_shape (count (mutator + 1) + 1) refs nums request.few_refs request.few_nums in
     record {
-      counted = ap request_count_in request.wait_is ∙ reads_count (count (t + 1) + 1) refs nums request.few_refs request.few_nums;
+      counted = ap request_count_in request.wait_is ∙ reads_count (count (mutator + 1) + 1) refs nums request.few_refs request.few_nums;
       shaped = shape;
       refs_are = ap refs_in shape ∙ refs_in-shape_word refs nums request.few_refs request.few_nums;
       nums_are = ap nums_in shape ∙ nums_in-shape_word refs nums request.few_refs request.few_nums;
@@ -74,20 +74,20 @@ pub record HasAsked (memory : Word → ℕ) (graph : Graph) (asking : ℕ → As
   pub is_asking : asking thread ≡ asks refs nums
   pub request : IsRequest memory graph.count thread refs nums
 
-module _ (config : Config) (memory : Word → ℕ) (graph : Graph) (asking : ℕ → Asking) (r : RepresentsByCopies config memory graph asking) where
-  abbrev p : Promises
-  p = promises_of config graph asking
+module _ (config : Config) (memory : Word → ℕ) (graph : Graph) (asking : ℕ → Asking) (represents_by_copies : RepresentsByCopies config memory graph asking) where
+  abbrev promises : Promises
+  promises = promises_of config graph asking
 
-  waiting_by : (mutator : ℕ) (x : Asking) → asking mutator ≡ x → IsAsked memory r.block graph.count mutator x → memory (Wait mutator) ≢ 0 → HasAsked memory graph asking mutator
+  waiting_by : (mutator : ℕ) (x : Asking) → asking mutator ≡ x → IsAsked memory represents_by_copies.block graph.count mutator x → memory (Wait mutator) ≢ 0 → HasAsked memory graph asking mutator
   waiting_by mutator nothing is asked waits = absurd (waits asked.0)
   waiting_by mutator (asks refs nums) is asked waits = record { refs = refs; nums = nums; is_asking = is; request = asked.0 }
   waiting_by mutator refused is asked waits = absurd (waits asked.0)
   waiting_by mutator (given refs nums) is asked waits = absurd (waits asked.0)
 
   pub who_waits : (mutator : ℕ) → mutator < config.mutators → memory (Wait mutator) ≢ 0 → HasAsked memory graph asking mutator
-  who_waits mutator inside waits = waiting_by mutator (asking mutator) refl (r.asked mutator inside) waits
+  who_waits mutator inside waits = waiting_by mutator (asking mutator) refl (represents_by_copies.asked mutator inside) waits
 
-  unanswered_by : (mutator : ℕ) (asking : Asking) → IsAsked memory r.block graph.count mutator asking → memory (Wait mutator) ≢ 0 → memory (Answer mutator) ≡ 0
+  unanswered_by : (mutator : ℕ) (asking : Asking) → IsAsked memory represents_by_copies.block graph.count mutator asking → memory (Wait mutator) ≢ 0 → memory (Answer mutator) ≡ 0
   unanswered_by mutator nothing asked waits = absurd (waits asked.0)
   unanswered_by mutator (asks refs nums) asked waits = asked.1
   unanswered_by mutator refused asked waits = absurd (waits asked.0)
@@ -102,108 +102,108 @@ module _ (config : Config) (memory : Word → ℕ) (graph : Graph) (asking : ℕ
   -- which is no object yet
   no_object : (name : Name) (found : Option Object) → graph.object name ≡ found → (t : ℕ) → name ≡ fresh graph (t + 1) → graph.object name ≡ None
   no_object name None is t next = is
-  no_object name (Some found) is t next = absurd (not_next config memory graph asking r name found t is next)
+  no_object name (Some found) is t next = absurd (not_next config memory graph asking represents_by_copies name found t is next)
 
-  pub are_asking : (mutator : ℕ) → mutator < config.mutators → memory (Wait mutator) ≢ 0 → IsAsking memory graph p mutator
+  pub are_asking : (mutator : ℕ) → mutator < config.mutators → memory (Wait mutator) ≢ 0 → IsAsking memory graph promises mutator
   are_asking mutator inside waits =
       let asked = who_waits mutator inside waits in
       let reads = request_reads memory graph.count mutator asked.refs asked.nums asked.request in
       let name : Name = asked_name memory mutator in
-      let nothing_yet : p.ref (mutator + 1) ≡ None = ref_of config graph asking mutator inside ∙ ap (promised_ref graph (mutator + 1)) asked.is_asking in
+      let nothing_yet : promises.ref (mutator + 1) ≡ None = ref_of config graph asking mutator inside ∙ ap (promised_ref graph (mutator + 1)) asked.is_asking in
       record {
         shape = reads.shaped ∙ sym (ap (λ k. shape_word k asked.nums) reads.refs_are) ∙ sym (ap (shape_word (refs_in (asked_shape memory mutator))) reads.nums_are);
         few_refs = omega (arith, reads.refs_are, asked.request.few_refs);
         few_nums = omega (arith, reads.nums_are, asked.request.few_nums);
-        unanswered = unanswered_by mutator (asking mutator) (r.asked mutator inside) waits;
+        unanswered = unanswered_by mutator (asking mutator) (represents_by_copies.asked mutator inside) waits;
         new =
-            cond-false (same_reference (p.ref (mutator + 1)) (Some name)) (Some (blank (p.refs (mutator + 1)) (p.nums (mutator + 1)))) (graph.object name) (ap (λ k. same_reference k (Some name)) nothing_yet)
+            cond-false (same_reference (promises.ref (mutator + 1)) (Some name)) (Some (blank (promises.refs (mutator + 1)) (promises.nums (mutator + 1)))) (graph.object name) (ap (λ k. same_reference k (Some name)) nothing_yet)
             ∙ no_object name (graph.object name) refl mutator (next_asked mutator inside waits);
       }
 
   -- what is promised is not reached
-  pub are_fresh : AreFresh config.mutators graph p
+  pub are_fresh : AreFresh config.mutators graph promises
   are_fresh = record {
     own = λ t n is. let one = promised_one config graph asking t n is in ap (λ (name : Name). name.thread) one.4;
     few = λ t n is. let one = promised_one config graph asking t n is in omega (arith, one.1, one.2);
     fresh = λ t n is reached.
         let one = promised_one config graph asking t n is in
-        let at = reached_at config memory graph asking r n reached in
-        let o = r.shared.contents.objects.each at.0 at.1 at.2 n at.3 in
-        not_next config memory graph asking r n o.0 one.0 o.1 (one.4 ∙ ap (fresh graph) one.2);
+        let at = reached_at config memory graph asking represents_by_copies n reached in
+        let o = represents_by_copies.shared.contents.objects.each at.0 at.1 at.2 n at.3 in
+        not_next config memory graph asking represents_by_copies n o.0 one.0 o.1 (one.4 ∙ ap (fresh graph) one.2);
   }
 
   -- where a header leads on, an old copy is
-  moved_by : (address refs nums : ℕ) (name : Name) → is_forwarded (memory (Heap address)) ≡ true → Kind config memory graph asking r address refs nums name → HasMoved config memory (live config memory graph asking r) address refs nums name
-  moved_by address refs nums name forwarded (is_current here) = absurd (true≢false (sym forwarded ∙ ap is_forwarded (header_of config memory graph asking r address here)))
+  moved_by : (address refs nums : ℕ) (name : Name) → is_forwarded (memory (Heap address)) ≡ true → Kind config memory graph asking represents_by_copies address refs nums name → HasMoved config memory (live config memory graph asking represents_by_copies) address refs nums name
+  moved_by address refs nums name forwarded (is_current here) = absurd (true≢false (sym forwarded ∙ ap is_forwarded (header_of config memory graph asking represents_by_copies address here)))
   moved_by address refs nums name forwarded (is_old to was) =
       let there = led_to memory address to was.header in
       record {
         in_set = was.inside;
-        copy = ap (live config memory graph asking r) there ∙ was.same;
+        copy = ap (live config memory graph asking represents_by_copies) there ∙ was.same;
         outside = not_in (memory Cset) (region_with config (now_in memory address)) (λ inside. was.outside (subst (λ k. IsCollected config (memory Cset) k) there inside));
-        current = ap (λ k. is_forwarded (memory (Heap k))) there ∙ ap is_forwarded (header_of config memory graph asking r to was.copy);
+        current = ap (λ address. is_forwarded (memory (Heap address))) there ∙ ap is_forwarded (header_of config memory graph asking represents_by_copies to was.copy);
       }
 
   -- so the image holds the graph
-  pub holds_by : HoldsBy config memory (live config memory graph asking r) r.ghost.owner p graph
+  pub holds_by : HoldsBy config memory (live config memory graph asking represents_by_copies) represents_by_copies.ghost.owner promises graph
   holds_by = record {
-    objects = live_holds config memory graph asking r;
-    rooted = live_rooted config memory graph asking r;
-    moved = λ a refs nums name is forwarded. moved_by a refs nums name forwarded (kind_at config memory graph asking r a refs nums name is);
-    filled = live_filled config memory graph asking r;
+    objects = live_holds config memory graph asking represents_by_copies;
+    rooted = live_rooted config memory graph asking represents_by_copies;
+    moved = λ address refs nums name is forwarded. moved_by address refs nums name forwarded (kind_at config memory graph asking represents_by_copies address refs nums name is);
+    filled = live_filled config memory graph asking represents_by_copies;
     pieces = record {
-      named = old_thing config memory graph asking r;
-      unpromised = live_unpromised config memory graph asking r;
-      unheld = live_unheld config memory graph asking r;
-      uncarved = live_uncarved config memory graph asking r;
-      some = live_some config memory graph asking r;
+      named = old_thing config memory graph asking represents_by_copies;
+      unpromised = live_unpromised config memory graph asking represents_by_copies;
+      unheld = live_unheld config memory graph asking represents_by_copies;
+      uncarved = live_uncarved config memory graph asking represents_by_copies;
+      some = live_some config memory graph asking represents_by_copies;
     };
-    free_word = r.shared.owned.free_word;
-    shared_one = r.shared.owned.shared_one;
-    buffers = live_buffers config memory graph asking r;
-    asking = λ t from inside waits. are_asking t inside waits;
+    free_word = represents_by_copies.shared.owned.free_word;
+    shared_one = represents_by_copies.shared.owned.shared_one;
+    buffers = live_buffers config memory graph asking represents_by_copies;
+    asking = λ mutator from inside waits. are_asking mutator inside waits;
     next = record {
-      asked = λ t inside waits. let asked = who_waits t inside waits in (request_reads memory graph.count t asked.refs asked.nums asked.request).counted;
+      asked = λ mutator inside waits. let asked = who_waits mutator inside waits in (request_reads memory graph.count mutator asked.refs asked.nums asked.request).counted;
       promised = λ t name is. (promised_one config graph asking t name is).4;
-      given = r.shared.contents.given;
+      given = represents_by_copies.shared.contents.given;
     };
     unreached = are_fresh;
   }
 
   pub holds_some : HoldsSome config memory
-  holds_some = ∣ (graph, (live config memory graph asking r, r.ghost.owner, p, holds_by)) ∣₁
+  holds_some = ∣ (graph, (live config memory graph asking represents_by_copies, represents_by_copies.ghost.owner, promises, holds_by)) ∣₁
 
   -- each piece says how many words it has
-  were_sized : AreSized memory r.block
-  were_sized = pieces_sized config memory r.block graph.object r.shared.contents.objects r.shared.unwritten r.shared.evacuated.moved
+  were_sized : AreSized memory represents_by_copies.block
+  were_sized = pieces_sized config memory represents_by_copies.block graph.object represents_by_copies.shared.contents.objects represents_by_copies.shared.unwritten represents_by_copies.shared.evacuated.moved
 
   -- what is loose is so in the larger graph
-  not_loose : (piece : Block) → is_loose (as_object graph asking r.block piece) ≡ false → is_loose piece ≡ false
+  not_loose : (piece : Block) → is_loose (as_object graph asking represents_by_copies.block piece) ≡ false → is_loose piece ≡ false
   not_loose (thing name refs nums) fixed = refl
   not_loose (moved name refs nums to) fixed = refl
   not_loose (spent words to) fixed = refl
   not_loose (promised seat words) fixed = refl
   not_loose _ fixed = fixed
 
-  pub are_sized : AreSized memory (live config memory graph asking r)
+  pub are_sized : AreSized memory (live config memory graph asking represents_by_copies)
   are_sized = record {
     objects = λ a b is fixed.
-        let was = mapped_from (as_object graph asking r.block) r.block a b is in
-        were_sized.objects a was.0 was.1 (not_loose was.0 (ap is_loose was.2 ∙ fixed)) ∙ sym (same_words config memory graph asking r a was.0 was.1) ∙ ap words_of was.2;
-    headers = λ a b is fixed. let was = mapped_from (as_object graph asking r.block) r.block a b is in were_sized.headers a was.0 was.1 (not_loose was.0 (ap is_loose was.2 ∙ fixed));
-    fillers = λ a words is. were_sized.fillers a words (live_filler config memory graph asking r a words is);
+        let was = mapped_from (as_object graph asking represents_by_copies.block) represents_by_copies.block a b is in
+        were_sized.objects a was.0 was.1 (not_loose was.0 (ap is_loose was.2 ∙ fixed)) ∙ sym (same_words config memory graph asking represents_by_copies a was.0 was.1) ∙ ap words_of was.2;
+    headers = λ address piece is fixed. let was = mapped_from (as_object graph asking represents_by_copies.block) represents_by_copies.block address piece is in were_sized.headers address was.0 was.1 (not_loose was.0 (ap is_loose was.2 ∙ fixed));
+    fillers = λ a words is. were_sized.fillers a words (live_filler config memory graph asking represents_by_copies a words is);
   }
 
   pub holds_sized : HoldsSized config memory
-  holds_sized = ∣ (graph, live config memory graph asking r, r.ghost.owner, p, holds_by, are_sized) ∣₁
+  holds_sized = ∣ (graph, live config memory graph asking represents_by_copies, represents_by_copies.ghost.owner, promises, holds_by, are_sized) ∣₁
 
   -- what is marked in the collection set are objects
-  pub are_marked : AreMarkedObjects config memory (live config memory graph asking r)
+  pub are_marked : AreMarkedObjects config memory (live config memory graph asking represents_by_copies)
   are_marked a collected black = ⊎_elim
       (λ (low : memory Phase < 2).
-      let none : bit_at (memory Cset) (region_with config a) ≡ 0 = ap (λ k. bit_at k (region_with config a)) (r.shared.phased.cset_is low) ∙ bit_at-zero (region_with config a) in
+      let none : bit_at (memory Cset) (region_with config a) ≡ 0 = ap (λ k. bit_at k (region_with config a)) (represents_by_copies.shared.phased.cset_is low) ∙ bit_at-zero (region_with config a) in
       absurd (omega (arith, none, set)))
-      (λ (high : 2 ≤ memory Phase). of_copy ((r.shared.evacuated.kept high).only a above mark set))
+      (λ (high : 2 ≤ memory Phase). of_copy ((represents_by_copies.shared.evacuated.kept high).only a above mark set))
       (cases_lt (memory Phase) 2)
     where
       parts : (nat_le config.region_words a ≡ true) × ((bit_at (memory Cset) (region_with config a) == 1) ≡ true)
@@ -215,58 +215,58 @@ module _ (config : Config) (memory : Word → ℕ) (graph : Graph) (asking : ℕ
       set : IsCollected config (memory Cset) a
       set = eqb-true (bit_at (memory Cset) (region_with config a)) 1 parts.1
 
-      mark : HasMark config (λ n. memory (Black n)) a
+      mark : HasMark config (λ number. memory (Black number)) a
       mark = eqb-true (bit_at (memory (Black (mark_word config a))) (mark_bit config a)) 1 (and_parts (nat_le config.region_words a) (bit_at (memory (Black (mark_word config a))) (mark_bit config a) == 1) black).1
 
       -- each of them is an object of the larger graph
-      object_there : (piece : Block) → r.block a ≡ Some piece → (name : Name) × (refs : ℕ) × (nums : ℕ) × (as_object graph asking r.block piece ≡ thing name refs nums) → HasObject (live config memory graph asking r) a
-      object_there piece is one = (thing one.0 one.1 one.2, live_at config memory graph asking r a piece is ∙ ap Some one.3, refl)
+      object_there : (piece : Block) → represents_by_copies.block a ≡ Some piece → (name : Name) × (refs : ℕ) × (nums : ℕ) × (as_object graph asking represents_by_copies.block piece ≡ thing name refs nums) → HasObject (live config memory graph asking represents_by_copies) a
+      object_there piece is one = (thing one.0 one.1 one.2, live_at config memory graph asking represents_by_copies a piece is ∙ ap Some one.3, refl)
 
-      of_copy : HasCopy r.block a → HasObject (live config memory graph asking r) a
+      of_copy : HasCopy represents_by_copies.block a → HasObject (live config memory graph asking represents_by_copies) a
       of_copy (HasCopy.copy body is) = ⊎_elim
-          (λ (now : r.block a ≡ Some (thing body.name body.refs body.nums)). object_there (thing body.name body.refs body.nums) now (body.name, body.refs, body.nums, refl))
-          (λ (old : (to : ℕ) × (r.block a ≡ Some (moved body.name body.refs body.nums to))).
+          (λ (now : represents_by_copies.block a ≡ Some (thing body.name body.refs body.nums)). object_there (thing body.name body.refs body.nums) now (body.name, body.refs, body.nums, refl))
+          (λ (old : (to : ℕ) × (represents_by_copies.block a ≡ Some (moved body.name body.refs body.nums to))).
           object_there (moved body.name body.refs body.nums old.0) old.1 (body.name, body.refs, body.nums, refl))
-          (copy_cases (r.block a) body is)
-      of_copy (HasCopy.spent_copy words to is) = ⊎_elim (object_there (spent words to) is) (λ fills. absurd fills) (pieces_are config memory graph asking r a (spent words to) is)
+          (copy_cases (represents_by_copies.block a) body is)
+      of_copy (HasCopy.spent_copy words to is) = ⊎_elim (object_there (spent words to) is) (λ fills. absurd fills) (pieces_are config memory graph asking represents_by_copies a (spent words to) is)
 
   -- a region in the set means that one of the phases of evacuation and updating runs
   high_phase : memory Cset ≢ 0 → 2 ≤ memory Phase
-  high_phase some = ⊎_elim (λ (low : memory Phase < 2). absurd (some (r.shared.phased.cset_is low))) (λ (high : 2 ≤ memory Phase). high) (cases_lt (memory Phase) 2)
+  high_phase positive = ⊎_elim (λ (low : memory Phase < 2). absurd (positive (represents_by_copies.shared.phased.cset_is low))) (λ (high : 2 ≤ memory Phase). high) (cases_lt (memory Phase) 2)
 
   set_member : (region : ℕ) → IsIn (memory Cset) region → memory Cset ≢ 0
   set_member region member none = (let bit : bit_at (memory Cset) region ≡ 0 = ap (λ k. bit_at k region) none ∙ bit_at-zero region in omega (arith, bit, member))
 
   -- what can be reached is marked, or new
-  kept_of : memory Cset ≢ 0 → (address : ℕ) → IsMarkable r.block address → IsKept config memory address
-  kept_of some address markable = ⊎_elim
-      (λ (mark : HasMark config (λ n. memory (Black n)) address).
+  kept_of : memory Cset ≢ 0 → (address : ℕ) → IsMarkable represents_by_copies.block address → IsKept config memory address
+  kept_of positive address markable = ⊎_elim
+      (λ (mark : HasMark config (λ number. memory (Black number)) address).
       inl (and_from (nat_le config.region_words address) (bit_at (memory (Black (mark_word config address))) (mark_bit config address) == 1) (le-leb config.region_words address (lies markable))
       (eq-eqb (bit_at (memory (Black (mark_word config address))) (mark_bit config address)) 1 mark)))
-      (λ (young : IsYoung config (λ q. memory (Tams q)) address). inr (omega (arith, young)))
-      ((r.shared.evacuated.kept (high_phase some)).objects address markable)
+      (λ (young : IsYoung config (λ region. memory (Tams region)) address). inr (omega (arith, young)))
+      ((represents_by_copies.shared.evacuated.kept (high_phase positive)).objects address markable)
     where
-      lies : IsMarkable r.block address → config.region_words ≤ address
-      lies (IsMarkable.object name refs nums is) = (piece_inside config (λ q. memory (Top q)) r.block r.shared.parsable.plotted address (thing name refs nums) is).0
-      lies (IsMarkable.to_come seat words is) = (piece_inside config (λ q. memory (Top q)) r.block r.shared.parsable.plotted address (promised seat words) is).0
+      lies : IsMarkable represents_by_copies.block address → config.region_words ≤ address
+      lies (IsMarkable.object name refs nums is) = (piece_inside config (λ region. memory (Top region)) represents_by_copies.block represents_by_copies.shared.parsable.plotted address (thing name refs nums) is).0
+      lies (IsMarkable.to_come seat words is) = (piece_inside config (λ region. memory (Top region)) represents_by_copies.block represents_by_copies.shared.parsable.plotted address (promised seat words) is).0
 
   -- and once objects are not evacuated any more lies outside of the set
-  outside_of : memory Phase ≢ 2 → (address : ℕ) → IsMarkable r.block address → IsCollected config (memory Cset) address → ⊥
+  outside_of : memory Phase ≢ 2 → (address : ℕ) → IsMarkable represents_by_copies.block address → IsCollected config (memory Cset) address → ⊥
   outside_of off address (IsMarkable.object name refs nums is) member =
       let high = high_phase (set_member (region_with config address) member) in
-      let most = r.shared.phased.phase_is in
-      (r.shared.updated (omega (arith, off, high, most))).outside address refs nums name is member
-  outside_of off address (IsMarkable.to_come seat words is) member = r.shared.evacuated.aside.no_promises address seat words is member
+      let most = represents_by_copies.shared.phased.phase_is in
+      (represents_by_copies.shared.updated (omega (arith, off, high, most))).outside address refs nums name is member
+  outside_of off address (IsMarkable.to_come seat words is) member = represents_by_copies.shared.evacuated.aside.no_promises address seat words is member
 
-  pub while_collecting : WhileCollecting config memory (live config memory graph asking r)
+  pub while_collecting : WhileCollecting config memory (live config memory graph asking represents_by_copies)
   while_collecting = record {
     marked = are_marked;
-    reachable = λ some a reached. kept_of some a (held_current config memory graph asking r a reached);
-    no_new = r.shared.evacuated.aside.no_new;
-    floors = λ some. (r.shared.evacuated.kept (high_phase some)).floors;
-    young = λ some a seat x is room. (r.shared.evacuated.kept (high_phase some)).young a seat x (live_room config memory graph asking r a seat x is room) room;
-    unseated = λ seat q ends member. r.shared.owned.outside seat ends.0 (subst (IsIn (memory Cset)) (sym (regions_tile.of_no_other config q (end_in (memory (Current seat)) - 1) ends.1)) member);
-    outside = λ off a reached member. absurd (outside_of off a (held_current config memory graph asking r a reached) member);
+    reachable = λ some address reached. kept_of some address (held_current config memory graph asking represents_by_copies address reached);
+    no_new = represents_by_copies.shared.evacuated.aside.no_new;
+    floors = λ some. (represents_by_copies.shared.evacuated.kept (high_phase some)).floors;
+    young = λ some a seat x is room. (represents_by_copies.shared.evacuated.kept (high_phase some)).young a seat x (live_room config memory graph asking represents_by_copies a seat x is room) room;
+    unseated = λ seat region ends member. represents_by_copies.shared.owned.outside seat ends.0 (subst (IsIn (memory Cset)) (sym (regions_tile.of_no_other config region (end_in (memory (Current seat)) - 1) ends.1)) member);
+    outside = λ off address reached member. absurd (outside_of off address (held_current config memory graph asking represents_by_copies address reached) member);
   }
 
 pub representing_is_sized : RepresentingIsSized

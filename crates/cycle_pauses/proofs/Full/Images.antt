@@ -41,7 +41,7 @@ image_length config image = image_of_length config (full config (image_view conf
 
 -- a word of an image, and one before it
 pub inside_word : (config : Config) (image : List ℕ) (k : ℕ) → image_start config ≤ k → get_or (replicate (image_start config) 0 ++ image) k 0 ≡ get_or image (k - image_start config) 0
-inside_word config image k from = let none : ℕ = 0 in get_or-append_right (replicate (image_start config) none) image (image_start config) k 0 (length-replicate (image_start config) none) from
+inside_word config image k at_most = let none : ℕ = 0 in get_or-append_right (replicate (image_start config) none) image (image_start config) k 0 (length-replicate (image_start config) none) at_most
 
 pub before_word : (config : Config) (image : List ℕ) (k : ℕ) → k < image_start config → get_or (replicate (image_start config) 0 ++ image) k 0 ≡ 0
 before_word config image k below =
@@ -50,10 +50,10 @@ before_word config image k below =
 
 -- what settling and letting go may write is of the image
 pub of_image : (word : Word) → is_image word ≡ false → IsOfBuffers word → ⊥
-of_image (Heap a) other of = true≢false other
-of_image (Top r) other of = true≢false other
-of_image (Current seat) other of = true≢false other
-of_image _ other of = of
+of_image (Heap address) other of_buffers = true≢false other
+of_image (Top region) other of_buffers = true≢false other
+of_image (Current seat) other of_buffers = true≢false other
+of_image _ other of_buffers = of_buffers
 
 -- a full collection leaves the words before the image
 full_from_before : (config : Config) (memory : Word → ℕ) (word : Word) → is_image word ≡ false → full_from config memory word ≡ memory word
@@ -61,7 +61,7 @@ unfolding packed made_in refused
 full_from_before config memory Pause other = full_still config Pause (λ w t r. refl) memory (λ w. refl)
 full_from_before config memory Left other = full_still config Left (λ w t r. refl) memory (λ w. refl)
 full_from_before config memory End other = full_still config End (λ w t r. refl) memory (λ w. refl)
-full_from_before config memory (State s) other = full_still config (State s) (λ w t r. refl) memory (λ w. refl)
+full_from_before config memory (State seat) other = full_still config (State seat) (λ w t r. refl) memory (λ w. refl)
 full_from_before config memory _ other = absurd (true≢false other)
 
 pub full_before : (config : Config) (memory : Word → ℕ) (word : Word) → is_image word ≡ false → full config memory word ≡ memory word
@@ -108,9 +108,9 @@ full_from_zero config memory graph holds nothing =
     let block = holds.0 in
     let p = holds.2 in
     let objects = holds.3.objects in
-    let can = can_pack config (λ r. memory (Top r)) (λ a. memory (Heap a)) block (now_in memory) (IsAmong (held_words config memory)) (with_promised graph p) objects (kept_in config memory) (walk_keeps config memory block (with_promised graph p) objects) in
-    full_outside config memory (lie_apart config (λ r. memory (Top r)) (λ a. memory (Heap a)) block (with_promised graph p).object (now_in memory) (kept_in config memory) can)
-    (λ a some. (kept_inside config (λ r. memory (Top r)) (λ a. memory (Heap a)) block (with_promised graph p).object (now_in memory) (kept_in config memory) can a some).1) nothing
+    let can = can_pack config (λ region. memory (Top region)) (λ address. memory (Heap address)) block (now_in memory) (IsAmong (held_words config memory)) (with_promised graph p) objects (kept_in config memory) (walk_keeps config memory block (with_promised graph p) objects) in
+    full_outside config memory (lie_apart config (λ region. memory (Top region)) (λ address. memory (Heap address)) block (with_promised graph p).object (now_in memory) (kept_in config memory) can)
+    (λ a some. (kept_inside config (λ region. memory (Top region)) (λ address. memory (Heap address)) block (with_promised graph p).object (now_in memory) (kept_in config memory) can a some).1) nothing
 
 -- .. also once buffers were let go.
 pub no_seats : (config : Config) (memory : Word → ℕ) → IsZeroOutside config memory → HasNoMoreSeats config memory

@@ -17,7 +17,7 @@ use Rattle.image_graph.proofs.LettingGo as letting_go
 use Rattle.cycle_pauses.proofs.Full.Outside.{IsZeroOutside}
 
 -- a word of the table is written
-write_outside : (config : Config) (memory : Word → ℕ) (at : Word) (value : ℕ) → is_word config at ≡ true → IsZeroOutside config memory → IsZeroOutside config (write memory at value)
+write_outside : (config : Config) (memory : Word → ℕ) (word : Word) (value : ℕ) → is_word config word ≡ true → IsZeroOutside config memory → IsZeroOutside config (write memory word value)
 write_outside config memory at value is nothing word other = ⊎_elim
     (λ (same : same_word at word ≡ true). absurd (true≢false (sym is ∙ ap (is_word config) (same_word_true at word same) ∙ other)))
     (λ (differs : same_word at word ≡ false). cond-false (same_word at word) value (memory word) differs ∙ nothing word other)
@@ -31,14 +31,14 @@ either_outside config false memory other_memory one other = other refl
 module _ (config : Config) (memory : Word → ℕ) (word : ℕ) (nothing : IsZeroOutside config memory) where
   -- the free words of a buffer are words of the heap
   heap_word : IsInside config word → next_in word < end_in word → is_word config (Heap (next_in word)) ≡ true
-  heap_word inside more =
+  heap_word inside below =
       let from = inside.from_base in
       let to = inside.to_end in
       let within = inside.region in
       let low : 1 * config.region_words ≤ (buffer_region config word + 1) * config.region_words = mul-le-mul_right config.region_words (omega arith) in
       let high : (buffer_region config word + 1 + 1) * config.region_words ≤ (config.regions + 1) * config.region_words = mul-le-mul_right config.region_words (omega (arith, within)) in
       and_from (nat_le config.region_words (next_in word)) (nat_lt (next_in word) ((config.regions + 1) * config.region_words))
-      (le-leb config.region_words (next_in word) (omega (arith, low, from))) (lt-ltb (next_in word) ((config.regions + 1) * config.region_words) (omega (arith, high, to, more)))
+      (le-leb config.region_words (next_in word) (omega (arith, low, from))) (lt-ltb (next_in word) ((config.regions + 1) * config.region_words) (omega (arith, high, to, below)))
 
   filled_outside : IsInside config word → IsZeroOutside config (filled_over memory word)
   filled_outside inside =
@@ -93,17 +93,17 @@ module _ (config : Config) (memory : Word → ℕ) (nothing : IsZeroOutside conf
 
   settled_turns : (n : ℕ) → n ≤ seat_count config.mutators config.helpers → IsZeroOutside config (settled_below config memory n)
   unfolding settled_below
-  settled_turns zero few = nothing
-  settled_turns (suc n) few =
-      let is = settled_later n n (omega arith) in
-      settled_turn config (settled_below config memory n) n (settled_turns n (omega (arith, few))) (omega (arith, few)) (λ some. subst (IsInside config) (sym is) (inside n (omega (arith, few)) (λ none. some (is ∙ none))))
+  settled_turns zero at_most = nothing
+  settled_turns (suc seat) at_most =
+      let is = settled_later seat seat (omega arith) in
+      settled_turn config (settled_below config memory seat) seat (settled_turns seat (omega (arith, at_most))) (omega (arith, at_most)) (λ some. subst (IsInside config) (sym is) (inside seat (omega (arith, at_most)) (λ none. some (is ∙ none))))
 
   let_go_turns : (n : ℕ) → n ≤ seat_count config.mutators config.helpers → IsZeroOutside config (let_go_below config memory n)
   unfolding let_go_below
-  let_go_turns zero few = nothing
-  let_go_turns (suc n) few =
-      let is = let_go_later n n (omega arith) in
-      let_go_turn config (let_go_below config memory n) n (let_go_turns n (omega (arith, few))) (omega (arith, few)) (λ some. subst (IsInside config) (sym is) (inside n (omega (arith, few)) (λ none. some (is ∙ none))))
+  let_go_turns zero at_most = nothing
+  let_go_turns (suc seat) at_most =
+      let is = let_go_later seat seat (omega arith) in
+      let_go_turn config (let_go_below config memory seat) seat (let_go_turns seat (omega (arith, at_most))) (omega (arith, at_most)) (λ some. subst (IsInside config) (sym is) (inside seat (omega (arith, at_most)) (λ none. some (is ∙ none))))
 
   pub settled_outside : IsZeroOutside config (buffers_settled config memory)
   settled_outside = settled_turns (seat_count config.mutators config.helpers) (omega arith)

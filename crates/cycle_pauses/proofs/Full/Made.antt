@@ -4,6 +4,7 @@ use Rattle.std.proofs.lemmas.Bool.{cond-true, cases_lt}
 use Rattle.std.proofs.lemmas.Bool.Decides.{nat_tests}
 use Rattle.std.proofs.lemmas.List.{length-replicate}
 use Rattle.std.proofs.lemmas.Option.{none-some, same_Some}
+use Rattle.shen_graph.proofs.Lists.{replicate_at}
 use Rattle.heap_words.specs.declared.config.Config.{Config}
 use Rattle.heap_words.specs.Words.{Word, Answer, Heap}
 use Rattle.heap_words.specs.Encoding.{name_code, fresh_word}
@@ -16,7 +17,7 @@ use Rattle.heap_world.specs.Asking.{HasNoPromise, IsPromise}
 use Rattle.image_graph.proofs.Named.{thing_at}
 use Rattle.image_graph.specs.Promised.{Promises, with_promised}
 use Rattle.cycle_pauses.proofs.Full.Mapped.{mapped_at}
-use Rattle.cycle_pauses.proofs.Full.After.{is_promised, as_promised, IsAfter, IsPromisedThing, replicate_at, taken, gone}
+use Rattle.cycle_pauses.proofs.Full.After.{is_promised, as_promised, IsAfter, IsPromisedThing, taken, gone}
 
 -- the words of a blank object are those of a new one
 blank_words : (heap : ℕ → ℕ) (block : Plot) (address t made refs nums : ℕ) (name : Name) → name ≡ record { thread = t + 1; count = made + 1 } → IsThing heap block address refs nums name (blank refs nums)
@@ -51,11 +52,11 @@ module _ (config : Config) (memory : Word → ℕ) (block : Plot) (graph : Graph
   heap address = memory (Heap address)
 
   -- the thread of what is promised to a mutator
-  ref_of_thread : (mutator a words : ℕ) (x : IsPromisedThing block promises a mutator words) → (x.name.thread ≡ mutator + 1) × (promises.ref (mutator + 1) ≡ Some x.name)
-  ref_of_thread mutator a words x =
-      let at = is_after.stands.rooted.no_more_promised x.name.thread x.name x.named in
-      let thread : x.name.thread ≡ mutator + 1 = omega (arith, at.2, x.seat_is) in
-      (thread, ap promises.ref (sym thread) ∙ x.named)
+  ref_of_thread : (mutator address words : ℕ) (promised_thing : IsPromisedThing block promises address mutator words) → (promised_thing.name.thread ≡ mutator + 1) × (promises.ref (mutator + 1) ≡ Some promised_thing.name)
+  ref_of_thread mutator address words promised_thing =
+      let at = is_after.stands.rooted.no_more_promised promised_thing.name.thread promised_thing.name promised_thing.named in
+      let thread : promised_thing.name.thread ≡ mutator + 1 = omega (arith, at.2, promised_thing.seat_is) in
+      (thread, ap promises.ref (sym thread) ∙ promised_thing.named)
 
   -- an answer that is an address is that of something promised, and the other way round
   pub promised_if_some : (mutator : ℕ) → mutator < config.mutators → 1 < memory (Answer mutator) → (name : Name) × (promises.ref (mutator + 1) ≡ Some name)
@@ -113,7 +114,7 @@ module _ (config : Config) (memory : Word → ℕ) (block : Plot) (graph : Graph
         let blank_number : ℕ = 0 in
         let long : length o.0.refs ≡ refs = ap (λ (object : Object). length object.refs) same ∙ length-replicate refs null in
         let wide : length o.0.nums ≡ nums = ap (λ (object : Object). length object.nums) same ∙ length-replicate nums blank_number in
-        was.2 ∙ ap (λ k. Some (thing n k was.1)) (sym o.2.refs_are ∙ long) ∙ ap (λ k. Some (thing n refs k)) (sym o.2.nums_are ∙ wide)
+        was.2 ∙ ap (λ refs. Some (thing n refs was.1)) (sym o.2.refs_are ∙ long) ∙ ap (λ nums. Some (thing n refs nums)) (sym o.2.nums_are ∙ wide)
 
     words_there : IsThing heap block a refs nums n (blank refs nums)
     words_there =
@@ -127,12 +128,12 @@ module _ (config : Config) (memory : Word → ℕ) (block : Plot) (graph : Graph
           here =
               mapped_at (as_promised promises) block a (thing n refs nums) there
               ∙ ap Some (cond-true (is_promised promises n) (promised (mutator + 1 - 1) (3 + refs + nums)) (thing n refs nums) is_one)
-              ∙ ap (λ k. Some (promised k (3 + refs + nums))) back;
+              ∙ ap (λ seat. Some (promised seat (3 + refs + nums))) back;
           words = blank_words heap block a mutator (graph.count (mutator + 1)) refs nums n refl words_there;
           only = λ b more is.
               let x = gone config memory block graph promises is_after b mutator more is in
               let same : x.name ≡ n = same_Some x.name n (sym (ref_of_thread mutator b more x).1 ∙ ref) in
-              is_after.stands.objects.once b a x.refs x.nums refs nums n (x.here ∙ ap (λ k. Some (thing k x.refs x.nums)) same) there;
+              is_after.stands.objects.once b a x.refs x.nums refs nums n (x.here ∙ ap (λ name. Some (thing name x.refs x.nums)) same) there;
           few_refs = few_refs;
           few_nums = few_nums;
           few = few;

@@ -24,7 +24,7 @@ module _ (config : Config) (top : ℕ → ℕ) (block : Plot) (f : Block → Blo
   pub plotted_alike : IsPlotted config top block → IsPlotted config top (mapped f block)
   plotted_alike plotted = record {
     tops = plotted.tops;
-    in_use = λ a b is. let was = mapped_from f block a b is in subst (λ w. IsInUse config top a w) (size a b was) (plotted.in_use a was.0 was.1);
+    in_use = λ address piece is. let was = mapped_from f block address piece is in subst (λ words. IsInUse config top address words) (size address piece was) (plotted.in_use address was.0 was.1);
     apart = λ a b x y is_x is_y before.
         let was_x = mapped_from f block a x is_x in
         let was_y = mapped_from f block b y is_y in

@@ -20,7 +20,7 @@ use Rattle.image_graph.specs.Plot.{heap_end, packed_top}
 use Rattle.image_graph.specs.Pinned.{is_row_pinned, object_of, is_in_use, begins}
 use Rattle.image_graph.specs.Full.{packed_in, now_in, kept_in, place_in, is_unkept, moved_heap, packed, made_in, served_in, room_for, served, refused, full_from}
 use Rattle.image_graph.proofs.Made.{outside_fresh}
-use Rattle.image_graph.proofs.Served.{served_first, turn_idle, turn_waits}
+use Rattle.image_graph.proofs.TurnWords.{served_first, turn_idle, turn_waits}
 
 -- all that is no word of the table reads 0
 abbrev pub IsZeroOutside : Config → (Word → ℕ) → Type 0
@@ -71,105 +71,105 @@ module _ (config : Config) (memory : Word → ℕ) (shut : ℕ → Bool) (kept r
   -- nothing is slid there
   slid_outside : (before : ℕ → ℕ) (e x : ℕ) → (x < config.region_words) ⊎ (heap_end config ≤ x) → slid place kept renew before e x ≡ before x
   slid_outside before zero x out = slid_none place kept renew before x
-  slid_outside before (suc e) x out =
-      let rest = slid_outside before e x out in
-      let next = slid_next place kept renew before e x in
+  slid_outside before (suc address) x out =
+      let rest = slid_outside before address x out in
+      let next = slid_next place kept renew before address x in
       ⊎_elim
-      (λ (here : (is_covered place kept e x ≡ true) × (place e ≤ x) × (x < place e + kept e)).
-      let some : 0 < kept e = omega (arith, here.1, here.2) in
-      let down = moves_down config.region_words shut kept lie e some in
+      (λ (here : (is_covered place kept address x ≡ true) × (place address ≤ x) × (x < place address + kept address)).
+      let some : 0 < kept address = omega (arith, here.1, here.2) in
+      let down = moves_down config.region_words shut kept lie address some in
       absurd (⊎_elim
-      (λ (low : x < config.region_words). omega (arith, low, here.1, stays_above config.region_words shut kept lie e some))
-      (λ (past : heap_end config ≤ x). omega (arith, past, here.2, down, inside e some))
+      (λ (low : x < config.region_words). omega (arith, low, here.1, stays_above config.region_words shut kept lie address some))
+      (λ (past : heap_end config ≤ x). omega (arith, past, here.2, down, inside address some))
       out))
-      (λ (other : (is_covered place kept e x ≡ false) × ((x < place e) ⊎ (place e + kept e ≤ x))).
-      next ∙ cond-false (is_covered place kept e x) (slid_word renew before e (x - place e)) (slid place kept renew before e x) other.0 ∙ rest)
-      (covered_here place kept e x)
+      (λ (other : (is_covered place kept address x ≡ false) × ((x < place address) ⊎ (place address + kept address ≤ x))).
+      next ∙ cond-false (is_covered place kept address x) (slid_word renew before address (x - place address)) (slid place kept renew before address x) other.0 ∙ rest)
+      (covered_here place kept address x)
 
   -- no region that is none has a top
-  top_outside : (r : ℕ) → config.regions ≤ r → packed_top config shut kept r ≡ 0
-  top_outside r past = sum_of_none (words_in config.region_words shut kept r) (heap_end config) (λ a below. ⊎_elim
-      (λ (none : words_in config.region_words shut kept r a ≡ 0). none)
-      (λ (there : (0 < open_kept config.region_words shut kept a) × (place a / config.region_words ≡ r + 1)).
+  top_outside : (region : ℕ) → config.regions ≤ region → packed_top config shut kept region ≡ 0
+  top_outside region past = sum_of_none (words_in config.region_words shut kept region) (heap_end config) (λ a below. ⊎_elim
+      (λ (none : words_in config.region_words shut kept region a ≡ 0). none)
+      (λ (there : (0 < open_kept config.region_words shut kept a) × (place a / config.region_words ≡ region + 1)).
       absurd (let few = place_in_range config.region_words shut kept lie config.regions a (is_open config.region_words shut kept a there.0).0 below in let here = there.1 in omega (arith, few, here, past)))
-      (added config.region_words shut kept lie r a))
+      (added config.region_words shut kept lie region a))
 
   -- nor is the heap there
   heap_outside : (address : ℕ) → (address < config.region_words) ⊎ (heap_end config ≤ address) → renew ≡ renewed place (now_in memory) → memory (Heap address) ≡ 0 → packed config shut (now_in memory) kept memory (Heap address) ≡ 0
   unfolding packed moved_heap
   heap_outside address out same zero_outside =
-      cond-false (shut (region_with config address + 1) && (begins config memory address && is_unkept kept memory address)) (filler_header (object_words (memory (Heap (address + 1))))) (slid place kept (renewed place (now_in memory)) (λ y. memory (Heap y)) (heap_end config) address)
+      cond-false (shut (region_with config address + 1) && (begins config memory address && is_unkept kept memory address)) (filler_header (object_words (memory (Heap (address + 1))))) (slid place kept (renewed place (now_in memory)) (λ address. memory (Heap address)) (heap_end config) address)
       (and_right (shut (region_with config address + 1)) _ (and_left (begins config memory address) (is_unkept kept memory address) (none_begins config memory address out)))
-      ∙ ap (λ f. slid place kept f (λ y. memory (Heap y)) (heap_end config) address) (sym same) ∙ slid_outside (λ y. memory (Heap y)) (heap_end config) address out ∙ zero_outside
+      ∙ ap (λ renew. slid place kept renew (λ address. memory (Heap address)) (heap_end config) address) (sym same) ∙ slid_outside (λ address. memory (Heap address)) (heap_end config) address out ∙ zero_outside
 
 packed_outside : (config : Config) (memory : Word → ℕ) → LieApart config.region_words (kept_in config memory) → ((address : ℕ) → 0 < kept_in config memory address → address + kept_in config memory address ≤ heap_end config) → IsZeroOutside config memory → IsZeroOutside config (packed_in config memory)
 unfolding packed
 packed_outside config memory lie inside zero_outside (Heap address) other =
     heap_outside config memory (is_row_pinned config memory) (kept_in config memory) (renewed (place_in config (is_row_pinned config memory) (kept_in config memory)) (now_in memory)) lie inside address (outside_heap config address other) refl (zero_outside (Heap address) other)
-packed_outside config memory lie inside zero_outside (Root t i) other = ap (renewed (place_in config (is_row_pinned config memory) (kept_in config memory)) (now_in memory)) (zero_outside (Root t i) other)
-packed_outside config memory lie inside zero_outside (Pin t i) other = zero_outside (Pin t i) other
-packed_outside config memory lie inside zero_outside (Answer t) other = ap (λ word. cond (nat_le word 1) word (place_in config (is_row_pinned config memory) (kept_in config memory) (now_in memory word))) (zero_outside (Answer t) other)
-packed_outside config memory lie inside zero_outside (Top r) other =
-    either_zero (is_row_pinned config memory (r + 1)) (memory (Top r)) (packed_top config (is_row_pinned config memory) (kept_in config memory) r) (zero_outside (Top r) other)
-    (top_outside config memory (is_row_pinned config memory) (kept_in config memory) (renewed (place_in config (is_row_pinned config memory) (kept_in config memory)) (now_in memory)) lie inside r (not_below r other))
+packed_outside config memory lie inside zero_outside (Root mutator index) other = ap (renewed (place_in config (is_row_pinned config memory) (kept_in config memory)) (now_in memory)) (zero_outside (Root mutator index) other)
+packed_outside config memory lie inside zero_outside (Pin mutator slot) other = zero_outside (Pin mutator slot) other
+packed_outside config memory lie inside zero_outside (Answer mutator) other = ap (λ word. cond (nat_le word 1) word (place_in config (is_row_pinned config memory) (kept_in config memory) (now_in memory word))) (zero_outside (Answer mutator) other)
+packed_outside config memory lie inside zero_outside (Top region) other =
+    either_zero (is_row_pinned config memory (region + 1)) (memory (Top region)) (packed_top config (is_row_pinned config memory) (kept_in config memory) region) (zero_outside (Top region) other)
+    (top_outside config memory (is_row_pinned config memory) (kept_in config memory) (renewed (place_in config (is_row_pinned config memory) (kept_in config memory)) (now_in memory)) lie inside region (not_below region other))
   where
     not_below : (seat : ℕ) → nat_lt seat config.regions ≡ false → config.regions ≤ seat
     not_below seat test = grind (arith, nat_tests)
 packed_outside config memory lie inside zero_outside (State seat) other = zero_outside (State seat) other
-packed_outside config memory lie inside zero_outside (Buffer t i) other = zero_outside (Buffer t i) other
-packed_outside config memory lie inside zero_outside (Wait t) other = zero_outside (Wait t) other
-packed_outside config memory lie inside zero_outside (Tams r) other = refl
-packed_outside config memory lie inside zero_outside (Limit r) other = refl
+packed_outside config memory lie inside zero_outside (Buffer mutator entry) other = zero_outside (Buffer mutator entry) other
+packed_outside config memory lie inside zero_outside (Wait mutator) other = zero_outside (Wait mutator) other
+packed_outside config memory lie inside zero_outside (Tams region) other = refl
+packed_outside config memory lie inside zero_outside (Limit region) other = refl
 packed_outside config memory lie inside zero_outside (Current seat) other = refl
-packed_outside config memory lie inside zero_outside (Count t) other = refl
-packed_outside config memory lie inside zero_outside (Grey n) other = refl
-packed_outside config memory lie inside zero_outside (Black n) other = refl
+packed_outside config memory lie inside zero_outside (Count mutator) other = refl
+packed_outside config memory lie inside zero_outside (Grey number) other = refl
+packed_outside config memory lie inside zero_outside (Black number) other = refl
 packed_outside config memory lie inside zero_outside _ other = absurd (true≢false other)
 
 -- an object that is made in a region writes no other word
 made_outside : (config : Config) (memory : Word → ℕ) (mutator region : ℕ) → mutator < config.mutators → region < config.regions → memory (Top region) + object_words (request_shape_in (memory (Wait mutator))) ≤ config.region_words
     → IsZeroOutside config memory → IsZeroOutside config (made_in config memory mutator region)
 unfolding made_in
-made_outside config memory mutator region inside within room zero_outside (Heap x) other =
+made_outside config memory mutator region inside within room zero_outside (Heap address) other =
     let low : 1 * config.region_words ≤ (region + 1) * config.region_words = mul-le-mul_right config.region_words (omega arith) in
     let high : (region + 1 + 1) * config.region_words ≤ (config.regions + 1) * config.region_words = mul-le-mul_right config.region_words (omega (arith, within)) in
-    outside_fresh (base_of config region + memory (Top region)) (request_shape_in (memory (Wait mutator))) (name_code (mutator + 1) (request_count_in (memory (Wait mutator)))) (memory (Heap x)) x
+    outside_fresh (base_of config region + memory (Top region)) (request_shape_in (memory (Wait mutator))) (name_code (mutator + 1) (request_count_in (memory (Wait mutator)))) (memory (Heap address)) address
     (⊎_elim
-    (λ (below : x < config.region_words). inl (omega (arith, below, low)))
-    (λ (past : heap_end config ≤ x). inr (omega (arith, past, room, high)))
-    (outside_heap config x other))
-    ∙ zero_outside (Heap x) other
-made_outside config memory mutator region inside within room zero_outside (Top q) other =
-    cond-false (region == q) (memory (Top region) + object_words (request_shape_in (memory (Wait mutator)))) (memory (Top q)) (ne_eqb region q (differ q other)) ∙ zero_outside (Top q) other
+    (λ (below : address < config.region_words). inl (omega (arith, below, low)))
+    (λ (past : heap_end config ≤ address). inr (omega (arith, past, room, high)))
+    (outside_heap config address other))
+    ∙ zero_outside (Heap address) other
+made_outside config memory mutator region inside within room zero_outside (Top other_region) other =
+    cond-false (region == other_region) (memory (Top region) + object_words (request_shape_in (memory (Wait mutator)))) (memory (Top other_region)) (ne_eqb region other_region (differ other_region other)) ∙ zero_outside (Top other_region) other
   where
     differ : (seat : ℕ) → nat_lt seat config.regions ≡ false → region ≢ seat
     differ seat test same = grind (arith, nat_tests)
-made_outside config memory mutator region inside within room zero_outside (Answer u) other =
-    cond-false (mutator == u) (base_of config region + memory (Top region)) (memory (Answer u)) (ne_eqb mutator u (differ u other)) ∙ zero_outside (Answer u) other
+made_outside config memory mutator region inside within room zero_outside (Answer other_mutator) other =
+    cond-false (mutator == other_mutator) (base_of config region + memory (Top region)) (memory (Answer other_mutator)) (ne_eqb mutator other_mutator (differ other_mutator other)) ∙ zero_outside (Answer other_mutator) other
   where
     differ : (seat : ℕ) → nat_lt seat config.mutators ≡ false → mutator ≢ seat
     differ seat test same = grind (arith, nat_tests)
-made_outside config memory mutator region inside within room zero_outside (Wait u) other =
-    cond-false (mutator == u) 0 (memory (Wait u)) (ne_eqb mutator u (differ u other)) ∙ zero_outside (Wait u) other
+made_outside config memory mutator region inside within room zero_outside (Wait other_mutator) other =
+    cond-false (mutator == other_mutator) 0 (memory (Wait other_mutator)) (ne_eqb mutator other_mutator (differ other_mutator other)) ∙ zero_outside (Wait other_mutator) other
   where
     differ : (seat : ℕ) → nat_lt seat config.mutators ≡ false → mutator ≢ seat
     differ seat test same = grind (arith, nat_tests)
 made_outside config memory mutator region inside within room zero_outside (State seat) other = zero_outside (State seat) other
-made_outside config memory mutator region inside within room zero_outside (Buffer u i) other = zero_outside (Buffer u i) other
-made_outside config memory mutator region inside within room zero_outside (Root u i) other = zero_outside (Root u i) other
-made_outside config memory mutator region inside within room zero_outside (Pin u i) other = zero_outside (Pin u i) other
-made_outside config memory mutator region inside within room zero_outside (Tams q) other = zero_outside (Tams q) other
-made_outside config memory mutator region inside within room zero_outside (Limit q) other = zero_outside (Limit q) other
+made_outside config memory mutator region inside within room zero_outside (Buffer other_mutator entry) other = zero_outside (Buffer other_mutator entry) other
+made_outside config memory mutator region inside within room zero_outside (Root other_mutator index) other = zero_outside (Root other_mutator index) other
+made_outside config memory mutator region inside within room zero_outside (Pin other_mutator slot) other = zero_outside (Pin other_mutator slot) other
+made_outside config memory mutator region inside within room zero_outside (Tams other_region) other = zero_outside (Tams other_region) other
+made_outside config memory mutator region inside within room zero_outside (Limit other_region) other = zero_outside (Limit other_region) other
 made_outside config memory mutator region inside within room zero_outside (Current seat) other = zero_outside (Current seat) other
-made_outside config memory mutator region inside within room zero_outside (Count u) other = zero_outside (Count u) other
-made_outside config memory mutator region inside within room zero_outside (Grey n) other = zero_outside (Grey n) other
-made_outside config memory mutator region inside within room zero_outside (Black n) other = zero_outside (Black n) other
+made_outside config memory mutator region inside within room zero_outside (Count other_mutator) other = zero_outside (Count other_mutator) other
+made_outside config memory mutator region inside within room zero_outside (Grey number) other = zero_outside (Grey number) other
+made_outside config memory mutator region inside within room zero_outside (Black number) other = zero_outside (Black number) other
 made_outside config memory mutator region inside within room zero_outside _ other = absurd (true≢false other)
 
 pub served_outside : (config : Config) (memory : Word → ℕ) (mutator : ℕ) → mutator ≤ config.mutators → IsZeroOutside config memory → IsZeroOutside config (served config memory mutator)
-served_outside config memory zero few zero_outside word other = served_first config memory word ∙ zero_outside word other
-served_outside config memory (suc mutator) few zero_outside word other =
-    let before : IsZeroOutside config (served config memory mutator) = served_outside config memory mutator (omega (arith, few)) zero_outside in
+served_outside config memory zero at_most zero_outside word other = served_first config memory word ∙ zero_outside word other
+served_outside config memory (suc mutator) at_most zero_outside word other =
+    let before : IsZeroOutside config (served config memory mutator) = served_outside config memory mutator (omega (arith, at_most)) zero_outside in
     ⊎_elim
     (λ (none : served config memory mutator (Wait mutator) ≡ 0). turn_idle config memory mutator word none ∙ before word other)
     (λ (some : served config memory mutator (Wait mutator) ≢ 0). turn_waits config memory mutator word some ∙ by_room (served config memory mutator) before (room_for config (served config memory mutator) mutator) refl)
@@ -178,13 +178,13 @@ served_outside config memory (suc mutator) few zero_outside word other =
     by_room : (other_memory : Word → ℕ) → IsZeroOutside config other_memory → (found : Option ℕ) → room_for config other_memory mutator ≡ found → served_in config other_memory mutator found word ≡ 0
     by_room other_memory before None is = before word other
     by_room other_memory before (Some r) is =
-        let lowest = has_room config.region_words (λ q. other_memory (Top q)) (object_words (request_shape_in (other_memory (Wait mutator)))) config.regions r is in
-        made_outside config other_memory mutator r (omega (arith, few)) lowest.below lowest.room before word other
+        let lowest = has_room config.region_words (λ region. other_memory (Top region)) (object_words (request_shape_in (other_memory (Wait mutator)))) config.regions r is in
+        made_outside config other_memory mutator r (omega (arith, at_most)) lowest.below lowest.room before word other
 
 refused_outside : (config : Config) (memory : Word → ℕ) → IsZeroOutside config memory → IsZeroOutside config (refused memory)
 unfolding refused
-refused_outside config memory zero_outside (Answer t) other = cond-true (memory (Wait t) == 0) (memory (Answer t)) 1 (eq-eqb (memory (Wait t)) 0 (zero_outside (Wait t) other)) ∙ zero_outside (Answer t) other
-refused_outside config memory zero_outside (Wait t) other = refl
+refused_outside config memory zero_outside (Answer mutator) other = cond-true (memory (Wait mutator) == 0) (memory (Answer mutator)) 1 (eq-eqb (memory (Wait mutator)) 0 (zero_outside (Wait mutator) other)) ∙ zero_outside (Answer mutator) other
+refused_outside config memory zero_outside (Wait mutator) other = refl
 refused_outside config memory zero_outside word other = zero_outside word other
 
 pub full_outside : (config : Config) (memory : Word → ℕ) → LieApart config.region_words (kept_in config memory) → ((a : ℕ) → 0 < kept_in config memory a → a + kept_in config memory a ≤ heap_end config) → IsZeroOutside config memory → IsZeroOutside config (full_from config memory)

@@ -16,22 +16,22 @@ use Rattle.image_graph.specs.Full.{moved_heap, packed, packed_in, served, refuse
 use Rattle.cycle_pauses.specs.Full.Laws.{RepresentingHolds, ImageIsFull, TableIsFull, FullFromCopies, FullIsPause}
 use Rattle.cycle_pauses.proofs.Full.ByCopies.{by_copies}
 use Rattle.cycle_pauses.proofs.Full.Holding.{holds_some, holds_sized}
-use Rattle.cycle_pauses.proofs.Full.Paused.{asked_then}
+use Rattle.cycle_pauses.proofs.Full.SameGraph.{asked_then}
 use Rattle.cycle_pauses.proofs.Full.Answered.{is_answer, represents_again}
 use Rattle.cycle_pauses.proofs.Full.Crowds.{is_crowded}
 use Rattle.cycle_pauses.proofs.Full.Images.{image_length, image_is_full, table_is_full}
 
 -- What a pause owes says nothing of the words before it but that they stand for the graph.
 pub paused_from : (config : Config) (before other after : Word → ℕ) (graph : Graph) (asking : ℕ → Asking) → IsPaused config before after graph asking → IsPaused config other after graph asking
-paused_from config before other after graph asking p = record { asked_then = p.asked_then; stands = p.stands; answers = p.answers; crowded = p.crowded }
+paused_from config before other after graph asking paused = record { asked_then = paused.asked_then; stands = paused.stands; answers = paused.answers; crowded = paused.crowded }
 
 -- once buffers were let go
 pub let_go_paused : (config : Config) (memory : Word → ℕ) (graph : Graph) (asking : ℕ → Asking) → RepresentsByCopies config memory graph asking → HasNoBuffers config memory → IsPaused config memory (full_from config memory) graph asking
-let_go_paused config memory graph asking r bare = record {
-  asked_then = asked_then config memory graph asking r;
-  stands = represents_again config memory graph asking r bare;
+let_go_paused config memory graph asking represents_by_copies bare = record {
+  asked_then = asked_then config memory graph asking represents_by_copies;
+  stands = represents_again config memory graph asking represents_by_copies bare;
   answers = λ t inside. is_answer (asking t) _;
-  crowded = λ t refs nums inside is refused. is_crowded config memory graph asking r t refs nums inside is refused;
+  crowded = λ t refs nums inside is refused. is_crowded config memory graph asking represents_by_copies t refs nums inside is refused;
 }
 
 -- packing reads no buffer
@@ -43,30 +43,30 @@ packed_trimmed config memory Cset = refl
 packed_trimmed config memory Claim = refl
 packed_trimmed config memory Evac = refl
 packed_trimmed config memory Free = refl
-packed_trimmed config memory (Top q) = refl
-packed_trimmed config memory (Tams q) = refl
-packed_trimmed config memory (Limit q) = refl
-packed_trimmed config memory (Heap x) = refl
-packed_trimmed config memory (Root t i) = refl
-packed_trimmed config memory (Answer t) = refl
-packed_trimmed config memory (Pin t i) = refl
+packed_trimmed config memory (Top region) = refl
+packed_trimmed config memory (Tams region) = refl
+packed_trimmed config memory (Limit region) = refl
+packed_trimmed config memory (Heap address) = refl
+packed_trimmed config memory (Root mutator index) = refl
+packed_trimmed config memory (Answer mutator) = refl
+packed_trimmed config memory (Pin mutator slot) = refl
 packed_trimmed config memory Pause = refl
 packed_trimmed config memory Left = refl
 packed_trimmed config memory End = refl
 packed_trimmed config memory (State seat) = refl
 packed_trimmed config memory (Current seat) = refl
-packed_trimmed config memory (Count t) = refl
-packed_trimmed config memory (Buffer t i) = refl
-packed_trimmed config memory (Wait t) = refl
-packed_trimmed config memory (Grey n) = refl
-packed_trimmed config memory (Black n) = refl
+packed_trimmed config memory (Count mutator) = refl
+packed_trimmed config memory (Buffer mutator entry) = refl
+packed_trimmed config memory (Wait mutator) = refl
+packed_trimmed config memory (Grey number) = refl
+packed_trimmed config memory (Black number) = refl
 packed_trimmed config memory Share = refl
 
 -- So a full collection is a pause, whatever buffers without free words there are.
 pub paused : (config : Config) (memory : Word → ℕ) (graph : Graph) (asking : ℕ → Asking) → RepresentsByCopies config memory graph asking → IsPaused config memory (full config memory) graph asking
-paused config memory graph asking r =
+paused config memory graph asking represents_by_copies =
     subst (λ w. IsPaused config memory w graph asking) (ap (λ (memory : Word → ℕ). refused (served config memory config.mutators)) (fun_ext (packed_trimmed config (let_go config memory))))
-    (paused_from config (trim (let_go config memory)) memory (full_from config (trim (let_go config memory))) graph asking (let_go_paused config (trim (let_go config memory)) graph asking (trimmed_copies config memory graph asking r)
+    (paused_from config (trim (let_go config memory)) memory (full_from config (trim (let_go config memory))) graph asking (let_go_paused config (trim (let_go config memory)) graph asking (trimmed_copies config memory graph asking represents_by_copies)
     (λ seat below. trimmed_none (currents_of (let_go config memory)) seat (letting_go_leaves config memory seat below))))
 
 pub from_copies : FullFromCopies
@@ -83,7 +83,7 @@ is_whole c image table long whole holds is = table_is_full c image table whole h
 
 pub full_is_pause : FullIsPause
 full_is_pause = record {
-  long = λ c image long. image_length c image;
+  long = λ config image long. image_length config image;
   pauses = λ c image g asking long r due.
       subst (λ after. IsPaused c (image_view c image) after g asking) (sym (image_is_full c image (holds_some c (image_view c image) g asking (by_copies c (image_view c image) g asking r))))
       (paused c (image_view c image) g asking (by_copies c (image_view c image) g asking r));

@@ -33,39 +33,39 @@ none_distinct X eq = tt
 
 module _ (X : Type 0) (eq : X → X → Bool) (laws : IsEquivalence eq) (exact : (x y : X) → eq x y ≡ true → x ≡ y) (at : ℕ → Option X) where
   one_more : (n : ℕ) (xs : List X) (found : Option X) → at n ≡ found → IsListed X eq at n xs → (ys : List X) × IsListed X eq at (suc n) ys
-  one_more n xs None none s = (
+  one_more n xs None none listed = (
     xs,
     record {
-      differ = s.differ;
+      differ = listed.differ;
       all = λ k x below is. ⊎_elim
           (λ (last : k ≡ n). absurd (none-some x (sym none ∙ ap at (sym last) ∙ is)))
-          (λ (other : k ≢ n). s.all k x (omega (arith, below, other)) is)
+          (λ (other : k ≢ n). listed.all k x (omega (arith, below, other)) is)
           (cases_eq k n);
-      only = s.only;
+      only = listed.only;
     },
   )
-  one_more n xs (Some y) here s = ⊎_elim
+  one_more n xs (Some y) here listed = ⊎_elim
       (λ (had : list_any (eq y) xs ≡ true). (
         xs,
         record {
-          differ = s.differ;
+          differ = listed.differ;
           all = λ k x below is. ⊎_elim
               (λ (last : k ≡ n). let same : y ≡ x = same_Some y x (sym here ∙ ap at (sym last) ∙ is) in subst (Contains xs) same (Contains-from_any exact y xs had))
-              (λ (other : k ≢ n). s.all k x (omega (arith, below, other)) is)
+              (λ (other : k ≢ n). listed.all k x (omega (arith, below, other)) is)
               (cases_eq k n);
-          only = s.only;
+          only = listed.only;
         },
       ))
       (λ (new : list_any (eq y) xs ≡ false). (
         xs ++ y ∷ [],
         record {
-          differ = IsDistinct-push laws xs y s.differ new;
+          differ = IsDistinct-push laws xs y listed.differ new;
           all = λ k x below is. ⊎_elim
               (λ (last : k ≡ n). let same : y ≡ x = same_Some y x (sym here ∙ ap at (sym last) ∙ is) in subst (Contains (xs ++ y ∷ [])) same (Contains-push xs y))
-              (λ (other : k ≢ n). Contains-append_left xs (y ∷ []) x (s.all k x (omega (arith, below, other)) is))
+              (λ (other : k ≢ n). Contains-append_left xs (y ∷ []) x (listed.all k x (omega (arith, below, other)) is))
               (cases_eq k n);
           only = λ x has. ⊎_elim
-              (λ (old : Contains xs x). s.only x old)
+              (λ (old : Contains xs x). listed.only x old)
               (λ (is : y ≡ x). (n, here ∙ ap Some is))
               (Contains-push_cases xs y x has);
         },
@@ -86,23 +86,23 @@ abbrev slot_at : Graph → ℕ → Option Pinned
 slot_at graph k = graph.pin (k / 4 + 1) (k % 4)
 
 module _ (config : Config) (graph : Graph) (no_more : HasNoMorePins config.mutators graph) where
-  number_of : (thread i : ℕ) (held : Pinned) → graph.pin thread i ≡ Some held → IsThreads config thread i 4 → (k : ℕ) × (k < 4 * config.mutators) × (slot_at graph k ≡ Some held)
-  number_of thread i held is at =
-      let u : ℕ = at.mutator in
-      let few = at.few in
-      let inside = at.inside in
-      let row : (4 * at.mutator + i) / 4 ≡ at.mutator = omega (arith, few) in
-      let column : (4 * at.mutator + i) % 4 ≡ i = omega (arith, few) in (
-        4 * at.mutator + i,
+  number_of : (thread slot : ℕ) (held : Pinned) → graph.pin thread slot ≡ Some held → IsThreads config thread slot 4 → (k : ℕ) × (k < 4 * config.mutators) × (slot_at graph k ≡ Some held)
+  number_of thread slot held is threads =
+      let u : ℕ = threads.mutator in
+      let few = threads.few in
+      let inside = threads.inside in
+      let row : (4 * threads.mutator + slot) / 4 ≡ threads.mutator = omega (arith, few) in
+      let column : (4 * threads.mutator + slot) % 4 ≡ slot = omega (arith, few) in (
+        4 * threads.mutator + slot,
         omega (arith, few, inside),
-        ap (λ j. graph.pin (j + 1) ((4 * at.mutator + i) % 4)) row ∙ ap (graph.pin (at.mutator + 1)) column ∙ ap (λ j. graph.pin j i) (sym at.thread) ∙ is,
+        ap (λ j. graph.pin (j + 1) ((4 * threads.mutator + slot) % 4)) row ∙ ap (graph.pin (threads.mutator + 1)) column ∙ ap (λ thread. graph.pin thread slot) (sym threads.thread) ∙ is,
       )
 
-  slot_number : (thread i : ℕ) (held : Pinned) → graph.pin thread i ≡ Some held → (k : ℕ) × (k < 4 * config.mutators) × (slot_at graph k ≡ Some held)
-  slot_number thread i held is = number_of thread i held is (⊎_elim
-      (λ (yes : is_slot_of config.mutators thread i ≡ true). threads_one config thread i 4 yes)
-      (λ (no : is_slot_of config.mutators thread i ≡ false). absurd (none-some held (sym (no_more thread i no) ∙ is)))
-      (cases_Bool (is_slot_of config.mutators thread i)))
+  slot_number : (thread slot : ℕ) (held : Pinned) → graph.pin thread slot ≡ Some held → (k : ℕ) × (k < 4 * config.mutators) × (slot_at graph k ≡ Some held)
+  slot_number thread slot held is = number_of thread slot held is (⊎_elim
+      (λ (yes : is_slot_of config.mutators thread slot ≡ true). threads_one config thread slot 4 yes)
+      (λ (no : is_slot_of config.mutators thread slot ≡ false). absurd (none-some held (sym (no_more thread slot no) ∙ is)))
+      (cases_Bool (is_slot_of config.mutators thread slot)))
 
   -- the names of what is pinned
   pub held_ones : (held : ℕ) × Held graph held
@@ -114,7 +114,7 @@ module _ (config : Config) (graph : Graph) (no_more : HasNoMorePins config.mutat
           found.0,
           record {
             differ = found.1.differ;
-            all = λ t i held is. let at = slot_number t i held is in found.1.all at.0 held.name at.1 (ap (option_map of) at.2);
+            all = λ thread slot held is. let at = slot_number thread slot held is in found.1.all at.0 held.name at.1 (ap (option_map of) at.2);
             only = λ n has.
                 let at = found.1.only n has in
                 let was = some_from Name of (slot_at graph at.0) n at.1 in
@@ -134,7 +134,7 @@ module _ (config : Config) (graph : Graph) (no_more : HasNoMorePins config.mutat
           found.0,
           record {
             differ = found.1.differ;
-            all = λ t i held is. let at = slot_number t i held is in found.1.all at.0 (held.place / config.region_words) at.1 (ap (option_map of) at.2);
+            all = λ thread slot held is. let at = slot_number thread slot held is in found.1.all at.0 (held.place / config.region_words) at.1 (ap (option_map of) at.2);
             only = λ r has.
                 let at = found.1.only r has in
                 let was = some_from ℕ of (slot_at graph at.0) r at.1 in

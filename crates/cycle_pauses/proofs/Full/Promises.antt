@@ -29,16 +29,16 @@ is_thread config t = nat_le 1 t && nat_le t config.mutators
 -- what all threads are promised; the asking of thread t is that of mutator t - 1
 abbrev pub promises_of : Config → Graph → (ℕ → Asking) → Promises
 promises_of config graph asking = record {
-  ref = λ t. if is_thread config t then promised_ref graph t (asking (t - 1)) else None;
+  ref = λ thread. if is_thread config thread then promised_ref graph thread (asking (thread - 1)) else None;
   refs = λ t. promised_refs (asking (t - 1));
   nums = λ t. promised_nums (asking (t - 1));
 }
 
 module _ (config : Config) (graph : Graph) (asking : ℕ → Asking) where
-  abbrev p : Promises
-  p = promises_of config graph asking
+  abbrev promises : Promises
+  promises = promises_of config graph asking
 
-  pub ref_of : (mutator : ℕ) → mutator < config.mutators → p.ref (mutator + 1) ≡ promised_ref graph (mutator + 1) (asking mutator)
+  pub ref_of : (mutator : ℕ) → mutator < config.mutators → promises.ref (mutator + 1) ≡ promised_ref graph (mutator + 1) (asking mutator)
   ref_of mutator inside =
       cond-true (is_thread config (mutator + 1)) (promised_ref graph (mutator + 1) (asking (mutator + 1 - 1))) None
       (and_from (nat_le 1 (mutator + 1)) (nat_le (mutator + 1) config.mutators) (le-leb 1 (mutator + 1) (omega arith)) (le-leb (mutator + 1) config.mutators (omega (arith, inside))))
@@ -47,28 +47,28 @@ module _ (config : Config) (graph : Graph) (asking : ℕ → Asking) where
       back : (k : ℕ) → k + 1 - 1 ≡ k
       back k = omega arith
 
-  pub refs_of : (t : ℕ) → p.refs (t + 1) ≡ promised_refs (asking t)
+  pub refs_of : (t : ℕ) → promises.refs (t + 1) ≡ promised_refs (asking t)
   refs_of t = let back : t + 1 - 1 ≡ t = omega arith in ap (λ k. promised_refs (asking k)) back
 
-  pub nums_of : (t : ℕ) → p.nums (t + 1) ≡ promised_nums (asking t)
+  pub nums_of : (t : ℕ) → promises.nums (t + 1) ≡ promised_nums (asking t)
   nums_of t = let back : t + 1 - 1 ≡ t = omega arith in ap (λ k. promised_nums (asking k)) back
 
   -- an asking that promises something was given it
-  pub some_given : (t : ℕ) (asking : Asking) (name : Name) → promised_ref graph t asking ≡ Some name → (asking ≡ given (promised_refs asking) (promised_nums asking)) × (fresh graph t ≡ name)
-  some_given t (given refs nums) name is = (refl, same_Some (fresh graph t) name is)
-  some_given t nothing name is = absurd (none-some name is)
-  some_given t (asks refs nums) name is = absurd (none-some name is)
-  some_given t refused name is = absurd (none-some name is)
+  pub some_given : (thread : ℕ) (asking : Asking) (name : Name) → promised_ref graph thread asking ≡ Some name → (asking ≡ given (promised_refs asking) (promised_nums asking)) × (fresh graph thread ≡ name)
+  some_given thread (given refs nums) name is = (refl, same_Some (fresh graph thread) name is)
+  some_given thread nothing name is = absurd (none-some name is)
+  some_given thread (asks refs nums) name is = absurd (none-some name is)
+  some_given thread refused name is = absurd (none-some name is)
 
   -- what is promised is promised to a mutator, and is its next object
-  pub promised_one : (t : ℕ) (name : Name) → p.ref t ≡ Some name
-      → (mutator : ℕ) × (mutator < config.mutators) × (t ≡ mutator + 1) × (asking mutator ≡ given (promised_refs (asking mutator)) (promised_nums (asking mutator))) × (name ≡ fresh graph t)
-  promised_one t name is = ⊎_elim
-      (λ (yes : is_thread config t ≡ true).
-      let parts = and_parts (nat_le 1 t) (nat_le t config.mutators) yes in
-      let low = leb-true 1 t parts.0 in
-      let high = leb-true t config.mutators parts.1 in
-      let found = some_given t (asking (t - 1)) name (sym (cond-true (is_thread config t) (promised_ref graph t (asking (t - 1))) None yes) ∙ is) in
-      (t - 1, omega (arith, low, high), omega (arith, low), found.0, sym found.1))
-      (λ (no : is_thread config t ≡ false). absurd (none-some name (sym (cond-false (is_thread config t) (promised_ref graph t (asking (t - 1))) None no) ∙ is)))
-      (cases_Bool (is_thread config t))
+  pub promised_one : (thread : ℕ) (name : Name) → promises.ref thread ≡ Some name
+      → (mutator : ℕ) × (mutator < config.mutators) × (thread ≡ mutator + 1) × (asking mutator ≡ given (promised_refs (asking mutator)) (promised_nums (asking mutator))) × (name ≡ fresh graph thread)
+  promised_one thread name is = ⊎_elim
+      (λ (yes : is_thread config thread ≡ true).
+      let parts = and_parts (nat_le 1 thread) (nat_le thread config.mutators) yes in
+      let low = leb-true 1 thread parts.0 in
+      let high = leb-true thread config.mutators parts.1 in
+      let found = some_given thread (asking (thread - 1)) name (sym (cond-true (is_thread config thread) (promised_ref graph thread (asking (thread - 1))) None yes) ∙ is) in
+      (thread - 1, omega (arith, low, high), omega (arith, low), found.0, sym found.1))
+      (λ (no : is_thread config thread ≡ false). absurd (none-some name (sym (cond-false (is_thread config thread) (promised_ref graph thread (asking (thread - 1))) None no) ∙ is)))
+      (cases_Bool (is_thread config thread))

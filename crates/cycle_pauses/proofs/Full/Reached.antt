@@ -22,7 +22,7 @@ use Rattle.image_graph.specs.Promised.{Promises, with_promised}
 use Rattle.image_graph.proofs.Reached.{held_is_reached, reached_is_held}
 use Rattle.image_graph.proofs.Walked.{found_is_held, held_is_found}
 use Rattle.image_graph.proofs.Promised.{old_object, reaches_promised}
-use Rattle.image_graph.proofs.Rooted.{plain_root, pin_root}
+use Rattle.image_graph.proofs.PromisedRoots.{plain_root, pin_root}
 use Rattle.cycle_pauses.proofs.Full.Sorted.{sorted_names}
 use Rattle.cycle_pauses.proofs.Full.Promises.{promises_of, promised_one}
 use Rattle.cycle_pauses.proofs.Full.Before.{live, live_rooted, names_stay, current_kind, names_differ, slot_of}
@@ -32,7 +32,7 @@ use Rattle.cycle_pauses.proofs.Full.Holding.{are_fresh}
 -- the names of the addresses of a list that have one
 abbrev with_one : Option Name → List Name → List Name
 with_one None names = names
-with_one (Some n) names = n ∷ names
+with_one (Some name) names = name ∷ names
 
 abbrev names_at : (ℕ → Option Name) → List ℕ → List Name
 names_at at [] = []
@@ -40,15 +40,15 @@ names_at at (a ∷ others) = with_one (at a) (names_at at others)
 
 one_first : (found : Option Name) (names : List Name) (name : Name) → found ≡ Some name → Contains (with_one found names) name
 one_first None names name is = absurd (none-some name is)
-one_first (Some m) names name is = (0, omega arith, same_Some m name is)
+one_first (Some other_name) names name is = (0, omega arith, same_Some other_name name is)
 
 one_later : (found : Option Name) (names : List Name) (name : Name) → Contains names name → Contains (with_one found names) name
 one_later None names name there = there
-one_later (Some m) names name there = Contains-append_right (m ∷ []) names name there
+one_later (Some other_name) names name there = Contains-append_right (other_name ∷ []) names name there
 
 one_cases : (found : Option Name) (names : List Name) (name : Name) → Contains (with_one found names) name → (found ≡ Some name) ⊎ Contains names name
 one_cases None names name there = inr there
-one_cases (Some m) names name there = ⊎_elim (λ (is : m ≡ name). inl (ap Some is)) (λ (rest : Contains names name). inr rest) (Contains-cons_cases m names name there)
+one_cases (Some other_name) names name there = ⊎_elim (λ (is : other_name ≡ name). inl (ap Some is)) (λ (rest : Contains names name). inr rest) (Contains-cons_cases other_name names name there)
 
 name_there : (at : ℕ → Option Name) (xs : List ℕ) (a : ℕ) (name : Name) → has xs a ≡ true → at a ≡ Some name → Contains (names_at at xs) name
 name_there at [] a name is named = absurd (false≢true is)
@@ -64,15 +64,15 @@ there_named at (x ∷ xs) name there = ⊎_elim
     (λ (rest : Contains (names_at at xs) name). let found = there_named at xs name rest in (found.0, or_right (nat_eq found.0 x) (has xs found.0) found.1, found.2))
     (one_cases (at x) (names_at at xs) name there)
 
-module _ (config : Config) (memory : Word → ℕ) (graph : Graph) (asking : ℕ → Asking) (r : RepresentsByCopies config memory graph asking) where
-  abbrev p : Promises
-  p = promises_of config graph asking
+module _ (config : Config) (memory : Word → ℕ) (graph : Graph) (asking : ℕ → Asking) (represents_by_copies : RepresentsByCopies config memory graph asking) where
+  abbrev promises : Promises
+  promises = promises_of config graph asking
 
   abbrev more : Graph
-  more = with_promised graph p
+  more = with_promised graph promises
 
   abbrev block : Plot
-  block = live config memory graph asking r
+  block = live config memory graph asking represents_by_copies
 
   abbrev heap : ℕ → ℕ
   heap address = memory (Heap address)
@@ -80,20 +80,20 @@ module _ (config : Config) (memory : Word → ℕ) (graph : Graph) (asking : ℕ
   abbrev IsRoot : ℕ → Type 0
   IsRoot = IsAmong (held_words config memory)
 
-  holds : HoldsGraph config (λ s. memory (Top s)) heap block (now_in memory) IsRoot more
-  holds = live_holds config memory graph asking r
+  holds : HoldsGraph config (λ region. memory (Top region)) heap block (now_in memory) IsRoot more
+  holds = live_holds config memory graph asking represents_by_copies
 
   -- the larger graph reaches what the graph does, for its roots and what its slots hold are roots there
   reach_more : (name : Name) → IsReachable graph name → IsReachable more name
-  reach_more name (reach.from_root t i _ is) =
-      let at = (live_rooted config memory graph asking r).no_more_roots t i name is in
-      reach.from_root t i name (plain_root graph p t i at.3 ∙ is)
-  reach_more _ (reach.from_pin t slot held is) =
-      let at = slot_of config memory graph asking r t slot held is in
-      reach.from_root t (17 + slot) held.name (pin_root graph p t slot at.few ∙ ap name_in is)
-  reach_more name (reach.from_field k _ field reached is) =
-      reach.from_field k name field (reach_more k reached)
-      (ap (λ (object : Object). slice_get object.refs field) (old_object config.mutators graph p (are_fresh config memory graph asking r) k reached) ∙ is)
+  reach_more name (reach.from_root thread root _ is) =
+      let at = (live_rooted config memory graph asking represents_by_copies).no_more_roots thread root name is in
+      reach.from_root thread root name (plain_root graph promises thread root at.3 ∙ is)
+  reach_more _ (reach.from_pin thread slot held is) =
+      let at = slot_of config memory graph asking represents_by_copies thread slot held is in
+      reach.from_root thread (17 + slot) held.name (pin_root graph promises thread slot at.few ∙ ap name_in is)
+  reach_more name (reach.from_field other_name _ field reached is) =
+      reach.from_field other_name name field (reach_more other_name reached)
+      (ap (λ (object : Object). slice_get object.refs field) (old_object config.mutators graph promises (are_fresh config memory graph asking represents_by_copies) other_name reached) ∙ is)
 
   -- what was found is held, and the other way round
   pub found_held : (a : ℕ) → has (held_in config memory) a ≡ true → IsLedTo (now_in memory) heap IsRoot a
@@ -103,34 +103,34 @@ module _ (config : Config) (memory : Word → ℕ) (graph : Graph) (asking : ℕ
   held_found = held_is_found config memory block more holds
 
   abbrev found : List Name
-  found = names_at (λ a. name_at (r.block a)) (held_in config memory)
+  found = names_at (λ address. name_at (represents_by_copies.block address)) (held_in config memory)
 
   -- each name that the graph reaches is found
   all_found : (name : Name) → IsReachable graph name → Contains found name
   all_found name reached =
-      let at = reached_is_held config (λ s. memory (Top s)) heap block (now_in memory) IsRoot more holds name (reach_more name reached) in
-      let old : r.block at.0 ≡ Some (thing name at.1 at.2) = ⊎_elim
-      (λ (is : r.block at.0 ≡ Some (thing name at.1 at.2)). is)
-      (λ (new : (seat : ℕ) × (words : ℕ) × (r.block at.0 ≡ Some (promised seat words)) × (name ≡ fresh graph (seat + 1))).
-      let piece = reached_at config memory graph asking r name reached in
-      absurd (names_differ config memory graph asking r piece.0 piece.1 piece.2 new.0 name piece.3 new.3))
-      (current_kind config memory graph asking r at.0 at.1 at.2 name (held_current config memory graph asking r at.0 at.3) at.4)
+      let at = reached_is_held config (λ region. memory (Top region)) heap block (now_in memory) IsRoot more holds name (reach_more name reached) in
+      let old : represents_by_copies.block at.0 ≡ Some (thing name at.1 at.2) = ⊎_elim
+      (λ (is : represents_by_copies.block at.0 ≡ Some (thing name at.1 at.2)). is)
+      (λ (new : (seat : ℕ) × (words : ℕ) × (represents_by_copies.block at.0 ≡ Some (promised seat words)) × (name ≡ fresh graph (seat + 1))).
+      let piece = reached_at config memory graph asking represents_by_copies name reached in
+      absurd (names_differ config memory graph asking represents_by_copies piece.0 piece.1 piece.2 new.0 name piece.3 new.3))
+      (current_kind config memory graph asking represents_by_copies at.0 at.1 at.2 name (held_current config memory graph asking represents_by_copies at.0 at.3) at.4)
       in
-      name_there (λ a. name_at (r.block a)) (held_in config memory) at.0 name (held_found at.0 at.3) (ap name_at old)
+      name_there (λ address. name_at (represents_by_copies.block address)) (held_in config memory) at.0 name (held_found at.0 at.3) (ap name_at old)
 
   -- and no other
   only_found : (name : Name) → Contains found name → IsReachable graph name
   only_found name there =
-      let at = there_named (λ a. name_at (r.block a)) (held_in config memory) name there in
-      let held = held_is_reached config (λ s. memory (Top s)) heap block (now_in memory) IsRoot more holds at.0 (found_held at.0 at.1) in
-      let piece = has_current config memory graph asking r at.0 name at.2 in
-      let same : held.0 ≡ name = same_Some held.0 name (ap name_at (sym held.3) ∙ names_stay config memory graph asking r at.0 name at.2) in
+      let at = there_named (λ address. name_at (represents_by_copies.block address)) (held_in config memory) name there in
+      let held = held_is_reached config (λ region. memory (Top region)) heap block (now_in memory) IsRoot more holds at.0 (found_held at.0 at.1) in
+      let piece = has_current config memory graph asking represents_by_copies at.0 name at.2 in
+      let same : held.0 ≡ name = same_Some held.0 name (ap name_at (sym held.3) ∙ names_stay config memory graph asking represents_by_copies at.0 name at.2) in
       ⊎_elim
       (λ (old : IsReachable graph name). old)
-      (λ (new : (t : ℕ) × (p.ref t ≡ Some name)).
+      (λ (new : (t : ℕ) × (promises.ref t ≡ Some name)).
       let one = promised_one config graph asking new.0 name new.1 in
-      absurd (names_differ config memory graph asking r piece.0 piece.1 piece.2 one.0 name piece.3 (one.4 ∙ ap (fresh graph) one.2)))
-      (reaches_promised config.mutators graph p (are_fresh config memory graph asking r) name (subst (IsReachable more) same held.4))
+      absurd (names_differ config memory graph asking represents_by_copies piece.0 piece.1 piece.2 one.0 name piece.3 (one.4 ∙ ap (fresh graph) one.2)))
+      (reaches_promised config.mutators graph promises (are_fresh config memory graph asking represents_by_copies) name (subst (IsReachable more) same held.4))
 
   -- so there is a list of them in their order
   pub reach_list : (names : List Name) × IsReach graph names
@@ -139,7 +139,7 @@ module _ (config : Config) (memory : Word → ℕ) (graph : Graph) (asking : ℕ
         sorted.0,
         record {
           in_order = sorted.1.in_order;
-          all = λ n reached. sorted.1.all n (all_found n reached);
-          only = λ n there. only_found n (sorted.1.only n there);
+          all = λ name reached. sorted.1.all name (all_found name reached);
+          only = λ name there. only_found name (sorted.1.only name there);
         },
       )

@@ -34,17 +34,17 @@ pub record HasWith (name : Name) (old new : List Name) : Type 0 where
   pub keeps : (other_name : Name) → Contains old other_name → Contains new other_name
   pub only : (other_name : Name) → Contains new other_name → (name ≡ other_name) ⊎ Contains old other_name
 
-first : (name : Name) (ms : List Name) → Contains (name ∷ ms) name
-first name ms = (0, omega arith, refl)
+first : (name : Name) (names : List Name) → Contains (name ∷ names) name
+first name names = (0, omega arith, refl)
 
-later : (name : Name) (ms : List Name) (other_name : Name) → Contains ms other_name → Contains (name ∷ ms) other_name
-later name ms other_name there = Contains-append_right (name ∷ []) ms other_name there
+later : (name : Name) (names : List Name) (other_name : Name) → Contains names other_name → Contains (name ∷ names) other_name
+later name names other_name there = Contains-append_right (name ∷ []) names other_name there
 
-at_front : (name : Name) (ms : List Name) → HasWith name ms (name ∷ ms)
-at_front name ms = record { here = first name ms; keeps = later name ms; only = Contains-cons_cases name ms }
+at_front : (name : Name) (names : List Name) → HasWith name names (name ∷ names)
+at_front name names = record { here = first name names; keeps = later name names; only = Contains-cons_cases name names }
 
-already : (name other_name : Name) (ms : List Name) → name ≡ other_name → HasWith name (other_name ∷ ms) (other_name ∷ ms)
-already name other_name ms same = record {
+already : (name other_name : Name) (names : List Name) → name ≡ other_name → HasWith name (other_name ∷ names) (other_name ∷ names)
+already name other_name names same = record {
   here = (0, omega arith, sym same);
   keeps = λ x there. there;
   only = λ x there. inr there;
@@ -67,29 +67,29 @@ behind name other_name old new has = record {
 }
 
 -- a name goes into its place behind another one
-insert_behind : (name other_name : Name) (ms : List Name) → IsBefore name other_name → InOrder (name ∷ ms) → (out : List Name) × InOrder (name ∷ out) × HasWith other_name ms out
+insert_behind : (name other_name : Name) (names : List Name) → IsBefore name other_name → InOrder (name ∷ names) → (out : List Name) × InOrder (name ∷ out) × HasWith other_name names out
 insert_behind name other_name [] before order = (other_name ∷ [], (before, tt), at_front other_name [])
-insert_behind name other_name (k ∷ ks) before order = ⊎_elim
-    (λ (same : other_name ≡ k). (k ∷ ks, order, already other_name k ks same))
+insert_behind name other_name (k ∷ names) before order = ⊎_elim
+    (λ (same : other_name ≡ k). (k ∷ names, order, already other_name k names same))
     (λ (differ : IsBefore other_name k ⊎ IsBefore k other_name). ⊎_elim
-    (λ (low : IsBefore other_name k). (other_name ∷ k ∷ ks, (before, (low, order.1)), at_front other_name (k ∷ ks)))
+    (λ (low : IsBefore other_name k). (other_name ∷ k ∷ names, (before, (low, order.1)), at_front other_name (k ∷ names)))
     (λ (high : IsBefore k other_name).
-    let rest = insert_behind k other_name ks high order.1 in
-    (k ∷ rest.0, (order.0, rest.1), behind other_name k ks rest.0 rest.2))
+    let rest = insert_behind k other_name names high order.1 in
+    (k ∷ rest.0, (order.0, rest.1), behind other_name k names rest.0 rest.2))
     differ)
     (before_cases other_name k)
 
-inserted : (name : Name) (ms : List Name) → InOrder ms → (out : List Name) × InOrder out × HasWith name ms out
+inserted : (name : Name) (names : List Name) → InOrder names → (out : List Name) × InOrder out × HasWith name names out
 inserted name [] order = (name ∷ [], tt, at_front name [])
-inserted name (k ∷ ks) order = ⊎_elim
-    (λ (same : name ≡ k). (k ∷ ks, order, already name k ks same))
-    (λ (differ : IsBefore name k ⊎ IsBefore k name). ⊎_elim
-    (λ (low : IsBefore name k). (name ∷ k ∷ ks, (low, order), at_front name (k ∷ ks)))
-    (λ (high : IsBefore k name).
-    let rest = insert_behind k name ks high order in
-    (k ∷ rest.0, rest.1, behind name k ks rest.0 rest.2))
+inserted name (other_name ∷ names) order = ⊎_elim
+    (λ (same : name ≡ other_name). (other_name ∷ names, order, already name other_name names same))
+    (λ (differ : IsBefore name other_name ⊎ IsBefore other_name name). ⊎_elim
+    (λ (low : IsBefore name other_name). (name ∷ other_name ∷ names, (low, order), at_front name (other_name ∷ names)))
+    (λ (high : IsBefore other_name name).
+    let rest = insert_behind other_name name names high order in
+    (other_name ∷ rest.0, rest.1, behind name other_name names rest.0 rest.2))
     differ)
-    (before_cases name k)
+    (before_cases name other_name)
 
 -- names in order, and the same ones
 pub record IsSortOf (names sorted : List Name) : Type 0 where
@@ -99,19 +99,19 @@ pub record IsSortOf (names sorted : List Name) : Type 0 where
 
 pub sorted_names : (names : List Name) → (sorted : List Name) × IsSortOf names sorted
 sorted_names [] = ([], record { in_order = tt; all = λ x there. there; only = λ x there. there })
-sorted_names (n ∷ ns) =
-    let rest = sorted_names ns in
-    let out = inserted n rest.0 rest.1.in_order in (
+sorted_names (name ∷ names) =
+    let rest = sorted_names names in
+    let out = inserted name rest.0 rest.1.in_order in (
       out.0,
       record {
         in_order = out.1;
         all = λ x there. ⊎_elim
-            (λ (is : n ≡ x). subst (Contains out.0) is out.2.here)
-            (λ (old : Contains ns x). out.2.keeps x (rest.1.all x old))
-            (Contains-cons_cases n ns x there);
+            (λ (is : name ≡ x). subst (Contains out.0) is out.2.here)
+            (λ (old : Contains names x). out.2.keeps x (rest.1.all x old))
+            (Contains-cons_cases name names x there);
         only = λ x there. ⊎_elim
-            (λ (is : n ≡ x). (0, omega arith, is))
-            (λ (old : Contains rest.0 x). later n ns x (rest.1.only x old))
+            (λ (is : name ≡ x). (0, omega arith, is))
+            (λ (old : Contains rest.0 x). later name names x (rest.1.only x old))
             (out.2.only x there);
       },
     )

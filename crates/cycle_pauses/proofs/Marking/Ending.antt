@@ -28,66 +28,66 @@ use Rattle.cycle_words.proofs.Marking.Vanished as freed
 use Rattle.cycle_pauses.proofs.Marking.FromSnapshot.{mark_is, is_mark, no_moved, no_spent, thing_at, piece_below, markable_piece, markable_kept, markable_alive, closed_markable}
 use Rattle.cycle_pauses.specs.Marking.MarkedOut.{IsMarkedOut}
 
-module _ (config : Config) (memory : Word → ℕ) (graph : Graph) (asking : ℕ → Asking) (r : Represents config memory graph asking) (on : memory Phase ≡ 1) where
-  abbrev n : Word → ℕ
-  n = final_marked config memory
+module _ (config : Config) (memory : Word → ℕ) (graph : Graph) (asking : ℕ → Asking) (represents : Represents config memory graph asking) (on : memory Phase ≡ 1) where
+  abbrev now : Word → ℕ
+  now = final_marked config memory
 
   calm : memory Cset ≡ 0
-  calm = r.shared.phased.cset_is (omega (arith, on))
+  calm = represents.shared.phased.cset_is (omega (arith, on))
 
   abbrev out : ℕ → Bool
   out = dead_in config memory
 
   abbrev pub plot : Plot
-  plot = freed_block config out r.block
+  plot = freed_block config out represents.block
 
   -- the region of an object is not dead
-  alive : (address : ℕ) → IsMarkable r.block address → out (region_with config address) ≡ false
-  alive = markable_alive config memory graph asking r calm on
+  alive : (address : ℕ) → IsMarkable represents.block address → out (region_with config address) ≡ false
+  alive = markable_alive config memory graph asking represents calm on
 
   -- the dead regions are freed of pieces that lie apart
-  some : (address : ℕ) (piece : Block) → r.block address ≡ Some piece → 1 ≤ words_of piece
-  some = some_words config (λ q. memory (Top q)) r.block r.shared.parsable r.shared.owned.rooms
+  some : (address : ℕ) (piece : Block) → represents.block address ≡ Some piece → 1 ≤ words_of piece
+  some = some_words config (λ region. memory (Top region)) represents.block represents.shared.parsable represents.shared.owned.rooms
 
   -- a piece that is left, and one of a region that is not dead
-  left : (address : ℕ) (piece : Block) → plot address ≡ Some piece → (out (region_with config address) ≡ false) × (r.block address ≡ Some piece)
-  left = freed.piece_was config out r.block
+  left : (address : ℕ) (piece : Block) → plot address ≡ Some piece → (out (region_with config address) ≡ false) × (represents.block address ≡ Some piece)
+  left = freed.piece_was config out represents.block
 
-  stays : (address : ℕ) → out (region_with config address) ≡ false → plot address ≡ r.block address
-  stays = freed.piece_stays config out r.block
+  stays : (address : ℕ) → out (region_with config address) ≡ false → plot address ≡ represents.block address
+  stays = freed.piece_stays config out represents.block
 
-  thing_stays : (address refs nums : ℕ) (name : Name) → r.block address ≡ Some (thing name refs nums) → plot address ≡ Some (thing name refs nums)
+  thing_stays : (address refs nums : ℕ) (name : Name) → represents.block address ≡ Some (thing name refs nums) → plot address ≡ Some (thing name refs nums)
   thing_stays address refs nums name is = stays address (alive address (IsMarkable.object name refs nums is)) ∙ is
 
-  promised_stays : (address seat words : ℕ) → r.block address ≡ Some (promised seat words) → plot address ≡ Some (promised seat words)
+  promised_stays : (address seat words : ℕ) → represents.block address ≡ Some (promised seat words) → plot address ≡ Some (promised seat words)
   promised_stays address seat words is = stays address (alive address (IsMarkable.to_come seat words is)) ∙ is
 
-  names_stay : (address : ℕ) (name : Name) → name_at (r.block address) ≡ Some name → name_at (plot address) ≡ Some name
-  names_stay address name is = let piece = thing_at config memory graph asking r calm address name is in ap name_at (thing_stays address piece.0 piece.1 name piece.2)
+  names_stay : (address : ℕ) (name : Name) → name_at (represents.block address) ≡ Some name → name_at (plot address) ≡ Some name
+  names_stay address name is = let piece = thing_at config memory graph asking represents calm address name is in ap name_at (thing_stays address piece.0 piece.1 name piece.2)
 
-  top_stays : (region : ℕ) → out region ≡ false → n (Top region) ≡ memory (Top region)
+  top_stays : (region : ℕ) → out region ≡ false → now (Top region) ≡ memory (Top region)
   top_stays = freed.top_stays config out (closed config memory)
 
-  objects_again : AreObjects (λ a. memory (Heap a)) plot graph.object
+  objects_again : AreObjects (λ address. memory (Heap address)) plot graph.object
   objects_again = record {
     each = λ a refs nums name is.
-        let o = r.shared.contents.objects.each a refs nums name (left a (thing name refs nums) is).1 in
-        (o.0, o.1, object_reads (λ x. memory (Heap x)) (λ x. memory (Heap x)) r.block plot a refs nums name o.0 (λ k below. refl) names_stay o.2);
+        let o = represents.shared.contents.objects.each a refs nums name (left a (thing name refs nums) is).1 in
+        (o.0, o.1, object_reads (λ address. memory (Heap address)) (λ address. memory (Heap address)) represents.block plot a refs nums name o.0 (λ k below. refl) names_stay o.2);
     once = λ a b refs nums more_refs more_nums name is_a is_b.
-        r.shared.contents.objects.once a b refs nums more_refs more_nums name (left a (thing name refs nums) is_a).1 (left b (thing name more_refs more_nums) is_b).1;
+        represents.shared.contents.objects.once a b refs nums more_refs more_nums name (left a (thing name refs nums) is_a).1 (left b (thing name more_refs more_nums) is_b).1;
   }
 
   -- no seat has a region to itself
   abbrev owner : ℕ → Option ℕ
   owner region = None
 
-  free_again : IsFreeWord config (n Free) (λ q. n (Top q)) owner
-  free_again = freed.free_again config out (closed config memory) r.block r.shared.parsable.plotted some r.ghost.owner owner r.shared.owned.free_word (λ q gone. refl) (λ q none. refl)
+  free_again : IsFreeWord config (now Free) (λ region. now (Top region)) owner
+  free_again = freed.free_again config out (closed config memory) represents.block represents.shared.parsable.plotted some represents.ghost.owner owner represents.shared.owned.free_word (λ q gone. refl) (λ q none. refl)
 
   -- the region that is shared is not dead, ..
-  share_again : ShareIsOpen config (memory Share) (n Free) (memory Cset) owner
+  share_again : ShareIsOpen config (memory Share) (now Free) (memory Cset) owner
   share_again q is =
-      let was = r.shared.owned.shared_one q is in
+      let was = represents.shared.owned.shared_one q is in
       record {
         within = was.within;
         in_use = λ free. ⊎_elim was.in_use (λ (gone : out q ≡ true). true≢false (sym gone ∙ shared_alive config memory q is)) (freed.free_was config out (closed config memory) q was.within free);
@@ -97,17 +97,17 @@ module _ (config : Config) (memory : Word → ℕ) (graph : Graph) (asking : ℕ
 
   -- .. nor is one where a buffer ends, and so room stays.
   module _ (no_more : HasNoMoreSeats config memory) where
-    buffer_alive : (seat : ℕ) (some_buffer : memory (Current seat) ≢ 0) → out (r.shared.owned.buffers.each seat some_buffer).region ≡ false
+    buffer_alive : (seat : ℕ) (some_buffer : memory (Current seat) ≢ 0) → out (represents.shared.owned.buffers.each seat some_buffer).region ≡ false
     buffer_alive seat some_buffer =
-        let b = r.shared.owned.buffers.each seat some_buffer in
-        current_alive config memory no_more seat b.region (some_buffer, buffer_ends config (λ q. memory (Top q)) r.block seat (memory (Current seat)) b (r.shared.parsable.plotted.tops b.region b.within))
+        let b = represents.shared.owned.buffers.each seat some_buffer in
+        current_alive config memory no_more seat b.region (some_buffer, buffer_ends config (λ region. memory (Top region)) represents.block seat (memory (Current seat)) b (represents.shared.parsable.plotted.tops b.region b.within))
 
-    room_alive : (address seat words : ℕ) → r.block address ≡ Some (spare seat words) → out (region_with config address) ≡ false
+    room_alive : (address seat words : ℕ) → represents.block address ≡ Some (spare seat words) → out (region_with config address) ≡ false
     room_alive address seat words is =
-        let own = r.shared.owned.buffers.spares address seat words is in
-        let long = r.shared.owned.rooms.spares address seat words is in
-        let used = r.shared.parsable.plotted.in_use address (spare seat words) is in
-        let most = r.shared.parsable.plotted.tops used.region used.within in
+        let own = represents.shared.owned.buffers.spares address seat words is in
+        let long = represents.shared.owned.rooms.spares address seat words is in
+        let used = represents.shared.parsable.plotted.in_use address (spare seat words) is in
+        let most = represents.shared.parsable.plotted.tops used.region used.within in
         let low = used.from_base in
         let high = used.to_top in
         let end = own.1 in
@@ -115,122 +115,122 @@ module _ (config : Config) (memory : Word → ℕ) (graph : Graph) (asking : ℕ
         ap out (regions_tile.of_no_other config used.region address (record { from = low; before = omega (arith, high, most, long) }))
         ∙ current_alive config memory no_more seat used.region (some_buffer, record { from = omega (arith, low, end, long); before = omega (arith, high, most, end, long) })
 
-    same_room : SameRoom r.block plot
+    same_room : SameRoom represents.block plot
     same_room = record {
-      stays = λ a seat x of is. let free = only_spares r.block r.none r.uncarved a seat x is of in stays a (room_alive a seat free.0 (is ∙ ap Some free.1)) ∙ is;
+      stays = λ address seat piece of is. let free = only_spares represents.block represents.none represents.uncarved address seat piece is of in stays address (room_alive address seat free.0 (is ∙ ap Some free.1)) ∙ is;
       came = λ a seat x of is. (left a x is).1;
     }
 
-    owned_again : AreOwned config (λ q. n (Top q)) (memory Share) (n Free) (memory Cset) (λ s. memory (Current s)) plot owner
+    owned_again : AreOwned config (λ region. now (Top region)) (memory Share) (now Free) (memory Cset) (λ seat. memory (Current seat)) plot owner
     owned_again = record {
       free_word = free_again;
       shared_one = share_again;
-      rooms = rooms_stay config r.block plot same_room r.shared.owned.rooms;
-      buffers = buffers_stay config (λ q. memory (Top q)) (λ q. n (Top q)) (λ s. memory (Current s)) r.block plot same_room r.shared.owned.buffers
-          (λ seat some_buffer. (let same = top_stays (r.shared.owned.buffers.each seat some_buffer).region (buffer_alive seat some_buffer) in omega (arith, same)));
-      outside = r.shared.owned.outside;
+      rooms = rooms_stay config represents.block plot same_room represents.shared.owned.rooms;
+      buffers = buffers_stay config (λ region. memory (Top region)) (λ region. now (Top region)) (λ seat. memory (Current seat)) represents.block plot same_room represents.shared.owned.buffers
+          (λ seat some_buffer. (let same = top_stays (represents.shared.owned.buffers.each seat some_buffer).region (buffer_alive seat some_buffer) in omega (arith, same)));
+      outside = represents.shared.owned.outside;
     }
 
   -- What is marked then is an object, and each object is marked or new.
-  tams_stays : (region : ℕ) → out region ≡ false → n (Tams region) ≡ memory (Tams region)
+  tams_stays : (region : ℕ) → out region ≡ false → now (Tams region) ≡ memory (Tams region)
   tams_stays = freed.tams_stays config out (closed config memory)
 
-  was_markable : (address : ℕ) → IsMarkable plot address → IsMarkable r.block address
+  was_markable : (address : ℕ) → IsMarkable plot address → IsMarkable represents.block address
   was_markable address (IsMarkable.object name refs nums is) = IsMarkable.object name refs nums (left address (thing name refs nums) is).1
   was_markable address (IsMarkable.to_come seat words is) = IsMarkable.to_come seat words (left address (promised seat words) is).1
 
-  still_markable : (address : ℕ) → IsMarkable r.block address → IsMarkable plot address
+  still_markable : (address : ℕ) → IsMarkable represents.block address → IsMarkable plot address
   still_markable address (IsMarkable.object name refs nums is) = IsMarkable.object name refs nums (thing_stays address refs nums name is)
   still_markable address (IsMarkable.to_come seat words is) = IsMarkable.to_come seat words (promised_stays address seat words is)
 
-  black_or_young : (address : ℕ) → IsMarkable r.block address → HasMark config (λ k. n (Black k)) address ⊎ IsYoung config (λ q. n (Tams q)) address
+  black_or_young : (address : ℕ) → IsMarkable represents.block address → HasMark config (λ number. now (Black number)) address ⊎ IsYoung config (λ region. now (Tams region)) address
   black_or_young address is = ⊎_elim
-      (λ (black : is_black config (closed config memory) address ≡ true). inl (mark_is config (λ k. n (Black k)) address black).1)
+      (λ (black : is_black config (closed config memory) address ≡ true). inl (mark_is config (λ number. now (Black number)) address black).1)
       (λ (fresh : IsNew config (closed config memory) address).
-      let piece = markable_piece config memory graph asking r calm address is in
-      let at = piece_below config memory graph asking r calm address piece.0 piece.1 in
+      let piece = markable_piece config memory graph asking represents calm address is in
+      let at = piece_below config memory graph asking represents calm address piece.0 piece.1 in
       let same = tams_stays (region_with config address) (alive address is) in
       inr (omega (arith, fresh, same, at.1)))
-      (markable_kept config memory graph asking r calm on address is)
+      (markable_kept config memory graph asking represents calm on address is)
 
-  floors_again : (region : ℕ) → region < config.regions → n (Tams region) ≤ n (Top region)
+  floors_again : (region : ℕ) → region < config.regions → now (Tams region) ≤ now (Top region)
   floors_again region inside = ⊎_elim
       (λ (gone : out region ≡ true). (let none = freed.tams_out config out (closed config memory) region gone in omega (arith, none)))
       (λ (other : out region ≡ false).
       let top = top_stays region other in
       let tams = tams_stays region other in
-      let same = (r.shared.marked.marking on).tams_are region inside in
-      let floor = r.shared.marked.floors region inside in
+      let same = (represents.shared.marked.marking on).tams_are region inside in
+      let floor = represents.shared.marked.floors region inside in
       omega (arith, top, tams, same, floor))
       (cases_Bool (out region))
 
   -- room lies where what is allocated is new
-  young_again : AreYoungRooms config (λ q. n (Tams q)) plot
+  young_again : AreYoungRooms config (λ region. now (Tams region)) plot
   young_again a seat x is room =
       let was = left a x is in
-      let at = piece_below config memory graph asking r calm a x was.1 in
+      let at = piece_below config memory graph asking represents calm a x was.1 in
       let tams = tams_stays (region_with config a) was.0 in
-      let same = (r.shared.marked.marking on).tams_are (region_with config a) at.0 in
-      let above = (r.shared.marked.marking on).young a seat x was.1 room in
+      let same = (represents.shared.marked.marking on).tams_are (region_with config a) at.0 in
+      let above = (represents.shared.marked.marking on).young a seat x was.1 room in
       omega (arith, above, tams, same)
 
   -- dead objects lie below the tops at mark start
-  deads_again : (address words : ℕ) → plot address ≡ Some (dead words) → IsYoung config (λ q. n (Tams q)) address → ⊥
+  deads_again : (address words : ℕ) → plot address ≡ Some (dead words) → IsYoung config (λ region. now (Tams region)) address → ⊥
   deads_again address words is young =
       let was = left address (dead words) is in
-      let at = piece_below config memory graph asking r calm address (dead words) was.1 in
+      let at = piece_below config memory graph asking represents calm address (dead words) was.1 in
       let tams = tams_stays (region_with config address) was.0 in
-      let same = (r.shared.marked.marking on).tams_are (region_with config address) at.0 in
-      (r.shared.marked.marking on).deads address words was.1 (omega (arith, young, tams, same))
+      let same = (represents.shared.marked.marking on).tams_are (region_with config address) at.0 in
+      (represents.shared.marked.marking on).deads address words was.1 (omega (arith, young, tams, same))
 
   -- what is asked and promised stays
-  asked_again : (t : ℕ) → IsAsked memory r.block graph.count t (asking t) → IsAsked n plot graph.count t (asking t)
-  asked_again t asked = asked_stays memory n r.block plot graph.count t refl refl (λ a words k is below. refl) (λ a words is. promised_stays a t words is) (λ a words is. (left a (promised t words) is).1) (asking t) asked
+  asked_again : (seat : ℕ) → IsAsked memory represents.block graph.count seat (asking seat) → IsAsked now plot graph.count seat (asking seat)
+  asked_again seat asked = asked_stays memory now represents.block plot graph.count seat refl refl (λ a words k is below. refl) (λ address words is. promised_stays address seat words is) (λ a words is. (left a (promised seat words) is).1) (asking seat) asked
 
   abbrev pub ghost : Ghost
   ghost = record {
     owner = owner;
     snapshot = no_snapshot;
-    recording = r.ghost.recording;
-    scanning = r.ghost.scanning;
-    copying = r.ghost.copying;
-    working = r.ghost.working;
+    recording = represents.ghost.recording;
+    scanning = represents.ghost.scanning;
+    copying = represents.ghost.copying;
+    working = represents.ghost.working;
   }
 
   -- so marking has ended
-  pub marked_out : HasNoMoreSeats config memory → IsMarkedOut config n plot ghost graph asking
+  pub marked_out : HasNoMoreSeats config memory → IsMarkedOut config now plot ghost graph asking
   marked_out no_more = record {
     phase_is = on;
     cset_is = calm;
-    evac_is = r.shared.phased.evac_is (λ evacuates. omega (arith, on, evacuates));
-    parsable = freed.parsable_again config out (closed config memory) r.block r.shared.parsable.plotted some r.shared.parsable;
-    contents = record { objects = objects_again; given = r.shared.contents.given };
+    evac_is = represents.shared.phased.evac_is (λ evacuates. omega (arith, on, evacuates));
+    parsable = freed.parsable_again config out (closed config memory) represents.block represents.shared.parsable.plotted some represents.shared.parsable;
+    contents = record { objects = objects_again; given = represents.shared.contents.given };
     owned = owned_again no_more;
     nobodys = λ q. refl;
     seated = no_more;
-    unwritten = freed.unwritten_again config out (closed config memory) r.block r.shared.parsable.plotted some r.shared.unwritten;
+    unwritten = freed.unwritten_again config out (closed config memory) represents.block represents.shared.parsable.plotted some represents.shared.unwritten;
     unmoved = record {
-      no_moved = λ a refs nums to name is. no_moved config memory graph asking r calm a refs nums to name (left a (moved name refs nums to) is).1;
-      no_spent = λ a words to is. no_spent config memory graph asking r calm a words to (left a (spent words to) is).1;
-      no_hand = λ a seat words is. r.none a seat words (left a (hand seat words) is).1;
-      no_carved = λ a seat words is. r.uncarved a seat words (left a (carved seat words) is).1;
+      no_moved = λ address refs nums to name is. no_moved config memory graph asking represents calm address refs nums to name (left address (moved name refs nums to) is).1;
+      no_spent = λ address words to is. no_spent config memory graph asking represents calm address words to (left address (spent words to) is).1;
+      no_hand = λ address seat words is. represents.none address seat words (left address (hand seat words) is).1;
+      no_carved = λ address seat words is. represents.uncarved address seat words (left address (carved seat words) is).1;
     };
     marked = record {
-      objects = λ a is. black_or_young a (was_markable a is);
-      only = λ a high mark. still_markable a (closed_markable config memory graph asking r calm on a (is_mark config (λ k. n (Black k)) a high mark));
+      objects = λ address is. black_or_young address (was_markable address is);
+      only = λ address high mark. still_markable address (closed_markable config memory graph asking represents calm on address (is_mark config (λ number. now (Black number)) address high mark));
       floors = floors_again;
       deads = deads_again;
       young = young_again;
     };
     snapshot_is = refl;
-    unmarking = record { records_none = r.unmarking.records_none; scans_none = r.unmarking.scans_none };
-    uncopying = record { copies_none = r.uncopying.copies_none; works_none = r.uncopying.works_none };
-    roots = λ t i inside few. points_stay r.block plot names_stay (memory (Root t i)) (graph.root (t + 1) i) (r.roots t i inside few);
-    pinned = pins_stay config (memory Cset) (memory Evac) (memory Cset) (memory Evac) r.block plot (λ t i. memory (Pin t i)) graph.pin
-        (λ a refs nums name target. record { piece = thing_stays a refs nums name target.piece; safe = target.safe }) r.shared.pinned;
-    asked = λ t inside. asked_again t (r.asked t inside);
-    heard = r.heard;
-    promised_to = λ a seat words is. r.promised_to a seat words (left a (promised seat words) is).1;
-    no_more = r.no_more;
-    no_more_pins = r.no_more_pins;
+    unmarking = record { records_none = represents.unmarking.records_none; scans_none = represents.unmarking.scans_none };
+    uncopying = record { copies_none = represents.uncopying.copies_none; works_none = represents.uncopying.works_none };
+    roots = λ mutator index inside few. points_stay represents.block plot names_stay (memory (Root mutator index)) (graph.root (mutator + 1) index) (represents.roots mutator index inside few);
+    pinned = pins_stay config (memory Cset) (memory Evac) (memory Cset) (memory Evac) represents.block plot (λ mutator slot. memory (Pin mutator slot)) graph.pin
+        (λ address refs nums name target. record { piece = thing_stays address refs nums name target.piece; safe = target.safe }) represents.shared.pinned;
+    asked = λ seat inside. asked_again seat (represents.asked seat inside);
+    heard = represents.heard;
+    promised_to = λ a seat words is. represents.promised_to a seat words (left a (promised seat words) is).1;
+    no_more = represents.no_more;
+    no_more_pins = represents.no_more_pins;
   }

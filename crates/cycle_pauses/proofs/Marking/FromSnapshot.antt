@@ -39,80 +39,80 @@ is_mark config marks address high is =
     and_from (nat_le config.region_words address) (bit_at (marks (mark_word config address)) (mark_bit config address) == 1) (le-leb config.region_words address high) (eq-eqb (bit_at (marks (mark_word config address)) (mark_bit config address)) 1 is)
 
 -- While there is no collection set, nothing has moved.
-module _ (config : Config) (memory : Word → ℕ) (graph : Graph) (asking : ℕ → Asking) (r : Represents config memory graph asking) (calm : memory Cset ≡ 0) where
+module _ (config : Config) (memory : Word → ℕ) (graph : Graph) (asking : ℕ → Asking) (represents : Represents config memory graph asking) (calm : memory Cset ≡ 0) where
   -- the same words by copies
   abbrev copies : RepresentsByCopies config memory graph asking
-  copies = by_copies config memory graph asking r
+  copies = by_copies config memory graph asking represents
 
   uncollected : (address : ℕ) → IsCollected config (memory Cset) address → ⊥
   uncollected address is = none_in_0 config address (subst (λ set. IsCollected config set address) calm is)
 
-  pub no_moved : (address refs nums to : ℕ) (name : Name) → r.block address ≡ Some (moved name refs nums to) → ⊥
-  no_moved address refs nums to name is = uncollected address (r.shared.evacuated.moved.moveds address refs nums to name is).inside
+  pub no_moved : (address refs nums to : ℕ) (name : Name) → represents.block address ≡ Some (moved name refs nums to) → ⊥
+  no_moved address refs nums to name is = uncollected address (represents.shared.evacuated.moved.moveds address refs nums to name is).inside
 
-  pub no_spent : (address words to : ℕ) → r.block address ≡ Some (spent words to) → ⊥
-  no_spent address words to is = uncollected address (r.shared.evacuated.moved.spents address words to is).inside
+  pub no_spent : (address words to : ℕ) → represents.block address ≡ Some (spent words to) → ⊥
+  no_spent address words to is = uncollected address (represents.shared.evacuated.moved.spents address words to is).inside
 
   -- so what stands for a name is an object
-  pub thing_at : (address : ℕ) (name : Name) → name_at (r.block address) ≡ Some name → (refs : ℕ) × (nums : ℕ) × (r.block address ≡ Some (thing name refs nums))
-  thing_at address name is = named_thing (r.block address) name (λ refs nums to. no_moved address refs nums to name) is
+  pub thing_at : (address : ℕ) (name : Name) → name_at (represents.block address) ≡ Some name → (refs : ℕ) × (nums : ℕ) × (represents.block address ≡ Some (thing name refs nums))
+  thing_at address name is = named_thing (represents.block address) name (λ refs nums to. no_moved address refs nums to name) is
 
   -- a piece lies in the part of its region that is in use, and in the heap
-  pub piece_below : (address : ℕ) (piece : Block) → r.block address ≡ Some piece
+  pub piece_below : (address : ℕ) (piece : Block) → represents.block address ≡ Some piece
       → (region_with config address < config.regions) × (base_of config (region_with config address) ≤ address) × (address < base_of config (region_with config address) + memory (Top (region_with config address)))
   piece_below address piece is =
-      let some = some_words config (λ q. memory (Top q)) r.block r.shared.parsable r.shared.owned.rooms address piece is in
-      let at = below_top config (λ q. memory (Top q)) r.block r.shared.parsable.plotted address piece is (omega (arith, some)) in
+      let some = some_words config (λ region. memory (Top region)) represents.block represents.shared.parsable represents.shared.owned.rooms address piece is in
+      let at = below_top config (λ region. memory (Top region)) represents.block represents.shared.parsable.plotted address piece is (omega (arith, some)) in
       (at.0, at.1, omega (arith, at.2, some))
 
-  pub piece_above : (address : ℕ) (piece : Block) → r.block address ≡ Some piece → config.region_words ≤ address
-  piece_above address piece is = (piece_inside config (λ q. memory (Top q)) r.block r.shared.parsable.plotted address piece is).0
+  pub piece_above : (address : ℕ) (piece : Block) → represents.block address ≡ Some piece → config.region_words ≤ address
+  piece_above address piece is = (piece_inside config (λ region. memory (Top region)) represents.block represents.shared.parsable.plotted address piece is).0
 
   -- what can be marked is a piece
-  pub markable_piece : (address : ℕ) → IsMarkable r.block address → (piece : Block) × (r.block address ≡ Some piece)
+  pub markable_piece : (address : ℕ) → IsMarkable represents.block address → (piece : Block) × (represents.block address ≡ Some piece)
   markable_piece address (IsMarkable.object name refs nums is) = (thing name refs nums, is)
   markable_piece address (IsMarkable.to_come seat words is) = (promised seat words, is)
 
   -- what is an object of the larger graph can be marked
-  pub live_markable : (address refs nums : ℕ) (name : Name) → live config memory graph asking copies address ≡ Some (thing name refs nums) → IsMarkable r.block address
+  pub live_markable : (address refs nums : ℕ) (name : Name) → live config memory graph asking copies address ≡ Some (thing name refs nums) → IsMarkable represents.block address
   live_markable address refs nums name is = by_kind (kind_at config memory graph asking copies address refs nums name is)
     where
-      by_kind : Kind config memory graph asking copies address refs nums name → IsMarkable r.block address
+      by_kind : Kind config memory graph asking copies address refs nums name → IsMarkable represents.block address
       by_kind (is_current now) = now
       by_kind (is_old to was) = absurd (uncollected address was.inside)
 
   -- what roots and answers lead to can be marked
-  pub reached_markable : (address : ℕ) → CanBeReached config memory address → IsMarkable r.block address
+  pub reached_markable : (address : ℕ) → CanBeReached config memory address → IsMarkable represents.block address
   reached_markable address held = held_current config memory graph asking copies address held
 
   -- on the larger plot it is an object, and nothing else is
-  still_markable : (address : ℕ) → IsMarkable r.block address → IsMarkable (live config memory graph asking copies) address
+  still_markable : (address : ℕ) → IsMarkable represents.block address → IsMarkable (live config memory graph asking copies) address
   still_markable address (IsMarkable.object name refs nums is) = IsMarkable.object name refs nums (live_at config memory graph asking copies address (thing name refs nums) is)
   still_markable address (IsMarkable.to_come seat words is) = IsMarkable.object _ _ _ (live_at config memory graph asking copies address (promised seat words) is)
 
-  pub was_markable : (address : ℕ) → IsMarkable (live config memory graph asking copies) address → IsMarkable r.block address
+  pub was_markable : (address : ℕ) → IsMarkable (live config memory graph asking copies) address → IsMarkable represents.block address
   was_markable address (IsMarkable.object name refs nums is) = live_markable address refs nums name is
   was_markable address (IsMarkable.to_come seat words is) = absurd (live_unpromised config memory graph asking copies address seat words is)
 
-  marks_still : (marks : ℕ → ℕ) → AreMarks config marks r.block → AreMarks config marks (live config memory graph asking copies)
+  marks_still : (marks : ℕ → ℕ) → AreMarks config marks represents.block → AreMarks config marks (live config memory graph asking copies)
   marks_still marks are = record { small = are.small; of_objects = λ q k below set. still_markable (address_at config q k) (are.of_objects q k below set) }
 
   module _ (on : memory Phase ≡ 1) where
-    abbrev s : Snapshot
-    s = r.ghost.snapshot
+    abbrev snapshot : Snapshot
+    snapshot = represents.ghost.snapshot
 
-    older_of : (address refs nums : ℕ) (name : Name) → IsMarkable r.block address → live config memory graph asking copies address ≡ Some (thing name refs nums)
-        → (s.block address ≡ Some (thing name refs nums)) ⊎ ((s.starts address ≡ true) ⊎ IsYoung config s.top address)
-    older_of address refs nums name (IsMarkable.object n more less here) is =
-        (r.shared.marked.marking on).older address refs nums name (here ∙ sym (live_at config memory graph asking copies address (thing n more less) here) ∙ is)
-    older_of address refs nums name (IsMarkable.to_come seat words here) is = inr (inl ((r.shared.marked.marking on).promises address seat words here))
+    older_of : (address refs nums : ℕ) (name : Name) → IsMarkable represents.block address → live config memory graph asking copies address ≡ Some (thing name refs nums)
+        → (snapshot.block address ≡ Some (thing name refs nums)) ⊎ ((snapshot.starts address ≡ true) ⊎ IsYoung config snapshot.top address)
+    older_of address refs nums name (IsMarkable.object other_name more less here) is =
+        (represents.shared.marked.marking on).older address refs nums name (here ∙ sym (live_at config memory graph asking copies address (thing other_name more less) here) ∙ is)
+    older_of address refs nums name (IsMarkable.to_come seat words here) is = inr (inl ((represents.shared.marked.marking on).promises address seat words here))
 
     pub is_marking : IsMarking config memory (live config memory graph asking copies)
     is_marking =
-        let was = r.shared.marked in
+        let was = represents.shared.marked in
         let now = was.marking on in
         record {
-          ghost = r.ghost;
+          ghost = represents.ghost;
           object = (with_promised graph (promises_of config graph asking)).object;
           marked = record {
             empty = λ other. absurd (other refl);
@@ -122,19 +122,19 @@ module _ (config : Config) (memory : Word → ℕ) (graph : Graph) (asking : ℕ
             kept = λ a refs nums name is. live_at config memory graph asking copies a (thing name refs nums) (was.kept a refs nums name is);
             floors = was.floors;
             marking = λ _. record {
-              older = λ a refs nums name is. older_of a refs nums name (live_markable a refs nums name is) is;
+              older = λ address refs nums name is. older_of address refs nums name (live_markable address refs nums name is) is;
               promises = λ a seat words is. absurd (live_unpromised config memory graph asking copies a seat words is);
               deads = λ a words is. now.deads a words (live_dead config memory graph asking copies a words is);
               young = λ a seat x is room. now.young a seat x (live_room config memory graph asking copies a seat x is room) room;
               tams_are = now.tams_are;
-              greys = marks_still (λ q. memory (Grey q)) now.greys;
-              blacks = marks_still (λ q. memory (Black q)) now.blacks;
-              entries = record { few = now.entries.few; of_objects = λ t k inside below. still_markable (memory (Buffer t k)) (now.entries.of_objects t k inside below) };
+              greys = marks_still (λ number. memory (Grey number)) now.greys;
+              blacks = marks_still (λ number. memory (Black number)) now.blacks;
+              entries = record { few = now.entries.few; of_objects = λ mutator entry inside below. still_markable (memory (Buffer mutator entry)) (now.entries.of_objects mutator entry inside below) };
             };
           };
-          unmarking = r.unmarking;
+          unmarking = represents.unmarking;
           objects = record {
-            each = λ a refs nums name is. object_at config memory graph asking copies a refs nums name (live_markable a refs nums name is) is;
+            each = λ address refs nums name is. object_at config memory graph asking copies address refs nums name (live_markable address refs nums name is) is;
             once = λ a b refs nums more_refs more_nums name is_a is_b.
                 once_each config memory graph asking copies a b refs nums more_refs more_nums name (live_markable a refs nums name is_a) (live_markable b more_refs more_nums name is_b) is_a is_b;
           };
@@ -142,21 +142,21 @@ module _ (config : Config) (memory : Word → ℕ) (graph : Graph) (asking : ℕ
         }
 
     -- so once the marks are closed each of them is kept, and lies in no dead region; and what is black can be marked
-    abbrev holds : HoldsBy config memory (live config memory graph asking copies) r.ghost.owner (promises_of config graph asking) graph
+    abbrev holds : HoldsBy config memory (live config memory graph asking copies) represents.ghost.owner (promises_of config graph asking) graph
     holds = holds_by config memory graph asking copies
 
-    pub markable_kept : (address : ℕ) → IsMarkable r.block address → IsKept config (closed config memory) address
+    pub markable_kept : (address : ℕ) → IsMarkable represents.block address → IsKept config (closed config memory) address
     markable_kept address is =
-        object_kept config memory (live config memory graph asking copies) r.ghost.owner (promises_of config graph asking) graph holds is_marking address
-        (markable_object config memory (live config memory graph asking copies) r.ghost.owner (promises_of config graph asking) graph holds is_marking address (still_markable address is))
+        object_kept config memory (live config memory graph asking copies) represents.ghost.owner (promises_of config graph asking) graph holds is_marking address
+        (markable_object config memory (live config memory graph asking copies) represents.ghost.owner (promises_of config graph asking) graph holds is_marking address (still_markable address is))
 
-    pub markable_alive : (address : ℕ) → IsMarkable r.block address → dead_in config memory (region_with config address) ≡ false
+    pub markable_alive : (address : ℕ) → IsMarkable represents.block address → dead_in config memory (region_with config address) ≡ false
     markable_alive address is =
-        object_alive config memory (live config memory graph asking copies) r.ghost.owner (promises_of config graph asking) graph holds is_marking address
-        (markable_object config memory (live config memory graph asking copies) r.ghost.owner (promises_of config graph asking) graph holds is_marking address (still_markable address is))
+        object_alive config memory (live config memory graph asking copies) represents.ghost.owner (promises_of config graph asking) graph holds is_marking address
+        (markable_object config memory (live config memory graph asking copies) represents.ghost.owner (promises_of config graph asking) graph holds is_marking address (still_markable address is))
 
-    pub closed_markable : (address : ℕ) → is_black config (closed config memory) address ≡ true → IsMarkable r.block address
+    pub closed_markable : (address : ℕ) → is_black config (closed config memory) address ≡ true → IsMarkable represents.block address
     closed_markable address is = was_markable address (⊎_elim
-        (λ (was : is_black config memory address ≡ true). black_markable config memory (live config memory graph asking copies) r.ghost.owner (promises_of config graph asking) graph holds is_marking address was)
-        (λ (traced : IsTraced config memory address). traced_markable config memory (live config memory graph asking copies) r.ghost.owner (promises_of config graph asking) graph holds is_marking address traced)
-        (((are_closed config memory (live config memory graph asking copies) r.ghost.owner (promises_of config graph asking) graph holds is_marking).black address).0 is))
+        (λ (was : is_black config memory address ≡ true). black_markable config memory (live config memory graph asking copies) represents.ghost.owner (promises_of config graph asking) graph holds is_marking address was)
+        (λ (traced : IsTraced config memory address). traced_markable config memory (live config memory graph asking copies) represents.ghost.owner (promises_of config graph asking) graph holds is_marking address traced)
+        (((are_closed config memory (live config memory graph asking copies) represents.ghost.owner (promises_of config graph asking) graph holds is_marking).black address).0 is))

@@ -42,14 +42,14 @@ bits_none test first (suc k) none =
     ap (λ b. one b * 2 ^ k + bits_of test first k) (none k (omega arith)) ∙ omega (arith, rest)
 
 -- addresses of the heap have no bits behind the words of marks
-marks_outside : (config : Config) (set : ℕ → Bool) → ((a : ℕ) → config.region_words ≤ a → set a ≡ true → a < heap_end config) → (q : ℕ) → is_word config (Grey q) ≡ false → mark_bits config set q ≡ 0
-marks_outside config set within q other = bits_none set (config.region_words + 64 * q) 64 (λ k below. ⊎_elim
-    (λ (is : set (config.region_words + 64 * q + k) ≡ true).
-    let low = within (config.region_words + 64 * q + k) (omega arith) is in
-    let past : bit_words config ≤ q = ltb-false q (bit_words config) other in
+marks_outside : (config : Config) (set : ℕ → Bool) → ((a : ℕ) → config.region_words ≤ a → set a ≡ true → a < heap_end config) → (number : ℕ) → is_word config (Grey number) ≡ false → mark_bits config set number ≡ 0
+marks_outside config set within number other = bits_none set (config.region_words + 64 * number) 64 (λ k below. ⊎_elim
+    (λ (is : set (config.region_words + 64 * number + k) ≡ true).
+    let low = within (config.region_words + 64 * number + k) (omega arith) is in
+    let past : bit_words config ≤ number = ltb-false number (bit_words config) other in
     absurd (omega (arith, low, past)))
     (λ none. none)
-    (cases_Bool (set (config.region_words + 64 * q + k))))
+    (cases_Bool (set (config.region_words + 64 * number + k))))
 
 -- 0, if a region is freed or not
 pub if_zero : (holds : Bool) (x : ℕ) → x ≡ 0 → (if holds then 0 else x) ≡ 0
@@ -65,9 +65,9 @@ edge_zero config memory region none = (let low = (edges_lie config memory region
 
 -- regions are freed
 pub freed_outside : (config : Config) (out : ℕ → Bool) (memory : Word → ℕ) → IsZeroOutside config memory → IsZeroOutside config (freed config out memory)
-freed_outside config out memory nothing (Top q) other = if_zero (out q) (memory (Top q)) (nothing (Top q) other)
-freed_outside config out memory nothing (Tams q) other = if_zero (out q) (memory (Tams q)) (nothing (Tams q) other)
-freed_outside config out memory nothing (Limit q) other = if_zero (out q) (memory (Limit q)) (nothing (Limit q) other)
+freed_outside config out memory nothing (Top region) other = if_zero (out region) (memory (Top region)) (nothing (Top region) other)
+freed_outside config out memory nothing (Tams region) other = if_zero (out region) (memory (Tams region)) (nothing (Tams region) other)
+freed_outside config out memory nothing (Limit region) other = if_zero (out region) (memory (Limit region)) (nothing (Limit region) other)
 freed_outside config out memory nothing Free other = absurd (true≢false other)
 freed_outside config out memory nothing word other = nothing word other
 
@@ -80,10 +80,10 @@ module _ (config : Config) (memory : Word → ℕ) (block : Plot) (owner : ℕ �
       omega (arith, at.1)
 
   begun_outside : memory Cset ≡ 0 → IsZeroOutside config (marking_begun config memory)
-  begun_outside calm (Grey q) other = marks_outside config (has (held_words config memory)) (root_within calm) q other
-  begun_outside calm (Black q) other = refl
-  begun_outside calm (Tams q) other = edge_zero config memory q (nothing (Top q) other)
-  begun_outside calm (Count t) other = refl
+  begun_outside calm (Grey number) other = marks_outside config (has (held_words config memory)) (root_within calm) number other
+  begun_outside calm (Black number) other = refl
+  begun_outside calm (Tams region) other = edge_zero config memory region (nothing (Top region) other)
+  begun_outside calm (Count mutator) other = refl
   begun_outside calm Claim other = refl
   begun_outside calm Ask other = refl
   begun_outside calm Phase other = absurd (true≢false other)
@@ -95,9 +95,9 @@ module _ (config : Config) (memory : Word → ℕ) (block : Plot) (owner : ℕ �
       omega (arith, at.1)
 
   closed_outside : IsMarking config memory block → IsZeroOutside config (closed config memory)
-  closed_outside marking (Grey q) other = or_zero (memory (Grey q)) (mark_bits config (has (traced_in config memory)) q) (nothing (Grey q) other) (marks_outside config (has (traced_in config memory)) (traced_within marking) q other)
-  closed_outside marking (Black q) other = or_zero (memory (Black q)) (mark_bits config (has (traced_in config memory)) q) (nothing (Black q) other) (marks_outside config (has (traced_in config memory)) (traced_within marking) q other)
-  closed_outside marking (Count t) other = refl
+  closed_outside marking (Grey number) other = or_zero (memory (Grey number)) (mark_bits config (has (traced_in config memory)) number) (nothing (Grey number) other) (marks_outside config (has (traced_in config memory)) (traced_within marking) number other)
+  closed_outside marking (Black number) other = or_zero (memory (Black number)) (mark_bits config (has (traced_in config memory)) number) (nothing (Black number) other) (marks_outside config (has (traced_in config memory)) (traced_within marking) number other)
+  closed_outside marking (Count mutator) other = refl
   closed_outside marking word other = nothing word other
 
   pub final_outside : IsMarking config memory block → IsZeroOutside config (final_marked config memory)

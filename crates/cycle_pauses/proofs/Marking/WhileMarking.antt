@@ -23,8 +23,8 @@ use Rattle.cycle_pauses.proofs.Marking.Beginning.{begun}
 use Rattle.cycle_pauses.proofs.Marking.Ending.{plot, ghost, marked_out}
 
 -- there is no collection set while objects are marked
-calm_at : (config : Config) (memory : Word → ℕ) (graph : Graph) (asking : ℕ → Asking) (r : Represents config memory graph asking) → memory Phase ≡ 1 → memory Cset ≡ 0
-calm_at config memory graph asking r on = r.shared.phased.cset_is (omega (arith, on))
+calm_at : (config : Config) (memory : Word → ℕ) (graph : Graph) (asking : ℕ → Asking) (represents : Represents config memory graph asking) → memory Phase ≡ 1 → memory Cset ≡ 0
+calm_at config memory graph asking represents on = represents.shared.phased.cset_is (omega (arith, on))
 
 pub marking_stands : MarkingStands
 marking_stands c m g asking r on =
@@ -33,10 +33,10 @@ marking_stands c m g asking r on =
 pub reachable_are_marked : ReachableAreMarked
 reachable_are_marked c m g asking r on =
     let block : Plot = live c m g asking (by_copies c m g asking r) in
-    let p : Promises = promises_of c g asking in
+    let promises : Promises = promises_of c g asking in
     let holds = holds_by c m g asking (by_copies c m g asking r) in
     let marking = is_marking c m g asking r (calm_at c m g asking r on) on in
-    (block, r.ghost.owner, p, closed_holds c m block r.ghost.owner p g holds marking, closed_through c m block r.ghost.owner p g holds marking)
+    (block, r.ghost.owner, promises, closed_holds c m block r.ghost.owner promises g holds marking, closed_through c m block r.ghost.owner promises g holds marking)
 
 pub beginning_represents : BeginningRepresents
 beginning_represents c m g asking r rests nobody =

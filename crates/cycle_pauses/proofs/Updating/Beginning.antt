@@ -29,89 +29,89 @@ use Rattle.cycle_pauses.proofs.Evacuation.Asked.{asked_stays}
 use Rattle.cycle_words.specs.Updating.Changes.{is_chosen, updating_begun}
 use Rattle.cycle_pauses.specs.Updating.Laws.{UpdatingBegins}
 
-module _ (config : Config) (memory : Word → ℕ) (graph : Graph) (asking : ℕ → Asking) (r : Represents config memory graph asking) (on : memory Phase ≡ 2) (room : is_out_of_room (memory Evac) ≡ false) (claimed : config.regions ≤ memory Claim)
-    (divided : AreDivided config memory r.block) where
-  abbrev n : Word → ℕ
-  n = updating_begun config memory
+module _ (config : Config) (memory : Word → ℕ) (graph : Graph) (asking : ℕ → Asking) (represents : Represents config memory graph asking) (on : memory Phase ≡ 2) (room : is_out_of_room (memory Evac) ≡ false) (claimed : config.regions ≤ memory Claim)
+    (divided : AreDivided config memory represents.block) where
+  abbrev now : Word → ℕ
+  now = updating_begun config memory
 
   -- the ghost state, without a snapshot
   abbrev bare : Ghost
-  bare = record { owner = r.ghost.owner; snapshot = no_snapshot; recording = r.ghost.recording; scanning = r.ghost.scanning; copying = r.ghost.copying; working = r.ghost.working }
+  bare = record { owner = represents.ghost.owner; snapshot = no_snapshot; recording = represents.ghost.recording; scanning = represents.ghost.scanning; copying = represents.ghost.copying; working = represents.ghost.working }
 
   -- no object has its current copy in the set
-  outside : (address refs nums : ℕ) (name : Name) → r.block address ≡ Some (thing name refs nums) → IsCollected config (memory Cset) address → ⊥
-  outside = none_is_left config (record { memory = memory; block = r.block; ghost = r.ghost; graph = graph }) r.shared on r.uncopying.works_none claimed room
+  outside : (address refs nums : ℕ) (name : Name) → represents.block address ≡ Some (thing name refs nums) → IsCollected config (memory Cset) address → ⊥
+  outside = none_is_left config (record { memory = memory; block = represents.block; ghost = represents.ghost; graph = graph }) represents.shared on represents.uncopying.works_none claimed room
 
   -- the limit of a region outside of the set is its edge
-  limit_spared : (region : ℕ) → (IsIn (memory Cset) region → ⊥) → n (Limit region) ≡ edge config memory region
+  limit_spared : (region : ℕ) → (IsIn (memory Cset) region → ⊥) → now (Limit region) ≡ edge config memory region
   limit_spared region away = cond-false (is_chosen memory region) 0 (edge config memory region) (ne_eqb (bit_at (memory Cset) region) 1 away)
 
   -- so objects lie below it, and room lies at or above it
-  below_limit : (address refs nums : ℕ) (name : Name) → r.block address ≡ Some (thing name refs nums) → IsYoung config (λ q. n (Limit q)) address → ⊥
+  below_limit : (address refs nums : ℕ) (name : Name) → represents.block address ≡ Some (thing name refs nums) → IsYoung config (λ region. now (Limit region)) address → ⊥
   below_limit address refs nums name is young =
       let limit = limit_spared (region_with config address) (outside address refs nums name is) in
       divided.others address (thing name refs nums) is refl (omega (arith, young, limit))
 
-  no_higher : (region : ℕ) → n (Limit region) ≤ edge config memory region
+  no_higher : (region : ℕ) → now (Limit region) ≤ edge config memory region
   no_higher region = ⊎_elim
       (λ (chosen : is_chosen memory region ≡ true). (let none = cond-true (is_chosen memory region) 0 (edge config memory region) chosen in omega (arith, none)))
       (λ (spared : is_chosen memory region ≡ false). (let same = cond-false (is_chosen memory region) 0 (edge config memory region) spared in omega (arith, same)))
       (cases_Bool (is_chosen memory region))
 
-  are_updating : IsUpdating config (memory Cset) 0 (λ q. memory (Top q)) (λ q. n (Limit q)) (λ a. memory (Heap a)) r.block r.ghost.scanning
+  are_updating : IsUpdating config (memory Cset) 0 (λ region. memory (Top region)) (λ region. now (Limit region)) (λ address. memory (Heap address)) represents.block represents.ghost.scanning
   are_updating = record {
     outside = outside;
-    renewed = λ a refs nums k name is below. inr (IsToUpdate.unclaimed (below_limit a refs nums name is) (omega arith));
+    renewed = λ address refs nums k name is below. inr (IsToUpdate.unclaimed (below_limit address refs nums name is) (omega arith));
     young = λ a seat x is room. (let above = divided.rooms a seat x is room in let low = no_higher (region_with config a) in omega (arith, above, low));
-    limits = λ q inside. (let low = no_higher q in let edge_low = divided.tops q in omega (arith, low, edge_low));
+    limits = λ region inside. (let low = no_higher region in let edge_low = divided.tops region in omega (arith, low, edge_low));
   }
 
   -- copies stay copies, and what was kept is
   on_still : 2 ≤ memory Phase
   on_still = omega (arith, on)
 
-  still_evacuated : IsEvacuating config 3 (memory Cset) 0 0 (memory Free) (λ q. memory (Top q)) (λ q. memory (Tams q)) (λ a. memory (Heap a)) (λ q. memory (Black q)) r.block r.ghost.owner r.ghost.copying r.ghost.working
+  still_evacuated : IsEvacuating config 3 (memory Cset) 0 0 (memory Free) (λ region. memory (Top region)) (λ region. memory (Tams region)) (λ address. memory (Heap address)) (λ number. memory (Black number)) represents.block represents.ghost.owner represents.ghost.copying represents.ghost.working
   still_evacuated = record {
-    moved = r.shared.evacuated.moved;
-    counted = counted_none config r.ghost.copying r.uncopying.copies_none;
-    aside = r.shared.evacuated.aside;
-    kept = λ later. r.shared.evacuated.kept on_still;
+    moved = represents.shared.evacuated.moved;
+    counted = counted_none config represents.ghost.copying represents.uncopying.copies_none;
+    aside = represents.shared.evacuated.aside;
+    kept = λ later. represents.shared.evacuated.kept on_still;
     units = λ two. absurd (omega (arith, two));
   }
 
   -- what could be used can be
-  usable_still : (word : ℕ) → IsUsable config (memory Cset) (memory Evac) r.block word → IsUsable config (memory Cset) 0 r.block word
+  usable_still : (word : ℕ) → IsUsable config (memory Cset) (memory Evac) represents.block word → IsUsable config (memory Cset) 0 represents.block word
   usable_still word (inl null) = inl null
   usable_still word (inr at) = inr (at.0, at.1, at.2, record { piece = at.3.piece; safe = λ inside. absurd (outside word at.1 at.2 at.0 at.3.piece inside) })
 
-  pub begun : Represents config n graph asking
+  pub begun : Represents config now graph asking
   begun = record {
-    block = r.block;
+    block = represents.block;
     ghost = bare;
     shared = record {
-      parsable = r.shared.parsable;
-      contents = r.shared.contents;
-      owned = r.shared.owned;
+      parsable = represents.shared.parsable;
+      contents = represents.shared.contents;
+      owned = represents.shared.owned;
       phased = record { phase_is = omega arith; cset_is = λ low. absurd (omega (arith, low)); evac_is = λ other. refl };
-      unwritten = r.shared.unwritten;
-      marked = none_marked_in config 3 (λ q. memory (Grey q)) (λ q. memory (Black q)) (λ t. memory (Count t)) (λ t k. memory (Buffer t k)) (λ q. memory (Top q)) (λ q. memory (Tams q)) (λ a. memory (Heap a)) r.block r.ghost.recording
-          r.ghost.scanning (λ is. omega (arith, is));
+      unwritten = represents.shared.unwritten;
+      marked = none_marked_in config 3 (λ number. memory (Grey number)) (λ number. memory (Black number)) (λ mutator. memory (Count mutator)) (λ mutator entry. memory (Buffer mutator entry)) (λ region. memory (Top region)) (λ region. memory (Tams region)) (λ address. memory (Heap address)) represents.block represents.ghost.recording
+          represents.ghost.scanning (λ is. omega (arith, is));
       evacuated = still_evacuated;
       updated = λ later. are_updating;
-      pinned = pins_stay config (memory Cset) (memory Evac) (memory Cset) 0 r.block r.block (λ t i. memory (Pin t i)) graph.pin
-          (λ a refs nums name target. record { piece = target.piece; safe = λ inside. absurd (outside a refs nums name target.piece inside) }) r.shared.pinned;
+      pinned = pins_stay config (memory Cset) (memory Evac) (memory Cset) 0 represents.block represents.block (λ mutator slot. memory (Pin mutator slot)) graph.pin
+          (λ address refs nums name target. record { piece = target.piece; safe = λ inside. absurd (outside address refs nums name target.piece inside) }) represents.shared.pinned;
     };
-    roots = r.roots;
-    usable = λ t i inside few. usable_still (memory (Root t i)) (r.usable t i inside few);
-    none = r.none;
-    uncarved = r.uncarved;
-    asked = λ t inside. asked_stays memory n r.block r.block graph.count t refl refl (λ a words k is below. refl) (λ a words is. is) (λ a words is. is) (asking t) (r.asked t inside);
-    heard = r.heard;
-    promised_to = r.promised_to;
-    unmarking = record { records_none = r.unmarking.records_none; scans_none = r.unmarking.scans_none };
-    uncopying = record { copies_none = r.uncopying.copies_none; works_none = r.uncopying.works_none };
-    no_more = r.no_more;
-    no_more_pins = r.no_more_pins;
+    roots = represents.roots;
+    usable = λ mutator index inside few. usable_still (memory (Root mutator index)) (represents.usable mutator index inside few);
+    none = represents.none;
+    uncarved = represents.uncarved;
+    asked = λ t inside. asked_stays memory now represents.block represents.block graph.count t refl refl (λ a words k is below. refl) (λ a words is. is) (λ a words is. is) (asking t) (represents.asked t inside);
+    heard = represents.heard;
+    promised_to = represents.promised_to;
+    unmarking = record { records_none = represents.unmarking.records_none; scans_none = represents.unmarking.scans_none };
+    uncopying = record { copies_none = represents.uncopying.copies_none; works_none = represents.uncopying.works_none };
+    no_more = represents.no_more;
+    no_more_pins = represents.no_more_pins;
   }
 
 pub updating_begins : UpdatingBegins

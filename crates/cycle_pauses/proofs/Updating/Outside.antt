@@ -13,7 +13,7 @@ use Rattle.cycle_pauses.proofs.Marking.Outside.{if_zero, edge_zero, freed_outsid
 use Rattle.cycle_words.specs.Updating.Changes.{is_chosen, updating_begun, init_updated, cycle_ended, final_updated}
 
 begun_outside : (config : Config) (memory : Word → ℕ) → IsZeroOutside config memory → IsZeroOutside config (updating_begun config memory)
-begun_outside config memory nothing (Limit q) other = if_zero (is_chosen memory q) (edge config memory q) (edge_zero config memory q (nothing (Top q) other))
+begun_outside config memory nothing (Limit region) other = if_zero (is_chosen memory region) (edge config memory region) (edge_zero config memory region (nothing (Top region) other))
 begun_outside config memory nothing Phase other = absurd (true≢false other)
 begun_outside config memory nothing Evac other = refl
 begun_outside config memory nothing Claim other = refl

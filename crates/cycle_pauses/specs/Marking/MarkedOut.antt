@@ -37,12 +37,12 @@ pub record IsMarkedOut (config : Config) (memory : Word → ℕ) (block : Plot) 
   pub evac_is : memory Evac ≡ 0
   pub parsable : IsParsable config (λ region. memory (Top region)) block
   pub contents : HasContents config (λ address. memory (Heap address)) block graph.object graph.count
-  pub owned : AreOwned config (λ region. memory (Top region)) (memory Share) (memory Free) (memory Cset) (λ s. memory (Current s)) block ghost.owner
+  pub owned : AreOwned config (λ region. memory (Top region)) (memory Share) (memory Free) (memory Cset) (λ seat. memory (Current seat)) block ghost.owner
   pub nobodys : (region : ℕ) → ghost.owner region ≡ None
   pub seated : HasNoMoreSeats config memory
   pub unwritten : AreUnwritten (λ address. memory (Heap address)) block
   pub unmoved : AreUnmoved block
-  pub marked : AreMarkedOut config (λ n. memory (Black n)) (λ region. memory (Top region)) (λ region. memory (Tams region)) block
+  pub marked : AreMarkedOut config (λ number. memory (Black number)) (λ region. memory (Top region)) (λ region. memory (Tams region)) block
   pub snapshot_is : ghost.snapshot ≡ no_snapshot
   pub unmarking : NobodyMarks config ghost
   pub uncopying : NobodyCopies config ghost

@@ -34,7 +34,7 @@ use Rattle.step_core.proofs.Control.Asked.{asking_at}
 use Rattle.step_core.proofs.Control.Images.{mixed_whole, image_grows, all_of}
 use Rattle.step_core.proofs.Machines.Owed.{IsMachine, IsThread, ControlFacts}
 use Rattle.step_core.proofs.Theorem.Induction.{Goes}
-use Rattle.step_core.proofs.Control.Paused.{asked_outside}
+use Rattle.step_core.proofs.Control.NewImageCounts.{asked_outside}
 use Rattle.step_core.proofs.Machines.Roles.{mutator_there}
 use Rattle.step_core.proofs.Theorem.EveryList.{every_run, run_aims, run_pauses}
 use Rattle.cycle_runs.specs.Evacuation.Due.{has_begun, HasControl, PausesComeWhenDue, IsEvacuated, EvacuationIsWhole, ImagesAreEvacuated, NamesNoSet, AreUpdated, UpdatingIsWhole}
@@ -42,7 +42,7 @@ use Rattle.cycle_runs.proofs.Evacuation.Runs.{the_world, stands, idle, stage_goe
 
 -- where the control has begun a pause, that is due
 begun_due : (config : Config) (world : World) (number : ℕ) (spot : ControlSpot) → has_begun spot ≡ true → ControlFacts config world number spot → IsDue config world.memory
-begun_due config world number (control.Stopping at) on facts = facts.1
+begun_due config world number (control.Stopping spot) on facts = facts.1
 begun_due config world number (control.LoadWord index extent) on facts = facts.1
 begun_due config world number _ on facts = absurd (cc (on))
 
@@ -58,16 +58,16 @@ module _ (config : Config) (graph : Graph) (stage : Stage Actor) (entries : List
 
   -- An answer that is an address is that of an object that is promised.
   promised_there : (t : ℕ) (asking : Asking) → IsAsked (settled config stage) goes.follows.block (after graph entries).count t asking → 1 < settled config stage (Answer t) → (words : ℕ) × (goes.follows.block (settled config stage (Answer t)) ≡ Some (promised t words))
-  promised_there t nothing asked more = absurd (let none = asked.1 in omega (arith, none, more))
-  promised_there t (asks refs nums) asked more = absurd (let none = asked.1 in omega (arith, none, more))
-  promised_there t refused asked more = absurd (let one = asked.1 in omega (arith, one, more))
-  promised_there t (given refs nums) asked more = (3 + refs + nums, asked.2.here)
+  promised_there t nothing asked below = absurd (let none = asked.1 in omega (arith, none, below))
+  promised_there t (asks refs nums) asked below = absurd (let none = asked.1 in omega (arith, none, below))
+  promised_there t refused asked below = absurd (let one = asked.1 in omega (arith, one, below))
+  promised_there t (given refs nums) asked below = (3 + refs + nums, asked.2.here)
 
   -- In phase 3, with all regions claimed and all machines outside, all is updated.
   module _ (pause : IsInPause config stage) (empty : IsEmpty config stage) (on : settled config stage Phase ≡ 3) (all : config.regions ≤ settled config stage Claim) where
     -- what is current does not lie in the set
     current_outside : (address : ℕ) → IsCurrent goes.follows.block address → address ≢ 0 → IsCollected config (settled config stage Cset) address → ⊥
-    current_outside address current some inside = units_are_updated.outside config (the_world config graph stage entries goes) address goes.follows.shared on current some inside
+    current_outside address current positive inside = units_are_updated.outside config (the_world config graph stage entries goes) address goes.follows.shared on current positive inside
 
     -- the roots of a mutator may be used
     thread_there : (other_mutator : ℕ) → other_mutator < config.mutators → (actor : Actor) × (mutator : Mutating) × (slice_get stage.machines other_mutator ≡ Some actor) × (actor.machine ≡ mutating mutator) × IsThread config stage.words (the_world config graph stage entries goes) (of_thread entries (other_mutator + 1)) other_mutator actor mutator
@@ -78,7 +78,7 @@ module _ (config : Config) (graph : Graph) (stage : Stage Actor) (entries : List
         let thread = (thread_there mutator below).4 in
         current_outside (settled config stage (Root mutator index))
         (usable_current config (settled config stage Cset) (settled config stage Evac) goes.follows.block (settled config stage (Root mutator index))
-        (subst (λ j. IsUsable config (settled config stage Cset) (settled config stage Evac) goes.follows.block (settled config stage (Root j index))) thread.number_is (thread.mine.seated.usable index small)))
+        (subst (λ mutator. IsUsable config (settled config stage Cset) (settled config stage Evac) goes.follows.block (settled config stage (Root mutator index))) thread.number_is (thread.mine.seated.usable index small)))
         some inside
 
     -- an answer is that of an object that is promised, which does not lie in the set
@@ -90,7 +90,7 @@ module _ (config : Config) (graph : Graph) (stage : Stage Actor) (entries : List
         let out = empty.nobody mutator there.0 m (record { here = there.2; is = there.3 }) in
         let asked = asked_outside config (the_world config graph stage entries goes) m.seat m.made m.kept m.spot there.0.command thread.fixed out thread.mine in
         let piece = promised_there mutator (asking_at m.spot (settled config stage (Answer mutator)) m.kept.command)
-        (subst (λ j. IsAsked (settled config stage) goes.follows.block (after graph entries).count j (asking_at m.spot (settled config stage (Answer j)) m.kept.command)) thread.number_is asked) more in
+        (subst (λ mutator. IsAsked (settled config stage) goes.follows.block (after graph entries).count mutator (asking_at m.spot (settled config stage (Answer mutator)) m.kept.command)) thread.number_is asked) more in
         goes.follows.shared.evacuated.aside.no_promises (settled config stage (Answer mutator)) mutator piece.0 piece.1 inside
 
     are_updated : AreUpdated config stage (after graph entries)
@@ -118,30 +118,30 @@ evacuation_is_whole change law c s g begins events k has index extent is two qui
 -- The control that has found the last word of the image.
 module _ (change : Change) (law : PausesByParts change) (config : Config) (stage : Stage Actor) (graph : Graph) (begins : Begins config stage graph) (number index : ℕ) (actor : Actor) (k : Controlling) (is : actor.machine ≡ controlling k)
     (at : k.spot ≡ control.LoadWord index Whole) (last : index + 1 ≡ image_words config) (events : List (Event Order)) (here : slice_get (go (kind change config) stage events).machines number ≡ Some actor) where
-  abbrev t : Stage Actor
-  t = go (kind change config) stage events
+  abbrev stage_then : Stage Actor
+  stage_then = go (kind change config) stage events
 
   -- the image with that word
   abbrev image : List ℕ
-  image = k.image ++ slice_index t.words (image_start config + index) ∷ []
+  image = k.image ++ slice_index stage_then.words (image_start config + index) ∷ []
 
   -- it has the words of the table
-  aims : IsAim config t.words (control.LoadWord index Whole) k.image
-  aims = subst (λ spot. IsAim config t.words spot k.image) at (run_aims change law config stage graph begins events number actor k here is).1
+  aims : IsAim config stage_then.words (control.LoadWord index Whole) k.image
+  aims = subst (λ spot. IsAim config stage_then.words spot k.image) at (run_aims change law config stage graph begins events number actor k here is).1
 
-  read : AreRead config t.words (all_of image) (image_words config)
-  read i below counted = image_grows config t.words Whole k.image index aims.0 aims.1 refl i (omega (arith, below, last))
+  read : AreRead config stage_then.words (all_of image) (image_words config)
+  read i below counted = image_grows config stage_then.words Whole k.image index aims.0 aims.1 refl i (omega (arith, below, last))
 
   -- the machine is that of the control's number
-  there : slice_get t.machines (control_number config) ≡ Some actor
-  there = subst (λ n. slice_get t.machines n ≡ Some actor) (subst (λ (machine : Machine). HasNumber config number machine) is ((every_run change law config stage graph begins events).of_heap.roles number actor here)) here
+  there : slice_get stage_then.machines (control_number config) ≡ Some actor
+  there = subst (λ n. slice_get stage_then.machines n ≡ Some actor) (subst (λ (machine : Machine). HasNumber config number machine) is ((every_run change law config stage graph begins events).of_heap.roles number actor here)) here
 
   -- no image counts yet
-  table_counts : settled config t ≡ view config t.words
-  table_counts = ap (λ o. settled_by config t.words (image_of o)) there ∙ ap (λ m. settled_by config t.words (image_read m)) is ∙ ap (λ spot. settled_by config t.words (stored_image spot k.image)) at
+  table_counts : settled config stage_then ≡ view config stage_then.words
+  table_counts = ap (λ o. settled_by config stage_then.words (image_of o)) there ∙ ap (λ m. settled_by config stage_then.words (image_read m)) is ∙ ap (λ spot. settled_by config stage_then.words (stored_image spot k.image)) at
 
   image_evacuated : IsEvacuated config (image_view config image)
-  image_evacuated = subst (λ memory. IsEvacuated config memory) (table_counts ∙ sym (mixed_whole config t.words (all_of image) read)) (evacuation_is_whole change law config stage graph begins events k (record { actor = actor; here = there; is = is }) index Whole at)
+  image_evacuated = subst (λ memory. IsEvacuated config memory) (table_counts ∙ sym (mixed_whole config stage_then.words (all_of image) read)) (evacuation_is_whole change law config stage graph begins events k (record { actor = actor; here = there; is = is }) index Whole at)
 
 pub images_are_evacuated : ImagesAreEvacuated
 unfolding kind

@@ -3,6 +3,7 @@ use Rattle.std.proofs.Common.{◌≡◌, ◌≢◌, ℕ, ◌⊎◌, inl, inr, �
 use Rattle.std.specs.Prelude.{nat_lt, slice_get, slice_set, slice_index, if◌then◌else◌}
 use Rattle.std.proofs.lemmas.Bool.{and_parts}
 use Rattle.std.proofs.lemmas.List.{set-get_or}
+use Rattle.heap_words.proofs.Lists.{slice_get-set_same}
 use Rattle.heap_words.specs.declared.config.Config.{Config}
 use Rattle.heap_words.specs.Access.{table_index}
 use Rattle.heap_words.specs.declared.access.Access.{Access}
@@ -10,7 +11,6 @@ use Rattle.heap_words.specs.Words.{Word, Answer, Top, Heap, is_word, is_image, i
 use Rattle.heap_words.proofs.Stores.{is_word_from}
 use Rattle.heap_words.specs.Steps.{Stage, Event, IsEvent, accessed, moved, act_of, act, go}
 use Rattle.heap_words.specs.Touch.{Touch, placed, touched}
-use Rattle.heap_words.proofs.Places.{slice_get-set_same}
 use Rattle.shen_graph.specs.declared.command.Command.{Command}
 use Rattle.shen_graph.specs.declared.order.Order.{Order}
 use Rattle.shen_graph.specs.declared.order.Order.TheVariants.{Nothing, Hint}
@@ -118,7 +118,7 @@ module _ (change : Change) (config : Config) (graph : Graph) (stage : Stage Acto
         (outside_touch config mutator.seat mutator.made mutator.kept order mutator.spot (outside_held config stage goes.shaken image held number (actor_of (mutating mutator)) (omega (arith, below)) here) takes))
 
     -- of a helper without an order
-    helper_counts : (m : Helping) → Here (helping m) → Counts Nothing (helping m)
+    helper_counts : (helper : Helping) → Here (helping helper) → Counts Nothing (helping helper)
     unfolding kind
     helper_counts m here =
         let helper : IsHelper config the_world number m = goes.follows.machines number (actor_of (helping m)) here in
@@ -204,9 +204,9 @@ module _ (change : Change) (config : Config) (graph : Graph) (stage : Stage Acto
       control_counts control.StoreEnd here not = plain_counts control.StoreEnd here refl refl refl not
       control_counts control.LookAsked here not = plain_counts control.LookAsked here refl refl refl not
       control_counts control.LookFree here not = plain_counts control.LookFree here refl refl refl not
-      control_counts (control.Working at) here not =
-          plain_counts (control.Working at) here refl refl (is_word_from config _ (unit_inside config (control_seat config) at (omega arith) (and_parts _ _ (known (control.Working at) here).ready).0)) not
-      control_counts (control.Stopping at) here not = plain_counts (control.Stopping at) here refl refl (and_parts _ _ (and_parts _ _ (known (control.Stopping at) here).ready).0).0 not
+      control_counts (control.Working spot) here not =
+          plain_counts (control.Working spot) here refl refl (is_word_from config _ (unit_inside config (control_seat config) spot (omega arith) (and_parts _ _ (known (control.Working spot) here).ready).0)) not
+      control_counts (control.Stopping spot) here not = plain_counts (control.Stopping spot) here refl refl (and_parts _ _ (and_parts _ _ (known (control.Stopping spot) here).ready).0).0 not
       control_counts (control.LoadWord index extent) here not = load_counts index extent here not
       control_counts (control.StoreWord index extent) here not = store_counts index extent here
       control_counts control.Go here not = plain_counts control.Go here refl refl refl not
@@ -247,13 +247,13 @@ module _ (change : Change) (config : Config) (graph : Graph) (s : Stage Actor) (
 
   helper_hinted_counts : (helper : Helping) → slice_get s.machines number ≡ Some (actor_with (helping helper)) → takes_of (helping helper) order ≡ true → Counts change config graph s entries goes number command calls order (helping helper)
   helper_hinted_counts helper here takes =
-      let y : Helping = helping_by config order helper in
+      let other_helper : Helping = helping_by config order helper in
       let place = helper_takes_place config number order helper command calls in
-      counts_in_place change config s number order (actor_with (helping helper)) (actor_with (helping y)) here place refl
+      counts_in_place change config s number order (actor_with (helping helper)) (actor_with (helping other_helper)) here place refl
       (λ got. ap (actor_then got (helping helper)) (keeps_command (help.takes_hint helper.spot) order (and_parts _ _ takes).0)) (plan_of config order (helping helper)) (touch_in config order (helping helper))
-      (helper_counts change config graph (replaced config s number (actor_with (helping helper)) (actor_with (helping y)) here place) entries
-      (goes_replaced config graph s entries number (actor_with (helping helper)) (actor_with (helping y)) here place goes) number command calls y
-      (there config s number (actor_with (helping helper)) (actor_with (helping y)) here place))
+      (helper_counts change config graph (replaced config s number (actor_with (helping helper)) (actor_with (helping other_helper)) here place) entries
+      (goes_replaced config graph s entries number (actor_with (helping helper)) (actor_with (helping other_helper)) here place goes) number command calls other_helper
+      (there config s number (actor_with (helping helper)) (actor_with (helping other_helper)) here place))
 
   control_hinted_counts : (k : Controlling) → slice_get s.machines number ≡ Some (actor_with (controlling k)) → takes_of (controlling k) order ≡ true
       → (BeginsToCount config s (moved (kind change config) s number (actor_with (controlling k)) order) → ⊥) → Counts change config graph s entries goes number command calls order (controlling k)
@@ -275,8 +275,8 @@ module _ (change : Change) (config : Config) (graph : Graph) (s : Stage Actor) (
 
   machine_counts : (machine : Machine) → slice_get s.machines number ≡ Some (actor_with machine) → takes_of machine order ≡ true
       → (BeginsToCount config s (moved (kind change config) s number (actor_with machine) order) → ⊥) → Counts change config graph s entries goes number command calls order machine
-  machine_counts (mutating m) here takes not = mutator_counts change config graph s entries goes number command calls order m here takes
-  machine_counts (helping m) here takes not = helper_hinted_counts m here takes
+  machine_counts (mutating mutator) here takes not = mutator_counts change config graph s entries goes number command calls order mutator here takes
+  machine_counts (helping helper) here takes not = helper_hinted_counts helper here takes
   machine_counts (controlling k) here takes not = control_hinted_counts k here takes not
 
 module _ (change : Change) (config : Config) (graph : Graph) (stage : Stage Actor) (entries : List Entry) (goes : Goes config graph stage entries) (e : Event Order) where
@@ -294,21 +294,21 @@ module _ (change : Change) (config : Config) (graph : Graph) (stage : Stage Acto
   spares_same = record {
     stands = stands;
     quiet = λ quiet. quiet;
-    headers = λ a actor is no_room. inl refl;
+    headers = λ address actor is no_room. inl refl;
     words = λ a k actor is alone behind below. refl;
   }
 
   -- where a machine makes an access
   module _ (actor : Actor) (event : IsEvent (kind change config) stage e actor) where
-    abbrev t : Touch
-    t = touch_in config e.order actor.machine
+    abbrev touch : Touch
+    touch = touch_in config e.order actor.machine
 
-    writes : Writes config world_now e.number t (WorkIn e.order actor.machine)
+    writes : Writes config world_now e.number touch (WorkIn e.order actor.machine)
     writes = machine_writes config world_now goes.follows.shared stage.words (of_thread entries (e.number + 1)) e.number actor e.order actor.machine (goes.follows.machines e.number actor event.here)
 
     -- who publishes a copy copies
-    forwards : (address : ℕ) → plan_of config e.order actor.machine ≡ placed config t → IsMade config world_now goes.follows.shared e.number t (WorkIn e.order actor.machine) address
-        → IsForwarding change config stage world_now e address (touched (settled config stage) t (Heap address))
+    forwards : (address : ℕ) → plan_of config e.order actor.machine ≡ placed config touch → IsMade config world_now goes.follows.shared e.number touch (WorkIn e.order actor.machine) address
+        → IsForwarding change config stage world_now e address (touched (settled config stage) touch (Heap address))
     unfolding publishing
     forwards address plan made = record {
       actor = actor;
@@ -317,20 +317,20 @@ module _ (change : Change) (config : Config) (graph : Graph) (stage : Stage Acto
       body = made.body;
       object = made.object;
       inside = made.publication.inside;
-      publishing = publishing config world_now e.number address made.body t (plan_of config e.order actor.machine) plan made.publication;
+      publishing = publishing config world_now e.number address made.body touch (plan_of config e.order actor.machine) plan made.publication;
       was = made.was;
       leads = made.leads;
     }
 
-    spares_access : plan_of config e.order actor.machine ≡ placed config t → Spares (touched (settled config stage) t)
+    spares_access : plan_of config e.order actor.machine ≡ placed config touch → Spares (touched (settled config stage) touch)
     spares_access plan = record {
       stands = stands;
-      quiet = quiet_stays config world_now goes.follows.shared e.number t (WorkIn e.order actor.machine) writes;
-      headers = λ a y is no_room. ⊎_elim
+      quiet = quiet_stays config world_now goes.follows.shared e.number touch (WorkIn e.order actor.machine) writes;
+      headers = λ address piece is no_room. ⊎_elim
           (λ same. inl same)
-          (λ made. inr (forwards a plan made))
-          (header_stays config world_now goes.follows.shared e.number t (WorkIn e.order actor.machine) a y is (some_words config (λ r. world_now.memory (Top r)) world_now.block goes.follows.shared.parsable goes.follows.shared.owned.rooms a y is) writes no_room);
-      words = λ a k y is alone behind below. words_stay config world_now goes.follows.shared e.number t (WorkIn e.order actor.machine) a k y is below writes alone behind;
+          (λ made. inr (forwards address plan made))
+          (header_stays config world_now goes.follows.shared e.number touch (WorkIn e.order actor.machine) address piece is (some_words config (λ region. world_now.memory (Top region)) world_now.block goes.follows.shared.parsable goes.follows.shared.owned.rooms address piece is) writes no_room);
+      words = λ a k y is alone behind below. words_stay config world_now goes.follows.shared e.number touch (WorkIn e.order actor.machine) a k y is below writes alone behind;
     }
 
   -- so of any event

@@ -96,18 +96,18 @@ module _ (config : Config) (graph : Graph) (stage : Stage Actor) (entries : List
 
   control_named : (seen phase cset hints : ℕ) (image : List ℕ) (spot : ControlSpot) → is_ready config spot ≡ true → stored_image spot image ≡ None
       → IsNamedBy (control_access config (record { spot = spot; seen = seen; phase = phase; cset = cset; hints = hints; image = image })) (control_touch config spot)
-  control_named seen phase cset hints image (Working at) ready out = inl (refl, unit_inside config (control_seat config) at (omega arith) (and_parts _ _ ready).0)
-  control_named seen phase cset hints image (Stopping at) ready out = inl (refl, is_word_true config (stop_touch at).word (and_parts _ _ (and_parts _ _ ready).0).0)
+  control_named seen phase cset hints image (Working spot) ready out = inl (refl, unit_inside config (control_seat config) spot (omega arith) (and_parts _ _ ready).0)
+  control_named seen phase cset hints image (Stopping spot) ready out = inl (refl, is_word_true config (stop_touch spot).word (and_parts _ _ (and_parts _ _ ready).0).0)
   control_named seen phase cset hints image (LoadWord index extent) ready out = inr (image_start config + index, refl)
   control_named seen phase cset hints image (StoreWord index extent) ready out = absurd (cc (out))
   control_named seen phase cset hints image _ ready out = inl (refl, tt)
 
   named : (number : ℕ) (order : Order) (actor : Actor) (machine : Machine) → IsMachine config stage.words the_world (of_thread entries (number + 1)) number actor machine → takes_of machine order ≡ true → image_read machine ≡ None → IsNamed order machine
-  named number order actor (mutating m) facts takes out = inl (refl, is_word_true config (touch_of config m order).word (order_word config m.seat m.made m.kept order m.spot facts.mine.seated.below facts.mine.ready takes))
-  named number order actor (helping m) facts takes out = inl (refl, help_word config the_world number (helping_by config order m) goes.follows.shared (help_hinted_is config the_world number (hint_in order) m facts))
-  named number order actor (controlling m) facts takes out =
-      let k : Controlling = controlling_by config order m in
-      control_named k.seen k.phase k.cset k.hints k.image k.spot (control_hinted_ready config (hint_in order) m facts.ready) (control_hinted_image config (hint_in order) m ∙ out)
+  named number order actor (mutating mutator) facts takes out = inl (refl, is_word_true config (touch_of config mutator order).word (order_word config mutator.seat mutator.made mutator.kept order mutator.spot facts.mine.seated.below facts.mine.ready takes))
+  named number order actor (helping helper) facts takes out = inl (refl, help_word config the_world number (helping_by config order helper) goes.follows.shared (help_hinted_is config the_world number (hint_in order) helper facts))
+  named number order actor (controlling control) facts takes out =
+      let k : Controlling = controlling_by config order control in
+      control_named k.seen k.phase k.cset k.hints k.image k.spot (control_hinted_ready config (hint_in order) control facts.ready) (control_hinted_image config (hint_in order) control ∙ out)
 
   module _ (number : ℕ) (order : Order) (a k : ℕ) (body : Body) (inside : IsCollected config (settled config stage Cset) a) (is : body_at (goes.follows.block a) ≡ Some body) (below : k < body_words body) (machine : Machine)
       (same : table_index (plan_of config order machine) ≡ word_at config (Heap (a + k))) where
@@ -127,7 +127,7 @@ module _ (config : Config) (graph : Graph) (stage : Stage Actor) (entries : List
     by_hit piece there plan (Hits.loads_it form) = inl (loads_it (word_at config t.word) (plan ∙ ap (λ f. access_at (word_at config t.word) f) form))
     by_hit piece there plan (Hits.header more published none) =
         let one : more ≡ body = same_Some more body (sym published.there ∙ is) in
-        inr (inl (subst (λ y. IsPublishing config the_world number a y (plan_of config order machine)) one (publishing config the_world number a more t (plan_of config order machine) plan published)))
+        inr (inl (subst (λ body. IsPublishing config the_world number a body (plan_of config order machine)) one (publishing config the_world number a more t (plan_of config order machine) plan published)))
     by_hit piece there plan (Hits.used refs nums name object from target work) = inr (inr (by_work machine work))
       where
         by_work : (m : Machine) → WorkIn order m → IsWriting the_world order m a k body
@@ -171,9 +171,9 @@ module _ (config : Config) (graph : Graph) (stage : Stage Actor) (entries : List
   module _ (pause : IsInPause config stage) where
     -- the control rests in a pause
     control_rests : (number : ℕ) (spot : ControlSpot) → is_pausing (control_standing spot) ≡ true → ControlFacts config the_world number spot → IsResting the_world number
-    control_rests number (Working at) on facts = absurd (cc (on))
+    control_rests number (Working spot) on facts = absurd (cc (on))
     control_rests number LookFree on facts = absurd (cc (on))
-    control_rests number (Stopping at) on facts = facts.0
+    control_rests number (Stopping spot) on facts = facts.0
     control_rests number (LoadWord index extent) on facts = facts.0
     control_rests number _ on facts = facts
 

@@ -40,8 +40,8 @@ room_is_room seat (carved of words) room no_room = no_room
 room_is_room seat _ room no_room = none-some seat room
 
 -- an exchange that publishes a copy, as an access of the table
-unfoldable pub publishing : (config : Config) (world : World) (seat a : ℕ) (body : Body) (touch : Touch) (access : Access) → access ≡ placed config touch → IsPublication config world seat a body touch → IsPublishing config world seat a body access
-publishing config world seat a body touch access plan published = record {
+unfoldable pub publishing : (config : Config) (world : World) (seat address : ℕ) (body : Body) (touch : Touch) (access : Access) → access ≡ placed config touch → IsPublication config world seat address body touch → IsPublishing config world seat address body access
+publishing config world seat address body touch access plan published = record {
   copy = published.copy;
   end = published.end;
   is = plan ∙ ap (λ f. access_at (word_at config touch.word) f) published.form ∙ ap (λ v. access_at (word_at config v) (exchanges plain_header (header_word published.copy))) published.word;
@@ -80,7 +80,7 @@ module _ (config : Config) (world : World) (shared : Shared config world) (seat 
   quiet_stays (Writes.fills a k y there room within word) quiet = subst IsQuiet (sym (touched_else world.memory touch Evac (λ is. let both = sym word ∙ is in cc))) quiet
   quiet_stays (Writes.publishes a b published) quiet = subst IsQuiet (sym (touched_else world.memory touch Evac (λ is. let both = sym published.word ∙ is in cc))) quiet
   quiet_stays (Writes.works a k refs nums name target from within word writes) quiet = subst IsQuiet (sym (touched_else world.memory touch Evac (λ is. let both = sym word ∙ is in cc))) quiet
-  quiet_stays (Writes.renews a k refs nums name is out from within word) quiet = subst IsQuiet (sym (touched_else world.memory touch Evac (λ same. let both = sym word ∙ same in cc))) quiet
+  quiet_stays (Writes.renews other_word k refs nums name is out from within word) quiet = subst IsQuiet (sym (touched_else world.memory touch Evac (λ same. let both = sym word ∙ same in cc))) quiet
 
   module _ (d k : ℕ) (other_piece : Block) (is : world.block d ≡ Some other_piece) (below : k < words_of other_piece) where
     -- one word of the heap has one address
@@ -90,7 +90,7 @@ module _ (config : Config) (world : World) (shared : Shared config world) (seat 
     -- the piece of another address that has the word is this one
     one_here : (address j : ℕ) (piece : Block) → world.block address ≡ Some piece → j < words_of piece → address + j ≡ d + k → d ≡ address
     one_here address j piece there within same =
-        one_piece config (λ r. world.memory (Top r)) world.block shared.parsable.plotted d address (d + k) other_piece piece is there (omega arith) (omega (arith, below)) (omega (arith, same)) (omega (arith, same, within))
+        one_piece config (λ region. world.memory (Top region)) world.block shared.parsable.plotted d address (d + k) other_piece piece is there (omega arith) (omega (arith, below)) (omega (arith, same)) (omega (arith, same, within))
 
     same_piece : (address : ℕ) (piece : Block) → world.block address ≡ Some piece → d ≡ address → other_piece ≡ piece
     same_piece address piece there same = same_Some other_piece piece (sym is ∙ ap world.block same ∙ there)
@@ -99,23 +99,23 @@ module _ (config : Config) (world : World) (shared : Shared config world) (seat 
     hits (Writes.only_loads form) no_room word = Hits.loads_it form
     hits (Writes.elsewhere other) no_room word = absurd (false≢true (sym other ∙ ap is_watched word))
     hits (Writes.counts evac stays) no_room word = absurd (let both = sym evac ∙ word in cc)
-    hits (Writes.fills a j y there room within of) no_room word =
-        let same = one_here a j y there within (one_address (a + j) (d + k) (sym of ∙ word)) in
-        absurd (room_is_room seat other_piece (ap room_of (same_piece a y there same) ∙ room) no_room)
-    hits (Writes.publishes a b published) no_room word =
-        let piece = body_piece (world.block a) b published.there in
+    hits (Writes.fills address j piece there room within of) no_room word =
+        let same = one_here address j piece there within (one_address (address + j) (d + k) (sym of ∙ word)) in
+        absurd (room_is_room seat other_piece (ap room_of (same_piece address piece there same) ∙ room) no_room)
+    hits (Writes.publishes other_address body published) no_room word =
+        let piece = body_piece (world.block other_address) body published.there in
         let long = piece.2 in
-        let address = one_address a (d + k) (sym published.word ∙ word) in
-        let same = one_here a 0 piece.0 piece.1 (omega (arith, long)) (omega (arith, address)) in
-        Hits.header b (subst (λ e. IsPublication config world seat e b touch) (sym same) published) (omega (arith, address, same))
-    hits (Writes.works a j refs nums name target from within of writes) no_room word =
-        let address = one_address (a + j) (d + k) (sym of ∙ word) in
-        let same = one_here a j (thing name refs nums) target.piece within address in
-        Hits.used refs nums name (same_piece a (thing name refs nums) target.piece same) (omega (arith, address, same, from)) (subst (λ e. TargetIn config world e refs nums name) (sym same) target) writes
-    hits (Writes.renews a j refs nums name there out from within of) no_room word =
-        let address = one_address (a + j) (d + k) (sym of ∙ word) in
-        let same = one_here a j (thing name refs nums) there within address in
-        Hits.renewed refs nums name (same_piece a (thing name refs nums) there same) (omega (arith, address, same, from)) (λ inside. out (subst (λ e. IsCollected config (world.memory Cset) e) same inside))
+        let address = one_address other_address (d + k) (sym published.word ∙ word) in
+        let same = one_here other_address 0 piece.0 piece.1 (omega (arith, long)) (omega (arith, address)) in
+        Hits.header body (subst (λ address. IsPublication config world seat address body touch) (sym same) published) (omega (arith, address, same))
+    hits (Writes.works other_address j refs nums name target from within of writes) no_room word =
+        let address = one_address (other_address + j) (d + k) (sym of ∙ word) in
+        let same = one_here other_address j (thing name refs nums) target.piece within address in
+        Hits.used refs nums name (same_piece other_address (thing name refs nums) target.piece same) (omega (arith, address, same, from)) (subst (λ address. TargetIn config world address refs nums name) (sym same) target) writes
+    hits (Writes.renews other_word j refs nums name there out from within of) no_room word =
+        let address = one_address (other_word + j) (d + k) (sym of ∙ word) in
+        let same = one_here other_word j (thing name refs nums) there within address in
+        Hits.renewed refs nums name (same_piece other_word (thing name refs nums) there same) (omega (arith, address, same, from)) (λ inside. out (subst (λ e. IsCollected config (world.memory Cset) e) same inside))
 
     -- the words behind the header of a piece that is to be left alone stay
     alone_no_room : (piece : Block) → IsLeftAlone config (world.memory Cset) (world.memory Evac) d piece → IsNoRoom piece
@@ -180,8 +180,8 @@ module _ (config : Config) (world : World) (shared : Shared config world) (seat 
 
   -- the header of each piece but room in hand stays, or the exchange is made
   pub header_stays : (address : ℕ) (other_piece : Block) → world.block address ≡ Some other_piece → 1 ≤ words_of other_piece → Writes config world seat touch Work → IsNoRoom other_piece → (touched world.memory touch (Heap address) ≡ world.memory (Heap address)) ⊎ IsMade address
-  header_stays address other_piece is some writes no_room = ⊎_elim
-      (λ (here : same_word touch.word (Heap address) ≡ true). by_hit (hits address 0 other_piece is some writes no_room (same_word_true touch.word (Heap address) here ∙ ap Heap (omega arith))))
+  header_stays address other_piece is positive writes no_room = ⊎_elim
+      (λ (here : same_word touch.word (Heap address) ≡ true). by_hit (hits address 0 other_piece is positive writes no_room (same_word_true touch.word (Heap address) here ∙ ap Heap (omega arith))))
       (λ (other : same_word touch.word (Heap address) ≡ false). inl (cond-false (same_word touch.word (Heap address)) _ _ other))
       (cases_Bool (same_word touch.word (Heap address)))
     where

@@ -85,7 +85,7 @@ use Rattle.cycle_runs.specs.Evacuation.Runs.{is_write}
 
 -- the words that are looked at here: those of the heap, and the word of the copiers
 abbrev pub is_watched : Word → Bool
-is_watched (Heap a) = true
+is_watched (Heap address) = true
 is_watched Evac = true
 is_watched _ = false
 
@@ -116,18 +116,18 @@ pub data Writes (config : Config) (world : World) (seat : ℕ) (touch : Touch) (
 
 -- the access of a machine by the name of its word: of the control, where it is of no word of an image
 abbrev pub touch_in : Config → Order → Machine → Touch
-touch_in config order (mutating m) = touch_of config m order
-touch_in config order (helping h) = helps.help_touch config (helping_by config order h)
+touch_in config order (mutating mutator) = touch_of config mutator order
+touch_in config order (helping helper) = helps.help_touch config (helping_by config order helper)
 touch_in config order (controlling k) = control_touch config (controlling_by config order k).spot
 
 -- whether it may write fields and numbers of objects: only a mutator does, at the places of these writes
 abbrev pub WorkIn : Order → Machine → Type 0
-WorkIn order (mutating m) = is_write (place_at order m.spot) ≡ true
+WorkIn order (mutating mutator) = is_write (place_at order mutator.spot) ≡ true
 WorkIn order _ = ⊥
 
 module _ (config : Config) (world : World) (shared : Shared config world) where
   -- of who takes room
-  take_writes : (seat words : ℕ) (at : TakeSpot) (Work : Type 0) → TakeFacts config world seat words at → Writes config world seat (takes.touch_at seat words at) Work
+  take_writes : (seat words : ℕ) (spot : TakeSpot) (Work : Type 0) → TakeFacts config world seat words spot → Writes config world seat (takes.touch_at seat words spot) Work
   take_writes seat words take.LoadBuffer Work facts = Writes.elsewhere refl
   take_writes seat words (take.LoadShared buffer) Work facts = Writes.elsewhere refl
   take_writes seat words (take.LoadTop buffer region) Work facts = Writes.elsewhere refl
@@ -142,18 +142,18 @@ module _ (config : Config) (world : World) (shared : Shared config world) where
   take_writes seat words (take.Ended taken end) Work facts = Writes.elsewhere refl
 
   -- a step of a resolving leaves the word of the copiers quiet
-  quiet_then : (seat a : ℕ) (at : ResolveSpot) → resolves.is_ended at ≡ false → CanResolve config world seat a at → IsQuiet (world.memory Evac) → IsQuiet (touched world.memory (resolves.touch_at config seat a at) Evac)
-  quiet_then seat a at going can quiet =
-      let step = ((resolving_steps.steps config seat a).goes world at going shared can).step in
+  quiet_then : (seat address : ℕ) (spot : ResolveSpot) → resolves.is_ended spot ≡ false → CanResolve config world seat address spot → IsQuiet (world.memory Evac) → IsQuiet (touched world.memory (resolves.touch_at config seat address spot) Evac)
+  quiet_then seat address spot going can quiet =
+      let step = ((resolving_steps.steps config seat address).goes world spot going shared can).step in
       subst (λ (memory : Word → ℕ). IsQuiet (memory Evac)) step.memory (step.keeps.copies.quiet quiet)
 
   -- of who copies
-  copy_writes : (seat a copy end : ℕ) (at : CopySpot) (Work : Type 0) → CanResolve config world seat a (Copying copy end at) → Writes config world seat (resolves.copy_touch seat a copy end at) Work
-  copy_writes seat a copy end (LoadWord words index) Work can = Writes.only_loads refl
-  copy_writes seat a copy end (StoreWord words index found) Work can =
+  copy_writes : (seat address copy end : ℕ) (spot : CopySpot) (Work : Type 0) → CanResolve config world seat address (Copying copy end spot) → Writes config world seat (resolves.copy_touch seat address copy end spot) Work
+  copy_writes seat address copy end (LoadWord words index) Work can = Writes.only_loads refl
+  copy_writes seat address copy end (StoreWord words index found) Work can =
       let less = can.facts.2.2 in let long = can.facts.2.0 in Writes.fills copy index (hand seat (body_words can.facts.0)) can.facts.2.3.taken.here refl (omega (arith, less, long)) refl
-  copy_writes seat a copy end StoreHeader Work can = Writes.fills copy 0 (hand seat (body_words can.facts.0)) can.facts.2.taken.here refl (omega arith) (ap Heap (omega arith))
-  copy_writes seat a copy end Publish Work can = Writes.publishes a can.facts.0 (record {
+  copy_writes seat address copy end StoreHeader Work can = Writes.fills copy 0 (hand seat (body_words can.facts.0)) can.facts.2.taken.here refl (omega arith) (ap Heap (omega arith))
+  copy_writes seat address copy end Publish Work can = Writes.publishes address can.facts.0 (record {
     copy = copy;
     end = end;
     word = refl;
@@ -164,26 +164,26 @@ module _ (config : Config) (world : World) (shared : Shared config world) where
     copied = can.facts.2.0;
     plain = can.facts.2.1;
   })
-  copy_writes seat a copy end (GiveBack answer) Work can = Writes.elsewhere refl
+  copy_writes seat address copy end (GiveBack answer) Work can = Writes.elsewhere refl
 
   -- of who resolves an address, also while references are updated
-  resolve_writes : (seat a : ℕ) (at : ResolveSpot) (Work : Type 0) → CanResolve config world seat a at → Writes config world seat (resolves.touch_at config seat a at) Work
-  resolve_writes seat a LoadHeader Work can = Writes.only_loads refl
-  resolve_writes seat a (Entering at) Work can = Writes.counts refl (quiet_then seat a (Entering at) refl can)
-  resolve_writes seat a LoadShape Work can = Writes.only_loads refl
-  resolve_writes seat a (Taking words at) Work can = take_writes seat words at Work can.facts.2.1.facts
-  resolve_writes seat a (Copying copy end at) Work can = copy_writes seat a copy end at Work can
-  resolve_writes seat a (Leaving answer) Work can = Writes.counts refl (quiet_then seat a (Leaving answer) refl can)
-  resolve_writes seat a (Stopping at) Work can = Writes.counts refl (quiet_then seat a (Stopping at) refl can)
-  resolve_writes seat a LoadAgain Work can = Writes.only_loads refl
-  resolve_writes seat a (Resolved answer) Work can = Writes.only_loads refl
+  resolve_writes : (seat address : ℕ) (spot : ResolveSpot) (Work : Type 0) → CanResolve config world seat address spot → Writes config world seat (resolves.touch_at config seat address spot) Work
+  resolve_writes seat address LoadHeader Work can = Writes.only_loads refl
+  resolve_writes seat address (Entering spot) Work can = Writes.counts refl (quiet_then seat address (Entering spot) refl can)
+  resolve_writes seat address LoadShape Work can = Writes.only_loads refl
+  resolve_writes seat address (Taking words spot) Work can = take_writes seat words spot Work can.facts.2.1.facts
+  resolve_writes seat address (Copying copy end spot) Work can = copy_writes seat address copy end spot Work can
+  resolve_writes seat address (Leaving answer) Work can = Writes.counts refl (quiet_then seat address (Leaving answer) refl can)
+  resolve_writes seat address (Stopping spot) Work can = Writes.counts refl (quiet_then seat address (Stopping spot) refl can)
+  resolve_writes seat address LoadAgain Work can = Writes.only_loads refl
+  resolve_writes seat address (Resolved answer) Work can = Writes.only_loads refl
 
-  resolving_writes : (seat a : ℕ) (at : ResolveSpot) (Work : Type 0) → IsResolving config world seat a at → Writes config world seat (resolves.touch_at config seat a at) Work
-  resolving_writes seat a at Work (inl can) = resolve_writes seat a at Work can
-  resolving_writes seat a at Work (inr can) = Writes.only_loads (following_steps.only_loads config world seat a at can)
+  resolving_writes : (seat address : ℕ) (spot : ResolveSpot) (Work : Type 0) → IsResolving config world seat address spot → Writes config world seat (resolves.touch_at config seat address spot) Work
+  resolving_writes seat address spot Work (inl can) = resolve_writes seat address spot Work can
+  resolving_writes seat address spot Work (inr can) = Writes.only_loads (following_steps.only_loads config world seat address spot can)
 
   -- of who updates references
-  update_writes : (seat cset : ℕ) (at : UpdateSpot) (Work : Type 0) → CanUpdate config world seat cset at → Writes config world seat (updates.touch_at config at) Work
+  update_writes : (seat cset : ℕ) (spot : UpdateSpot) (Work : Type 0) → CanUpdate config world seat cset spot → Writes config world seat (updates.touch_at config spot) Work
   update_writes seat cset (update.ClaimUnit unit) Work can = Writes.elsewhere refl
   update_writes seat cset (update.ExchangeField at field found copy) Work can =
       let has = can.facts.0 in
@@ -196,34 +196,34 @@ module _ (config : Config) (world : World) (shared : Shared config world) where
   update_writes seat cset _ Work can = Writes.only_loads refl
 
   -- of who evacuates
-  evac_writes : (seat cset : ℕ) (at : EvacSpot) (Work : Type 0) → CanEvacuate config world seat cset at → Writes config world seat (evacs.touch_at config seat at) Work
+  evac_writes : (seat cset : ℕ) (spot : EvacSpot) (Work : Type 0) → CanEvacuate config world seat cset spot → Writes config world seat (evacs.touch_at config seat spot) Work
   evac_writes seat cset (evac.ClaimUnit unit) Work can = Writes.elsewhere refl
-  evac_writes seat cset (evac.Resolving address end next at) Work can = resolve_writes seat address at Work can.facts.1
+  evac_writes seat cset (evac.Resolving address end next spot) Work can = resolve_writes seat address spot Work can.facts.1
   evac_writes seat cset _ Work can = Writes.only_loads refl
 
   -- of who scans
-  scan_writes : (seat : ℕ) (at : ScanSpot) (Work : Type 0) → Writes config world seat (scans.touch_at config at) Work
+  scan_writes : (seat : ℕ) (spot : ScanSpot) (Work : Type 0) → Writes config world seat (scans.touch_at config spot) Work
   scan_writes seat (scan.ClaimUnit unit) Work = Writes.elsewhere refl
   scan_writes seat (scan.SetBlack address) Work = Writes.elsewhere refl
   scan_writes seat (scan.SetGrey address field refs found) Work = Writes.elsewhere refl
   scan_writes seat _ Work = Writes.only_loads refl
 
   -- of who works on a unit
-  unit_writes : (seat : ℕ) (at : UnitSpot) (Work : Type 0) → CanWork config world seat at → Writes config world seat (units.touch_at config seat at) Work
-  unit_writes seat (unit.Scanning at) Work can = scan_writes seat at Work
-  unit_writes seat (unit.Evacuating cset at) Work can = evac_writes seat cset at Work can
-  unit_writes seat (unit.Updating cset at) Work can = update_writes seat cset at Work can
+  unit_writes : (seat : ℕ) (spot : UnitSpot) (Work : Type 0) → CanWork config world seat spot → Writes config world seat (units.touch_at config seat spot) Work
+  unit_writes seat (unit.Scanning spot) Work can = scan_writes seat spot Work
+  unit_writes seat (unit.Evacuating cset spot) Work can = evac_writes seat cset spot Work can
+  unit_writes seat (unit.Updating cset spot) Work can = update_writes seat cset spot Work can
   unit_writes seat (unit.Ended ended) Work can = Writes.only_loads refl
 
   -- of who enters, and of who stops the others
-  enter_writes : (seat of : ℕ) (at : EnterSpot) (Work : Type 0) → Writes config world seat (enter_touch of at) Work
+  enter_writes : (seat of : ℕ) (spot : EnterSpot) (Work : Type 0) → Writes config world seat (enter_touch of spot) Work
   enter_writes seat of enter.Raise Work = Writes.elsewhere refl
   enter_writes seat of enter.Look Work = Writes.elsewhere refl
   enter_writes seat of enter.Lower Work = Writes.elsewhere refl
   enter_writes seat of enter.Await Work = Writes.elsewhere refl
   enter_writes seat of enter.Inside Work = Writes.elsewhere refl
 
-  stop_writes : (seat : ℕ) (at : StopSpot) (Work : Type 0) → Writes config world seat (stop_touch at) Work
+  stop_writes : (seat : ℕ) (spot : StopSpot) (Work : Type 0) → Writes config world seat (stop_touch spot) Work
   stop_writes seat stop.Raise Work = Writes.elsewhere refl
   stop_writes seat (stop.Check of) Work = Writes.elsewhere refl
   stop_writes seat stop.Stopped Work = Writes.elsewhere refl
@@ -231,10 +231,10 @@ module _ (config : Config) (world : World) (shared : Shared config world) where
   -- of a helper
   help_writes : (seat : ℕ) (spot : HelpSpot) (Work : Type 0) → HelpFacts config world seat spot → Writes config world seat (helps.touch_at config seat spot) Work
   help_writes seat help.LoadEnd Work facts = Writes.only_loads refl
-  help_writes seat (help.Entering at) Work facts = enter_writes seat seat at Work
+  help_writes seat (help.Entering spot) Work facts = enter_writes seat seat spot Work
   help_writes seat help.LoadPhase Work facts = Writes.only_loads refl
   help_writes seat (help.LoadSet phase) Work facts = Writes.only_loads refl
-  help_writes seat (help.Working at) Work facts = unit_writes seat at Work facts
+  help_writes seat (help.Working spot) Work facts = unit_writes seat spot Work facts
   help_writes seat help.Leave Work facts = Writes.elsewhere refl
   help_writes seat help.Gone Work facts = Writes.only_loads refl
 
@@ -244,21 +244,21 @@ module _ (config : Config) (world : World) (shared : Shared config world) where
   control_writes control.StoreEnd Work facts = Writes.elsewhere refl
   control_writes control.LookAsked Work facts = Writes.only_loads refl
   control_writes control.LookFree Work facts = Writes.only_loads refl
-  control_writes (control.Working at) Work facts = unit_writes (control_seat config) at Work facts
-  control_writes (control.Stopping at) Work facts = stop_writes (control_seat config) at Work
+  control_writes (control.Working spot) Work facts = unit_writes (control_seat config) spot Work facts
+  control_writes (control.Stopping spot) Work facts = stop_writes (control_seat config) spot Work
   control_writes (control.LoadWord index extent) Work facts = Writes.only_loads refl
   control_writes (control.StoreWord index extent) Work facts = Writes.only_loads refl
   control_writes control.Go Work facts = Writes.elsewhere refl
   control_writes control.Gone Work facts = Writes.only_loads refl
 
   -- by the parts of a call
-  load_writes : (seat : ℕ) (command : Command) (at : LoadSpot) (Work : Type 0) → Writes config world seat (load_touch seat command at) Work
+  load_writes : (seat : ℕ) (command : Command) (spot : LoadSpot) (Work : Type 0) → Writes config world seat (load_touch seat command spot) Work
   load_writes seat command load.First Work = Writes.only_loads refl
   load_writes seat command (load.Second first) Work = Writes.only_loads refl
   load_writes seat command (load.Third first second) Work = Writes.only_loads refl
   load_writes seat command (load.Shape object second third) Work = Writes.only_loads refl
 
-  field_writes : (seat : ℕ) (kept command : Command) (fixed : Option Reply) (object : ℕ) (at : FieldSpot) → FieldFacts config world seat kept command fixed object at → Writes config world seat (field_touch object kept at) (is_write (field_place at) ≡ true)
+  field_writes : (seat : ℕ) (kept command : Command) (fixed : Option Reply) (object : ℕ) (spot : FieldSpot) → FieldFacts config world seat kept command fixed object spot → Writes config world seat (field_touch object kept spot) (is_write (field_place spot) ≡ true)
   field_writes seat kept command fixed object fields.Load facts = Writes.only_loads refl
   field_writes seat kept command fixed object (fields.LoadExpected expect value) facts = Writes.only_loads refl
   field_writes seat kept command fixed object (fields.LoadOld value) facts = Writes.only_loads refl
@@ -269,8 +269,8 @@ module _ (config : Config) (world : World) (shared : Shared config world) where
   field_writes seat kept command fixed object (fields.Exchange found expect value) facts =
       let cas = facts.1 in let within = cas.below in Writes.works object (3 + index_of kept) cas.of.refs cas.of.nums cas.of.name cas.of.target (omega arith) (omega (arith, within)) (ap Heap (omega arith)) refl
 
-  number_writes : (seat : ℕ) (kept command : Command) (fixed : Option Reply) (object refs : ℕ) (at : NumberSpot) → NumberFacts config world seat kept command fixed object refs at
-      → Writes config world seat (number_touch object refs kept at) (is_write (number_place at) ≡ true)
+  number_writes : (seat : ℕ) (kept command : Command) (fixed : Option Reply) (object refs : ℕ) (spot : NumberSpot) → NumberFacts config world seat kept command fixed object refs spot
+      → Writes config world seat (number_touch object refs kept spot) (is_write (number_place spot) ≡ true)
   number_writes seat kept command fixed object refs numbers.Load facts = Writes.only_loads refl
   number_writes seat kept command fixed object refs numbers.Store facts =
       let wr = facts.1 in
@@ -278,7 +278,7 @@ module _ (config : Config) (world : World) (shared : Shared config world) where
       let long = wr.refs_are in
       Writes.works object (3 + refs + index_of kept) wr.of.refs wr.of.nums wr.of.name wr.of.target (omega arith) (omega (arith, within, long)) (ap Heap (omega arith)) refl
 
-  remember_writes : (seat address : ℕ) (at : RememberSpot) (Work : Type 0) → Writes config world seat (satb.touch_at config seat address at) Work
+  remember_writes : (seat address : ℕ) (spot : RememberSpot) (Work : Type 0) → Writes config world seat (satb.touch_at config seat address spot) Work
   remember_writes seat address remember.LoadCount Work = Writes.elsewhere refl
   remember_writes seat address (remember.LoadEntry entry) Work = Writes.elsewhere refl
   remember_writes seat address (remember.MarkEntry entry found) Work = Writes.elsewhere refl
@@ -287,16 +287,16 @@ module _ (config : Config) (world : World) (shared : Shared config world) where
   remember_writes seat address (remember.StoreCount entry) Work = Writes.elsewhere refl
   remember_writes seat address remember.Recorded Work = Writes.elsewhere refl
 
-  show_writes : (seat value : ℕ) (command : Command) (at : ShowSpot) (Work : Type 0) → Writes config world seat (show_touch seat value command at) Work
+  show_writes : (seat value : ℕ) (command : Command) (spot : ShowSpot) (Work : Type 0) → Writes config world seat (show_touch seat value command spot) Work
   show_writes seat value command show.LoadName Work = Writes.only_loads refl
   show_writes seat value command (show.StoreRoot reply) Work = Writes.elsewhere refl
 
-  make_writes : (seat made : ℕ) (kept command : Command) (fixed : Option Reply) (at : MakeSpot) (Work : Type 0) → MakeFacts config world seat made kept command fixed at → Writes config world seat (make_touch seat made kept at) Work
-  make_writes seat made kept command fixed (make.Taking at) Work facts = take_writes seat _ at Work facts.1
+  make_writes : (seat made : ℕ) (kept command : Command) (fixed : Option Reply) (spot : MakeSpot) (Work : Type 0) → MakeFacts config world seat made kept command fixed spot → Writes config world seat (make_touch seat made kept spot) Work
+  make_writes seat made kept command fixed (make.Taking spot) Work facts = take_writes seat _ spot Work facts.1
   make_writes seat made kept command fixed (make.StoreWord address done) Work facts = Writes.fills address done (hand seat _) facts.1.room refl facts.2 refl
   make_writes seat made kept command fixed (make.StoreRoot address) Work facts = Writes.elsewhere refl
 
-  wait_writes : (seat made : ℕ) (command : Command) (at : WaitSpot) (Work : Type 0) → Writes config world seat (wait_touch seat made command at) Work
+  wait_writes : (seat made : ℕ) (command : Command) (spot : WaitSpot) (Work : Type 0) → Writes config world seat (wait_touch seat made command spot) Work
   wait_writes seat made command wait.Poll Work = Writes.elsewhere refl
   wait_writes seat made command wait.LoadAnswer Work = Writes.elsewhere refl
   wait_writes seat made command wait.StoreRequest Work = Writes.elsewhere refl
@@ -305,7 +305,7 @@ module _ (config : Config) (world : World) (shared : Shared config world) where
   wait_writes seat made command (wait.StoreRoot address) Work = Writes.elsewhere refl
   wait_writes seat made command (wait.ClearAnswer reply) Work = Writes.elsewhere refl
 
-  pin_writes : (seat value : ℕ) (command : Command) (at : PinSpot) (Work : Type 0) → Writes config world seat (pin_touch seat value command at) Work
+  pin_writes : (seat value : ℕ) (command : Command) (spot : PinSpot) (Work : Type 0) → Writes config world seat (pin_touch seat value command spot) Work
   pin_writes seat value command pins.Look Work = Writes.only_loads refl
   pin_writes seat value command pins.Store Work = Writes.elsewhere refl
 
@@ -321,28 +321,28 @@ module _ (config : Config) (world : World) (shared : Shared config world) where
       → Writes config world seat (touch_at config seat made kept order spot) (is_write (place_at order spot) ≡ true)
   spot_writes seat made kept command fixed order Rest facts = first_writes seat order _
   spot_writes seat made kept command fixed order (Ended reply) facts = first_writes seat order _
-  spot_writes seat made kept command fixed order (Enters at next) facts = enter_writes seat seat at _
+  spot_writes seat made kept command fixed order (Enters spot next) facts = enter_writes seat seat spot _
   spot_writes seat made kept command fixed order LoadPhase facts = Writes.only_loads refl
   spot_writes seat made kept command fixed order LoadSet facts = Writes.only_loads refl
-  spot_writes seat made kept command fixed order (Loading at) facts = load_writes seat kept.command at _
-  spot_writes seat made kept command fixed order (OnField object at) facts = field_writes seat kept.command command fixed object at facts
-  spot_writes seat made kept command fixed order (Resolving address at next) facts = resolving_writes seat address at _ facts.0
-  spot_writes seat made kept command fixed order (Recording at address next) facts = remember_writes seat address at _
-  spot_writes seat made kept command fixed order (OnNumber object refs at) facts = number_writes seat kept.command command fixed object refs at facts
-  spot_writes seat made kept command fixed order (Showing value at) facts = show_writes seat value kept.command at _
+  spot_writes seat made kept command fixed order (Loading spot) facts = load_writes seat kept.command spot _
+  spot_writes seat made kept command fixed order (OnField object spot) facts = field_writes seat kept.command command fixed object spot facts
+  spot_writes seat made kept command fixed order (Resolving address spot next) facts = resolving_writes seat address spot _ facts.0
+  spot_writes seat made kept command fixed order (Recording spot address next) facts = remember_writes seat address spot _
+  spot_writes seat made kept command fixed order (OnNumber object refs spot) facts = number_writes seat kept.command command fixed object refs spot facts
+  spot_writes seat made kept command fixed order (Showing value spot) facts = show_writes seat value kept.command spot _
   spot_writes seat made kept command fixed order (StoreRoot value) facts = Writes.elsewhere refl
-  spot_writes seat made kept command fixed order (Making at) facts = make_writes seat made kept.command command fixed at _ facts
+  spot_writes seat made kept command fixed order (Making spot) facts = make_writes seat made kept.command command fixed spot _ facts
   spot_writes seat made kept command fixed order AskCycle facts = Writes.elsewhere refl
-  spot_writes seat made kept command fixed order (Pinning value at) facts = pin_writes seat value kept.command at _
-  spot_writes seat made kept command fixed order (Waiting at) facts = wait_writes seat made kept.command at _
+  spot_writes seat made kept command fixed order (Pinning value spot) facts = pin_writes seat value kept.command spot _
+  spot_writes seat made kept command fixed order (Waiting spot) facts = wait_writes seat made kept.command spot _
   spot_writes seat made kept command fixed order (Leave reply) facts = Writes.elsewhere refl
   spot_writes seat made kept command fixed order Gone facts = Writes.only_loads refl
 
   -- and of any machine
   pub machine_writes : (words : List ℕ) (entries : List Entry) (number : ℕ) (actor : Actor) (order : Order) (machine : Machine) → IsMachine config words world entries number actor machine → Writes config world number (touch_in config order machine) (WorkIn order machine)
-  machine_writes words entries number actor order (mutating m) facts =
-      subst (λ seat. Writes config world seat (touch_of config m order) (is_write (place_at order m.spot) ≡ true)) facts.number_is (spot_writes m.seat m.made m.kept actor.command facts.fixed order m.spot facts.mine.facts)
-  machine_writes words entries number actor order (helping h) facts = helper_writes (helping_by config order h) (help_hinted_is config world number (hint_in order) h facts)
+  machine_writes words entries number actor order (mutating mutator) facts =
+      subst (λ seat. Writes config world seat (touch_of config mutator order) (is_write (place_at order mutator.spot) ≡ true)) facts.number_is (spot_writes mutator.seat mutator.made mutator.kept actor.command facts.fixed order mutator.spot facts.mine.facts)
+  machine_writes words entries number actor order (helping helper) facts = helper_writes (helping_by config order helper) (help_hinted_is config world number (hint_in order) helper facts)
     where
       helper_writes : (y : Helping) → IsHelper config world number y → Writes config world number (helps.help_touch config y) ⊥
       helper_writes y known = subst (λ seat. Writes config world seat (helps.help_touch config y) ⊥) known.number_is (help_writes y.seat y.spot ⊥ (subst (λ seat. HelpFacts config world seat y.spot) (sym known.number_is) known.facts))

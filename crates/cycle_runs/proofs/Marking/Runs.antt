@@ -72,7 +72,7 @@ module _ (config : Config) (phase index got : ℕ) (extent : Extent) (image : Li
   all_loaded = (let none : image_words config - length loaded ≡ 0 = omega (arith, loaded_long) in ap (λ n. loaded ++ replicate n 0) none ∙ append-nil loaded)
 
   first_word : slice_index loaded 0 ≡ 1
-  first_word = sym (image_reads config loaded Phase refl refl ∙ ap (λ k. slice_index loaded k) (omega arith)) ∙ on
+  first_word = sym (image_reads config loaded Phase refl refl ∙ ap (λ index. slice_index loaded index) (omega arith)) ∙ on
 
   whole_at : IsWholeImage config phase (LoadWord index extent) image got → ∥ AreMarkedThrough config (closed config (image_view config loaded)) ∥₁
   whole_at whole =

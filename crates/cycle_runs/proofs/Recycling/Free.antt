@@ -16,7 +16,7 @@ use Rattle.cycle_steps.proofs.Evacuation.Walks.{placed}
 module _ (config : Config) (world : World) (shared : Shared config world) (region : ℕ) (inside : region < config.regions) (free : IsIn (world.memory Free) region) where
   -- an address does not lie there
   abbrev pub IsElsewhere : ℕ → Type 0
-  IsElsewhere a = IsOf config region a → ⊥
+  IsElsewhere address = IsOf config region address → ⊥
 
   -- that of a piece
   pub piece_elsewhere : (address : ℕ) (piece : Block) → world.block address ≡ Some piece → IsElsewhere address
@@ -24,8 +24,8 @@ module _ (config : Config) (world : World) (shared : Shared config world) (regio
       let there = placed config world shared address piece is in
       let here : region_with config address ≡ region = regions_tile.of_no_other config region address of in
       let none : world.memory (Top region) ≡ 0 = shared.owned.free_word.empty region inside free in
-      let some = some_words config (λ k. world.memory (Top k)) world.block shared.parsable shared.owned.rooms address piece is in
-      let to_top : address + words_of piece ≤ base_of config region + world.memory (Top region) = subst (λ k. address + words_of piece ≤ base_of config k + world.memory (Top k)) here there.to_top in
+      let some = some_words config (λ region. world.memory (Top region)) world.block shared.parsable shared.owned.rooms address piece is in
+      let to_top : address + words_of piece ≤ base_of config region + world.memory (Top region) = subst (λ region. address + words_of piece ≤ base_of config region + world.memory (Top region)) here there.to_top in
       let from = of.from in
       omega (arith, to_top, none, some, from)
 
@@ -51,16 +51,16 @@ module _ (config : Config) (world : World) (shared : Shared config world) (regio
   body_elsewhere address body is = let piece = body_piece (world.block address) body is in piece_elsewhere address piece.0 piece.1
 
   pub copy_elsewhere : (address : ℕ) → HasCopy world.block address → IsElsewhere address
-  copy_elsewhere address (HasCopy.copy b is) = body_elsewhere address b is
+  copy_elsewhere address (HasCopy.copy body is) = body_elsewhere address body is
   copy_elsewhere address (HasCopy.spent_copy words to is) = piece_elsewhere address (spent words to) is
 
   -- what may be used
   pub target_elsewhere : (address refs nums : ℕ) (name : Name) → TargetIn config world address refs nums name → IsElsewhere address
   target_elsewhere address refs nums name is = piece_elsewhere address (thing name refs nums) is.piece
 
-  pub usable_elsewhere : (v : ℕ) → UsableIn config world v → IsElsewhere v
-  usable_elsewhere v (inl null) = null_elsewhere v null
-  usable_elsewhere v (inr at) = target_elsewhere v at.1 at.2 at.0 at.3
+  pub usable_elsewhere : (address : ℕ) → UsableIn config world address → IsElsewhere address
+  usable_elsewhere address (inl null) = null_elsewhere address null
+  usable_elsewhere address (inr at) = target_elsewhere address at.1 at.2 at.0 at.3
 
   -- and what can be marked
   pub markable_elsewhere : (address : ℕ) → IsMarkable world.block address → IsElsewhere address

@@ -68,7 +68,7 @@ module _ (config : Config) (world : World) (shared : Shared config world) (regio
       is
 
   -- of who loads roots
-  load_hand : (seat made : ℕ) (other_command command : Command) (fixed : Option Reply) (at : LoadSpot) → LoadFacts config world seat made other_command command fixed at → (a : ℕ) → IsLoadHand other_command at a → IsApart a
+  load_hand : (seat made : ℕ) (other_command command : Command) (fixed : Option Reply) (spot : LoadSpot) → LoadFacts config world seat made other_command command fixed spot → (a : ℕ) → IsLoadHand other_command spot a → IsApart a
   load_hand seat made other_command command fixed load.First facts a is = absurd is
   load_hand seat made other_command command fixed (load.Second first) facts a is = let root = facts.2 in same a first (root_apart seat _ first (root.first_is root.some)) is
   load_hand seat made other_command command fixed (load.Third first second) facts a is =
@@ -94,7 +94,7 @@ module _ (config : Config) (world : World) (shared : Shared config world) (regio
   set_apart seat object field value a command set is = either a object value (object_apart seat set.obj object set.of) (root_apart seat set.val value set.value_is) is
 
   -- of who works on a field
-  field_hand : (seat : ℕ) (other_command command : Command) (fixed : Option Reply) (object : ℕ) (at : FieldSpot) → FieldFacts config world seat other_command command fixed object at → (a : ℕ) → IsFieldHand object at a → IsApart a
+  field_hand : (seat : ℕ) (other_command command : Command) (fixed : Option Reply) (object : ℕ) (spot : FieldSpot) → FieldFacts config world seat other_command command fixed object spot → (a : ℕ) → IsFieldHand object spot a → IsApart a
   field_hand seat other_command command fixed object fields.Load facts a is = let get = facts.1 in same a object (object_apart seat get.src object get.of) is
   field_hand seat other_command command fixed object (fields.LoadExpected expect value) facts a is = cas_apart seat object (index_of other_command) expect value a command facts.1 is
   field_hand seat other_command command fixed object (fields.LoadOld value) facts a is = set_apart seat object (index_of other_command) value a command facts.1 is
@@ -113,10 +113,10 @@ module _ (config : Config) (world : World) (shared : Shared config world) (regio
   loaded_hand seat other_command command fixed found ForRoot facts a is = absurd is
   loaded_hand seat other_command command fixed found (ToCompare object expect value) facts a is = cas_apart seat object (index_of other_command) expect value a command facts.is_cas is
 
-  resolving_hand : (seat address : ℕ) (at : ResolveSpot) → CanResolve config world seat address at ⊎ CanFollow config world seat address at → (a : ℕ) → IsResolveHand address at a → IsApart a
-  resolving_hand seat address at can a is = ⊎_elim
-      (λ (resolves : CanResolve config world seat address at). resolve_hand config world shared region inside free seat address at resolves a is)
-      (λ (follows : CanFollow config world seat address at). follow_hand config world shared region inside free seat address at follows a is)
+  resolving_hand : (seat address : ℕ) (spot : ResolveSpot) → CanResolve config world seat address spot ⊎ CanFollow config world seat address spot → (a : ℕ) → IsResolveHand address spot a → IsApart a
+  resolving_hand seat address spot can a is = ⊎_elim
+      (λ (resolves : CanResolve config world seat address spot). resolve_hand config world shared region inside free seat address spot resolves a is)
+      (λ (follows : CanFollow config world seat address spot). follow_hand config world shared region inside free seat address spot follows a is)
       can
 
   -- of who records what it overwrites
@@ -126,12 +126,12 @@ module _ (config : Config) (world : World) (shared : Shared config world) (regio
   overwritten_hand seat other_command command fixed address overwrites.Cas facts a is = absurd is
 
   -- of who works on a number
-  number_hand : (seat : ℕ) (other_command command : Command) (fixed : Option Reply) (object refs : ℕ) (at : NumberSpot) → NumberFacts config world seat other_command command fixed object refs at → IsApart object
+  number_hand : (seat : ℕ) (other_command command : Command) (fixed : Option Reply) (object refs : ℕ) (spot : NumberSpot) → NumberFacts config world seat other_command command fixed object refs spot → IsApart object
   number_hand seat other_command command fixed object refs numbers.Load facts = let rd = facts.1 in object_apart seat rd.obj object rd.of
   number_hand seat other_command command fixed object refs numbers.Store facts = let wr = facts.1 in object_apart seat wr.obj object wr.of
 
   -- of who shows what it has found
-  show_hand : (command : Command) (fixed : Option Reply) (value : ℕ) (at : ShowSpot) → ShowFacts config world command fixed value at → IsApart value
+  show_hand : (command : Command) (fixed : Option Reply) (value : ℕ) (spot : ShowSpot) → ShowFacts config world command fixed value spot → IsApart value
   show_hand command fixed value show.LoadName facts = let found = facts.0 in named_elsewhere config world shared region inside free value found.name found.is
   show_hand command fixed value (show.StoreRoot reply) facts = usable_elsewhere config world shared region inside free value facts.2
 
@@ -143,8 +143,8 @@ module _ (config : Config) (world : World) (shared : Shared config world) (regio
       which
 
   -- of who makes an object
-  make_hand : (seat made : ℕ) (other_command command : Command) (fixed : Option Reply) (at : MakeSpot) → MakeFacts config world seat made other_command command fixed at → (a : ℕ) → IsMakeHand at a → IsApart a
-  make_hand seat made other_command command fixed (make.Taking at) facts a is = take_hand config world shared region inside free seat (words_made other_command) at facts.1 a is
+  make_hand : (seat made : ℕ) (other_command command : Command) (fixed : Option Reply) (spot : MakeSpot) → MakeFacts config world seat made other_command command fixed spot → (a : ℕ) → IsMakeHand spot a → IsApart a
+  make_hand seat made other_command command fixed (make.Taking spot) facts a is = take_hand config world shared region inside free seat (words_made other_command) spot facts.1 a is
   make_hand seat made other_command command fixed (make.StoreWord address done) facts a is = same a address (piece_elsewhere config world shared region inside free address _ facts.1.room) is
   make_hand seat made other_command command fixed (make.StoreRoot address) facts a is = same a address (piece_elsewhere config world shared region inside free address _ facts.1.room) is
 
@@ -154,37 +154,37 @@ module _ (config : Config) (world : World) (shared : Shared config world) (regio
   slot_hand seat value (Unpin slot) is = null_elsewhere config world shared region inside free value is.1
   slot_hand seat value _ is = absurd is
 
-  pin_hand : (seat : ℕ) (other_command command : Command) (fixed : Option Reply) (value : ℕ) (at : PinSpot) → PinFacts config world seat other_command command fixed value at → IsApart value
+  pin_hand : (seat : ℕ) (other_command command : Command) (fixed : Option Reply) (value : ℕ) (spot : PinSpot) → PinFacts config world seat other_command command fixed value spot → IsApart value
   pin_hand seat other_command command fixed value pins.Look facts = slot_hand seat value other_command facts.2
   pin_hand seat other_command command fixed value pins.Store facts = slot_hand seat value other_command facts.2
 
   -- of who has waited for one
-  wait_hand : (seat made : ℕ) (other_command command : Command) (fixed : Option Reply) (at : WaitSpot) → WaitFacts config world seat made other_command command fixed at → (a : ℕ) → IsWaitHand at a → IsApart a
+  wait_hand : (seat made : ℕ) (other_command command : Command) (fixed : Option Reply) (spot : WaitSpot) → WaitFacts config world seat made other_command command fixed spot → (a : ℕ) → IsWaitHand spot a → IsApart a
   wait_hand seat made other_command command fixed (wait.StoreRoot address) facts a is =
       same a address (subst (λ x. IsApart x) facts.1 (piece_elsewhere config world shared region inside free (world.memory (Answer seat)) _ facts.0.1.2.here)) is
   wait_hand seat made other_command command fixed _ facts a is = absurd is
 
   -- of a mutator
   pub mutator_hand : (seat made : ℕ) (kept : Kept) (command : Command) (fixed : Option Reply) (spot : Spot) → SpotFacts config world seat made kept command fixed spot → (a : ℕ) → IsMutatorHand kept.command spot a → IsApart a
-  mutator_hand seat made kept command fixed (Loading at) facts a is = load_hand seat made kept.command command fixed at facts a is
-  mutator_hand seat made kept command fixed (OnField object at) facts a is = field_hand seat kept.command command fixed object at facts a is
-  mutator_hand seat made kept command fixed (Resolving address at next) facts a is = ⊎_elim
-      (λ (resolves : IsResolveHand address at a). resolving_hand seat address at facts.0 a resolves)
+  mutator_hand seat made kept command fixed (Loading spot) facts a is = load_hand seat made kept.command command fixed spot facts a is
+  mutator_hand seat made kept command fixed (OnField object spot) facts a is = field_hand seat kept.command command fixed object spot facts a is
+  mutator_hand seat made kept command fixed (Resolving address spot next) facts a is = ⊎_elim
+      (λ (resolves : IsResolveHand address spot a). resolving_hand seat address spot facts.0 a resolves)
       (λ (loaded : IsLoadedHand next a). loaded_hand seat kept.command command fixed address next facts.1 a loaded)
       is
-  mutator_hand seat made kept command fixed (Recording at address next) facts a is = ⊎_elim
-      (λ (records : IsRememberHand address at a). remember_hand config world shared region inside free seat address at facts.0 a records)
+  mutator_hand seat made kept command fixed (Recording spot address next) facts a is = ⊎_elim
+      (λ (records : IsRememberHand address spot a). remember_hand config world shared region inside free seat address spot facts.0 a records)
       (λ (overwritten : IsOverwrittenHand next a). overwritten_hand seat kept.command command fixed address next facts.1 a overwritten)
       is
-  mutator_hand seat made kept command fixed (OnNumber object refs at) facts a is = same a object (number_hand seat kept.command command fixed object refs at facts) is
-  mutator_hand seat made kept command fixed (Showing value at) facts a is = same a value (show_hand kept.command fixed value at facts) is
+  mutator_hand seat made kept command fixed (OnNumber object refs spot) facts a is = same a object (number_hand seat kept.command command fixed object refs spot facts) is
+  mutator_hand seat made kept command fixed (Showing value spot) facts a is = same a value (show_hand kept.command fixed value spot facts) is
   mutator_hand seat made kept command fixed (StoreRoot value) facts a is = same a value (store_hand seat (dst_of kept.command) value command facts.2) is
-  mutator_hand seat made kept command fixed (Pinning value at) facts a is = same a value (pin_hand seat kept.command command fixed value at facts) is
-  mutator_hand seat made kept command fixed (Making at) facts a is = make_hand seat made kept.command command fixed at facts a is
-  mutator_hand seat made kept command fixed (Waiting at) facts a is = wait_hand seat made kept.command command fixed at facts a is
+  mutator_hand seat made kept command fixed (Pinning value spot) facts a is = same a value (pin_hand seat kept.command command fixed value spot facts) is
+  mutator_hand seat made kept command fixed (Making spot) facts a is = make_hand seat made kept.command command fixed spot facts a is
+  mutator_hand seat made kept command fixed (Waiting spot) facts a is = wait_hand seat made kept.command command fixed spot facts a is
   mutator_hand seat made kept command fixed Rest facts a is = absurd is
   mutator_hand seat made kept command fixed (Ended reply) facts a is = absurd is
-  mutator_hand seat made kept command fixed (Entering at next) facts a is = absurd is
+  mutator_hand seat made kept command fixed (Entering spot next) facts a is = absurd is
   mutator_hand seat made kept command fixed LoadPhase facts a is = absurd is
   mutator_hand seat made kept command fixed LoadSet facts a is = absurd is
   mutator_hand seat made kept command fixed AskCycle facts a is = absurd is

@@ -54,7 +54,7 @@ module _ (config : Config) (world : World) (shared : Shared config world) (regio
   moved_apart a to body is = piece_elsewhere config world shared region inside free to (thing body.name body.refs body.nums) (shared.evacuated.moved.moveds a body.refs body.nums to body.name is).copy
 
   -- of who takes room
-  pub take_hand : (seat words : ℕ) (at : TakeSpot) → TakeFacts config world seat words at → (a : ℕ) → IsTakeHand at a → IsApart a
+  pub take_hand : (seat words : ℕ) (spot : TakeSpot) → TakeFacts config world seat words spot → (a : ℕ) → IsTakeHand spot a → IsApart a
   take_hand seat words (take.Fill buffer address room) facts a is =
       either_apart a address (next_in buffer) (piece_elsewhere config world shared region inside free address (carved seat room) facts.here)
       (piece_elsewhere config world shared region inside free (next_in buffer) (spare seat (free_words buffer)) facts.left) is
@@ -65,7 +65,7 @@ module _ (config : Config) (world : World) (shared : Shared config world) (regio
   take_hand seat words _ facts a is = absurd is
 
   -- of who copies
-  copy_hand : (seat address copy end : ℕ) (body : Body) (at : CopySpot) → CopyFacts config world seat address copy end body at → (a : ℕ) → IsCopyHand copy at a → IsApart a
+  copy_hand : (seat address copy end : ℕ) (body : Body) (spot : CopySpot) → CopyFacts config world seat address copy end body spot → (a : ℕ) → IsCopyHand copy spot a → IsApart a
   copy_hand seat address copy end body (LoadWord words index) facts a is = same_apart a copy (room_apart copy seat (body_words body) facts.3.taken.here) is
   copy_hand seat address copy end body (StoreWord words index found) facts a is = same_apart a copy (room_apart copy seat (body_words body) facts.3.taken.here) is
   copy_hand seat address copy end body StoreHeader facts a is = same_apart a copy (room_apart copy seat (body_words body) facts.taken.here) is
@@ -73,42 +73,42 @@ module _ (config : Config) (world : World) (shared : Shared config world) (regio
   copy_hand seat address copy end body (GiveBack answer) facts a is = either_apart a copy answer (room_apart copy seat (body_words body) facts.0.here) (moved_apart address answer body facts.1) is
 
   -- of who resolves an address while objects are evacuated
-  pub resolve_hand : (seat address : ℕ) (at : ResolveSpot) → CanResolve config world seat address at → (a : ℕ) → IsResolveHand address at a → IsApart a
-  resolve_hand seat address (Copying copy end at) can a is = ⊎_elim
+  pub resolve_hand : (seat address : ℕ) (spot : ResolveSpot) → CanResolve config world seat address spot → (a : ℕ) → IsResolveHand address spot a → IsApart a
+  resolve_hand seat address (Copying copy end spot) can a is = ⊎_elim
       (λ (same : a ≡ address). same_apart a address (copy_elsewhere config world shared region inside free address can.there) same)
-      (λ (hand_is : IsCopyHand copy at a). copy_hand seat address copy end can.facts.0 at can.facts.2 a hand_is)
+      (λ (hand_is : IsCopyHand copy spot a). copy_hand seat address copy end can.facts.0 spot can.facts.2 a hand_is)
       is
   resolve_hand seat address (Leaving answer) can a is =
       either_apart a address answer (copy_elsewhere config world shared region inside free address can.there) (moved_apart address answer can.facts.0 can.facts.2) is
   resolve_hand seat address LoadHeader can a is = same_apart a address (copy_elsewhere config world shared region inside free address can.there) is
-  resolve_hand seat address (Entering at) can a is = same_apart a address (copy_elsewhere config world shared region inside free address can.there) is
+  resolve_hand seat address (Entering spot) can a is = same_apart a address (copy_elsewhere config world shared region inside free address can.there) is
   resolve_hand seat address LoadShape can a is = same_apart a address (copy_elsewhere config world shared region inside free address can.there) is
-  resolve_hand seat address (Taking words at) can a is = ⊎_elim
+  resolve_hand seat address (Taking words spot) can a is = ⊎_elim
       (λ (same : a ≡ address). same_apart a address (copy_elsewhere config world shared region inside free address can.there) same)
-      (λ (hand_is : IsTakeHand at a). take_hand seat words at can.facts.2.1.facts a hand_is)
+      (λ (hand_is : IsTakeHand spot a). take_hand seat words spot can.facts.2.1.facts a hand_is)
       is
-  resolve_hand seat address (Stopping at) can a is = same_apart a address (copy_elsewhere config world shared region inside free address can.there) is
+  resolve_hand seat address (Stopping spot) can a is = same_apart a address (copy_elsewhere config world shared region inside free address can.there) is
   resolve_hand seat address LoadAgain can a is = same_apart a address (copy_elsewhere config world shared region inside free address can.there) is
   resolve_hand seat address (Resolved answer) can a is = same_apart a address (copy_elsewhere config world shared region inside free address can.there) is
 
   -- and while references are updated
-  pub follow_hand : (seat address : ℕ) (at : ResolveSpot) → CanFollow config world seat address at → (a : ℕ) → IsResolveHand address at a → IsApart a
+  pub follow_hand : (seat address : ℕ) (spot : ResolveSpot) → CanFollow config world seat address spot → (a : ℕ) → IsResolveHand address spot a → IsApart a
   follow_hand seat address LoadHeader can a is = same_apart a address (body_elsewhere config world shared region inside free address can.body can.there) is
   follow_hand seat address (Resolved answer) can a is = same_apart a address (body_elsewhere config world shared region inside free address can.body can.there) is
-  follow_hand seat address (Entering at) can a is = absurd can.facts
+  follow_hand seat address (Entering spot) can a is = absurd can.facts
   follow_hand seat address LoadShape can a is = absurd can.facts
-  follow_hand seat address (Taking words at) can a is = absurd can.facts
-  follow_hand seat address (Copying copy end at) can a is = absurd can.facts
+  follow_hand seat address (Taking words spot) can a is = absurd can.facts
+  follow_hand seat address (Copying copy end spot) can a is = absurd can.facts
   follow_hand seat address (Leaving answer) can a is = absurd can.facts
-  follow_hand seat address (Stopping at) can a is = absurd can.facts
+  follow_hand seat address (Stopping spot) can a is = absurd can.facts
   follow_hand seat address LoadAgain can a is = absurd can.facts
 
   -- of who records an address
-  pub remember_hand : (mutator address : ℕ) (at : RememberSpot) → CanRecord config world mutator address at → (a : ℕ) → IsRememberHand address at a → IsApart a
+  pub remember_hand : (mutator address : ℕ) (spot : RememberSpot) → CanRecord config world mutator address spot → (a : ℕ) → IsRememberHand address spot a → IsApart a
   remember_hand mutator address (remember.MarkEntry entry found) can a is =
       let full = can.words.facts.0 in
       let below = can.words.facts.1 in
-      let object : IsMarkable world.block found = subst (λ v. IsMarkable world.block v) can.words.facts.3 ((shared.marked.marking can.phase).entries.of_objects mutator entry can.seated (omega (arith, full, below))) in
+      let object : IsMarkable world.block found = subst (λ address. IsMarkable world.block address) can.words.facts.3 ((shared.marked.marking can.phase).entries.of_objects mutator entry can.seated (omega (arith, full, below))) in
       either_apart a address found (markable_elsewhere config world shared region inside free address can.markable) (markable_elsewhere config world shared region inside free found object) is
   remember_hand mutator address remember.LoadCount can a is = same_apart a address (markable_elsewhere config world shared region inside free address can.markable) is
   remember_hand mutator address (remember.LoadEntry entry) can a is = same_apart a address (markable_elsewhere config world shared region inside free address can.markable) is
@@ -118,7 +118,7 @@ module _ (config : Config) (world : World) (shared : Shared config world) (regio
   remember_hand mutator address remember.Recorded can a is = same_apart a address (markable_elsewhere config world shared region inside free address can.markable) is
 
   -- of who scans
-  pub scan_hand : (seat : ℕ) (at : ScanSpot) → CanScan config world seat at → (a : ℕ) → IsScanHand config at a → IsApart a
+  pub scan_hand : (seat : ℕ) (spot : ScanSpot) → CanScan config world seat spot → (a : ℕ) → IsScanHand config spot a → IsApart a
   scan_hand seat (scan.LoadBlack word grey) can a is = same_apart a (address_at config word is.0) (markable_elsewhere config world shared region inside free (address_at config word is.0) (can.facts.of_objects is.0 is.1 is.2)) is.3
   scan_hand seat (scan.SetBlack address) can a is = same_apart a address (markable_elsewhere config world shared region inside free address can.facts) is
   scan_hand seat (scan.LoadShape address) can a is = same_apart a address (markable_elsewhere config world shared region inside free address can.facts) is
@@ -139,15 +139,15 @@ module _ (config : Config) (world : World) (shared : Shared config world) (regio
       same_apart a next (piece_elsewhere config world shared region inside free next piece.0 (ap world.block next_is ∙ piece.1)) is.1
 
   -- of who evacuates
-  pub evac_hand : (seat cset : ℕ) (at : EvacSpot) → CanEvacuate config world seat cset at → (a : ℕ) → IsEvacHand at a → IsApart a
+  pub evac_hand : (seat cset : ℕ) (spot : EvacSpot) → CanEvacuate config world seat cset spot → (a : ℕ) → IsEvacHand spot a → IsApart a
   evac_hand seat cset (evac.LoadFirst address end) can a is = same_apart a address (piece_elsewhere config world shared region inside free address can.facts.1.piece can.facts.1.there) is
   evac_hand seat cset (evac.LoadShape address end) can a is = same_apart a address (piece_elsewhere config world shared region inside free address can.facts.1.at.piece can.facts.1.at.there) is
   evac_hand seat cset (evac.LoadMark address end next) can a is = ⊎_elim
       (λ (same : a ≡ address). same_apart a address (piece_elsewhere config world shared region inside free address can.facts.1.at.piece can.facts.1.at.there) same)
       (λ (behind : (next < end) × (a ≡ next)). next_apart address end next a can.facts.1 behind)
       is
-  evac_hand seat cset (evac.Resolving address end next at) can a is = ⊎_elim
-      (λ (resolves : IsResolveHand address at a). resolve_hand seat address at can.facts.1 a resolves)
+  evac_hand seat cset (evac.Resolving address end next spot) can a is = ⊎_elim
+      (λ (resolves : IsResolveHand address spot a). resolve_hand seat address spot can.facts.1 a resolves)
       (λ (behind : (next < end) × (a ≡ next)). next_apart address end next a can.facts.2 behind)
       is
   evac_hand seat cset _ can a is = absurd is
@@ -159,14 +159,14 @@ module _ (config : Config) (world : World) (shared : Shared config world) (regio
       (λ (fills : (words : ℕ) × (world.block address ≡ Some (dead words))). piece_elsewhere config world shared region inside free address (dead fills.0) fills.1)
       is
 
-  shaped_apart : (a shape : ℕ) → HasShape world a shape → IsApart a
-  shaped_apart a shape is = ⊎_elim
-      (λ object. markable_elsewhere config world shared region inside free a object.0)
-      (λ fills. piece_elsewhere config world shared region inside free a (dead fills.0) fills.1)
+  shaped_apart : (address shape : ℕ) → HasShape world address shape → IsApart address
+  shaped_apart address shape is = ⊎_elim
+      (λ object. markable_elsewhere config world shared region inside free address object.0)
+      (λ fills. piece_elsewhere config world shared region inside free address (dead fills.0) fills.1)
       is
 
   -- of who updates references
-  pub update_hand : (seat cset : ℕ) (at : UpdateSpot) → CanUpdate config world seat cset at → (a : ℕ) → IsUpdateHand at a → IsApart a
+  pub update_hand : (seat cset : ℕ) (spot : UpdateSpot) → CanUpdate config world seat cset spot → (a : ℕ) → IsUpdateHand spot a → IsApart a
   update_hand seat cset (update.LoadFirst walk address) can a is = same_apart a address (⊎_elim
       (λ (piece : IsPiece world address). walked_apart address piece)
       (λ fills. piece_elsewhere config world shared region inside free address (filler fills.0) fills.1)

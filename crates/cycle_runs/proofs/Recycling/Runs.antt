@@ -61,31 +61,31 @@ module _ (config : Config) (world : World) (shared : Shared config world) (other
   IsApart a = IsElsewhere config world shared other_region inside free a
 
   -- what a helper and the control have in hand does not
-  unit_hand : (seat : ℕ) (at : UnitSpot) → CanWork config world seat at → (a : ℕ) → IsUnitHand config at a → IsApart a
-  unit_hand seat (unit.Scanning at) can a is = scan_hand config world shared other_region inside free seat at can.0 a is
-  unit_hand seat (unit.Evacuating cset at) can a is = evac_hand config world shared other_region inside free seat cset at can a is
-  unit_hand seat (unit.Updating cset at) can a is = update_hand config world shared other_region inside free seat cset at can a is
+  unit_hand : (seat : ℕ) (spot : UnitSpot) → CanWork config world seat spot → (a : ℕ) → IsUnitHand config spot a → IsApart a
+  unit_hand seat (unit.Scanning spot) can a is = scan_hand config world shared other_region inside free seat spot can.0 a is
+  unit_hand seat (unit.Evacuating cset spot) can a is = evac_hand config world shared other_region inside free seat cset spot can a is
+  unit_hand seat (unit.Updating cset spot) can a is = update_hand config world shared other_region inside free seat cset spot can a is
   unit_hand seat (unit.Ended ended) can a is = absurd is
 
   help_hand : (seat : ℕ) (spot : HelpSpot) → HelpFacts config world seat spot → (a : ℕ) → IsHelpHand config spot a → IsApart a
-  help_hand seat (help.Working at) facts a is = unit_hand seat at facts a is
+  help_hand seat (help.Working spot) facts a is = unit_hand seat spot facts a is
   help_hand seat _ facts a is = absurd is
 
   control_hand : (seat : ℕ) (spot : ControlSpot) → ControlFacts config world seat spot → (a : ℕ) → IsControlHand config spot a → IsApart a
-  control_hand seat (control.Working at) facts a is = unit_hand seat at facts a is
+  control_hand seat (control.Working spot) facts a is = unit_hand seat spot facts a is
   control_hand seat _ facts a is = absurd is
 
   -- a buffer has words in use, so that it does not
   pub buffer_apart : (seat : ℕ) → world.memory (Current seat) ≢ 0 → IsApart (end_in (world.memory (Current seat)) - 1)
-  buffer_apart seat some of =
-      let buffer = shared.owned.buffers.each seat some in
+  buffer_apart seat positive of =
+      let buffer = shared.owned.buffers.each seat positive in
       let more = buffer.some in
       let to_top = buffer.to_top in
       let most = shared.parsable.plotted.tops buffer.region buffer.within in
       let last : ℕ = end_in (world.memory (Current seat)) - 1 in
       let here : buffer.region ≡ other_region =
       sym (regions_tile.of_no_other config buffer.region last (record { from = omega (arith, more); before = omega (arith, more, to_top, most) })) ∙ regions_tile.of_no_other config other_region last of in
-      let none : world.memory (Top buffer.region) ≡ 0 = ap (λ k. world.memory (Top k)) here ∙ shared.owned.free_word.empty other_region inside free in
+      let none : world.memory (Top buffer.region) ≡ 0 = ap (λ region. world.memory (Top region)) here ∙ shared.owned.free_word.empty other_region inside free in
       omega (arith, more, to_top, none)
 
   -- a region that is taken is not free
@@ -93,7 +93,7 @@ module _ (config : Config) (world : World) (shared : Shared config world) (other
   not_own seat region taken is = none-some seat (sym (shared.owned.free_word.nobodys other_region inside free) ∙ ap world.ghost.owner is ∙ taken.own)
 
   -- nor is it one that a machine is about to carve, or has taken
-  pub take_region : (seat words : ℕ) (at : TakeSpot) → TakeFacts config world seat words at → IsTakeRegion at other_region → ⊥
+  pub take_region : (seat words : ℕ) (spot : TakeSpot) → TakeFacts config world seat words spot → IsTakeRegion spot other_region → ⊥
   take_region seat words (take.LoadTop buffer region) facts is = facts.1.in_use (subst (λ k. IsIn (world.memory Free) k) is free)
   take_region seat words (take.Carve buffer region top room) facts is = facts.1.in_use (subst (λ k. IsIn (world.memory Free) k) is free)
   take_region seat words (take.ShareRegion buffer shared_word region) facts is = not_own seat region facts.1 is
@@ -102,35 +102,35 @@ module _ (config : Config) (world : World) (shared : Shared config world) (other
 
   -- nor does what any machine has
   pub machine_hand : (words : List ℕ) (entries : List Entry) (number : ℕ) (actor : Actor) (machine : Machine) → IsMachine config words world entries number actor machine → (a : ℕ) → IsInHandOf config machine a → IsApart a
-  machine_hand words entries number actor (mutating m) facts a is = mutator_hand config world shared other_region inside free m.seat m.made m.kept actor.command facts.fixed m.spot facts.mine.facts a is
-  machine_hand words entries number actor (helping h) facts a is = help_hand number h.spot facts.facts a is
+  machine_hand words entries number actor (mutating mutator) facts a is = mutator_hand config world shared other_region inside free mutator.seat mutator.made mutator.kept actor.command facts.fixed mutator.spot facts.mine.facts a is
+  machine_hand words entries number actor (helping helper) facts a is = help_hand number helper.spot facts.facts a is
   machine_hand words entries number actor (controlling k) facts a is = control_hand number k.spot facts.facts a is
 
   -- where an answer leads
   pub answer_apart : (mutator : ℕ) (asking : Asking) → IsAsked world.memory world.block world.graph.count mutator asking → 1 < world.memory (Answer mutator) → IsApart (world.memory (Answer mutator))
-  answer_apart mutator nothing is some = absurd (omega (arith, is.1, some))
-  answer_apart mutator (asks refs nums) is some = absurd (omega (arith, is.1, some))
-  answer_apart mutator refused is some = absurd (omega (arith, is.1, some))
-  answer_apart mutator (given refs nums) is some = piece_elsewhere config world shared other_region inside free (world.memory (Answer mutator)) _ is.2.here
+  answer_apart mutator nothing is below = absurd (omega (arith, is.1, below))
+  answer_apart mutator (asks refs nums) is below = absurd (omega (arith, is.1, below))
+  answer_apart mutator refused is below = absurd (omega (arith, is.1, below))
+  answer_apart mutator (given refs nums) is below = piece_elsewhere config world shared other_region inside free (world.memory (Answer mutator)) _ is.2.here
 
   -- what a slot holds
   pub pin_apart : (word : ℕ) (held : Option Pinned) → PinStands config (world.memory Cset) (world.memory Evac) world.block word held → IsApart word
   pin_apart word None is = null_elsewhere config world shared other_region inside free word is
-  pin_apart word (Some p) is = target_elsewhere config world shared other_region inside free word is.1 is.2 p.name is.3
+  pin_apart word (Some pinned) is = target_elsewhere config world shared other_region inside free word is.1 is.2 pinned.name is.3
 
   -- of what was taken
   taken_apart : (seat : ℕ) (reply : Reply) → HasTaken config world seat reply → 1 < world.memory (Answer seat) → IsApart (world.memory (Answer seat))
-  taken_apart seat (Ref name) taken some = target_elsewhere config world shared other_region inside free (world.memory (Answer seat)) taken.0 taken.1 name taken.2
-  taken_apart seat Full full some = absurd (omega (arith, full, some))
-  taken_apart seat _ other some = absurd other
+  taken_apart seat (Ref name) taken below = target_elsewhere config world shared other_region inside free (world.memory (Answer seat)) taken.0 taken.1 name taken.2
+  taken_apart seat Full full below = absurd (omega (arith, full, below))
+  taken_apart seat _ other below = absurd other
 
   -- also while the mutator is about to clear it
   pub answered_apart : (seat made : ℕ) (kept : Kept) (command : Command) (fixed : Option Reply) (spot : Spot) → Mine config world (mutator_at seat made kept spot) command fixed → 1 < world.memory (Answer seat)
       → IsApart (world.memory (Answer seat))
-  answered_apart seat made kept command fixed (Waiting (wait.ClearAnswer reply)) mine some = taken_apart seat reply mine.facts.3 some
-  answered_apart seat made kept command fixed spot mine some =
+  answered_apart seat made kept command fixed (Waiting (wait.ClearAnswer reply)) mine below = taken_apart seat reply mine.facts.3 below
+  answered_apart seat made kept command fixed spot mine below =
       let asked = has_asked config world seat made kept command fixed spot refl mine in
-      answer_apart seat asked.asking asked.is some
+      answer_apart seat asked.asking asked.is below
 
   -- what a field of a current copy names
   field_apart : (address refs nums k : ℕ) (name : Name) → world.block address ≡ Some (thing name refs nums) → k < refs → IsApart (world.memory (Heap (address + 3 + k)))
@@ -165,28 +165,28 @@ module _ (config : Config) (graph : Graph) (stage : Stage Actor) (entries : List
   stands = stands_there config graph stage entries goes
 
   -- no free region is held
-  not_held : (r : ℕ) → r < config.regions → IsIn (settled config stage Free) r → IsHeld config the_world stage.machines r → ⊥
-  not_held r inside free (IsHeld.by_root number index x m here is below of) =
-      let thread = thread_of number x m (record { here = here; is = is }) in
-      points_elsewhere config the_world goes.follows.shared r inside free (root_now the_world m.seat m.kept m.spot index) (the_world.graph.root (m.seat + 1) index) (thread.mine.roots index below) of
-  not_held r inside free (IsHeld.by_pin t slot below few of) =
-      pin_apart config the_world goes.follows.shared r inside free (the_world.memory (Pin t slot)) (the_world.graph.pin (t + 1) slot) (goes.follows.shared.pinned t slot below few) of
-  not_held r inside free (IsHeld.by_answer t below some of) =
+  not_held : (region : ℕ) → region < config.regions → IsIn (settled config stage Free) region → IsHeld config the_world stage.machines region → ⊥
+  not_held region inside free (IsHeld.by_root number index actor mutator here is below of) =
+      let thread = thread_of number actor mutator (record { here = here; is = is }) in
+      points_elsewhere config the_world goes.follows.shared region inside free (root_now the_world mutator.seat mutator.kept mutator.spot index) (the_world.graph.root (mutator.seat + 1) index) (thread.mine.roots index below) of
+  not_held region inside free (IsHeld.by_pin mutator slot below few of) =
+      pin_apart config the_world goes.follows.shared region inside free (the_world.memory (Pin mutator slot)) (the_world.graph.pin (mutator + 1) slot) (goes.follows.shared.pinned mutator slot below few) of
+  not_held region inside free (IsHeld.by_answer t below some of) =
       let there = mutator_there config stage.words the_world entries stage.machines goes.follows.seats goes.follows.machines t below in
       let thread = there.4 in
       let m = there.1 in
-      subst (λ seat. 1 < the_world.memory (Answer seat) → IsOf config r (the_world.memory (Answer seat)) → ⊥) thread.number_is
-      (answered_apart config the_world goes.follows.shared r inside free m.seat m.made m.kept there.0.command thread.fixed m.spot thread.mine) some of
-  not_held r inside free (IsHeld.by_field a k b is below of) = copy_apart config the_world goes.follows.shared r inside free a k b is below of
-  not_held r inside free (IsHeld.by_hand number a x here hand_is of) =
-      machine_hand config the_world goes.follows.shared r inside free stage.words (of_thread entries (number + 1)) number x x.machine (goes.follows.machines number x here) a hand_is of
-  not_held r inside free (IsHeld.by_carried number x carried b here carries there from below of) =
+      subst (λ seat. 1 < the_world.memory (Answer seat) → IsOf config region (the_world.memory (Answer seat)) → ⊥) thread.number_is
+      (answered_apart config the_world goes.follows.shared region inside free m.seat m.made m.kept there.0.command thread.fixed m.spot thread.mine) some of
+  not_held region inside free (IsHeld.by_field a k b is below of) = copy_apart config the_world goes.follows.shared region inside free a k b is below of
+  not_held region inside free (IsHeld.by_hand number a x here hand_is of) =
+      machine_hand config the_world goes.follows.shared region inside free stage.words (of_thread entries (number + 1)) number x x.machine (goes.follows.machines number x here) a hand_is of
+  not_held region inside free (IsHeld.by_carried number x carried b here carries there from below of) =
       let stands = (in_seat config stage.words the_world (of_thread entries (number + 1)) number x x.machine (goes.follows.machines number x here)).carries carried carries in
-      let word : carried.word ≡ the_world.memory (Heap (carried.object + 3 + (carried.index - 3))) = stands.same ∙ ap (λ a. the_world.memory (Heap a)) (omega (arith, from)) in
-      copy_apart config the_world goes.follows.shared r inside free carried.object (carried.index - 3) b there (omega (arith, from, below)) (subst (IsOf config r) word of)
-  not_held r inside free (IsHeld.by_piece a x is of) = piece_elsewhere config the_world goes.follows.shared r inside free a x is of
-  not_held r inside free (IsHeld.by_share is) = (goes.follows.shared.owned.shared_one r is).in_use free
-  not_held r inside free (IsHeld.by_buffer seat some of) = buffer_apart config the_world goes.follows.shared r inside free seat some of
+      let word : carried.word ≡ the_world.memory (Heap (carried.object + 3 + (carried.index - 3))) = stands.same ∙ ap (λ address. the_world.memory (Heap address)) (omega (arith, from)) in
+      copy_apart config the_world goes.follows.shared region inside free carried.object (carried.index - 3) b there (omega (arith, from, below)) (subst (IsOf config region) word of)
+  not_held region inside free (IsHeld.by_piece a x is of) = piece_elsewhere config the_world goes.follows.shared region inside free a x is of
+  not_held region inside free (IsHeld.by_share is) = (goes.follows.shared.owned.shared_one region is).in_use free
+  not_held region inside free (IsHeld.by_buffer seat some of) = buffer_apart config the_world goes.follows.shared region inside free seat some of
   not_held r inside free (IsHeld.by_taking number x t here takes region) =
       take_region config the_world goes.follows.shared r inside free number t.words t.take
       ((in_seat config stage.words the_world (of_thread entries (number + 1)) number x x.machine (goes.follows.machines number x here)).takes t takes) region

@@ -30,8 +30,8 @@ use Rattle.step_core.proofs.Machines.Roles.{number_of, below_control, outside_ac
 use Rattle.cycle_runs.specs.Recycling.Held.{TakesRegion, TakenRegionsWereFree}
 
 -- the order is taken, and the words after the event are those after the access
-event_parts : (change : Change) (config : Config) (stage : Stage Actor) (e : Event Order) (actor : Actor) → IsEvent (kind change config) stage e actor
-    → (takes_of actor.machine e.order ≡ true) × ((act (kind change config) stage e).words ≡ accessed (plan_of config e.order actor.machine) stage.words)
+event_parts : (change : Change) (config : Config) (stage : Stage Actor) (event : Event Order) (actor : Actor) → IsEvent (kind change config) stage event actor
+    → (takes_of actor.machine event.order ≡ true) × ((act (kind change config) stage event).words ≡ accessed (plan_of config event.order actor.machine) stage.words)
 unfolding kind
 event_parts change config stage e actor event = (event.takes, ap (λ t. t.words) (act-event (kind change config) stage e actor event))
 
@@ -74,7 +74,7 @@ module _ (change : Change) (config : Config) (graph : Graph) (stage : Stage Acto
   by_spot actor control here is _ same = refl
 
   by_machine : (actor : Actor) (machine : Machine) → slice_get stage.machines (control_number config) ≡ Some actor → actor.machine ≡ machine → settled_by config stage.words (image_read machine) ≡ view config stage.words
-  by_machine actor (controlling m) here is = by_spot actor m here is m.spot refl
+  by_machine actor (controlling control) here is = by_spot actor control here is control.spot refl
   by_machine actor _ here is = refl
 
   by_actor : (found : Option Actor) → slice_get stage.machines (control_number config) ≡ found → settled_by config stage.words (image_of found) ≡ view config stage.words

@@ -30,7 +30,7 @@ use Rattle.step_core.specs.Sound.{StandsFor}
 
 -- whether the control stops the other machines for a pause, or reads the image in one
 abbrev pub has_begun : ControlSpot → Bool
-has_begun (Stopping at) = true
+has_begun (Stopping spot) = true
 has_begun (LoadWord index extent) = true
 has_begun _ = false
 
@@ -49,7 +49,7 @@ PausesComeWhenDue = (change : Change) → PausesByParts change → (config : Con
 -- object that has moved
 abbrev pub IsEvacuated : Config → (Word → ℕ) → Type 0
 IsEvacuated config memory = memory Phase ≡ evacuation_phase → bit_at (memory Ask) 1 ≡ 0 → is_out_of_room (memory Evac) ≡ false
-    → (address : ℕ) → config.region_words ≤ address → IsCollected config (memory Cset) address → HasMark config (λ n. memory (Black n)) address → is_forwarded (memory (Heap address)) ≡ true
+    → (address : ℕ) → config.region_words ≤ address → IsCollected config (memory Cset) address → HasMark config (λ number. memory (Black number)) address → is_forwarded (memory (Heap address)) ≡ true
 
 -- so it is wherever the control reads the image in a pause
 abbrev pub EvacuationIsWhole : Type 0

@@ -98,7 +98,7 @@ CopiesAreSpared = (change : Change) → PausesByParts change → (config : Confi
 -- moved
 abbrev pub AreAllForwarded : Config → Stage Actor → Type 0
 AreAllForwarded config stage = settled config stage Phase ≡ evacuation_phase → config.regions ≤ settled config stage Claim → is_out_of_room (settled config stage Evac) ≡ false
-    → (address : ℕ) → config.region_words ≤ address → IsCollected config (settled config stage Cset) address → HasMark config (λ n. settled config stage (Black n)) address → is_forwarded (settled config stage (Heap address)) ≡ true
+    → (address : ℕ) → config.region_words ≤ address → IsCollected config (settled config stage Cset) address → HasMark config (λ number. settled config stage (Black number)) address → is_forwarded (settled config stage (Heap address)) ≡ true
 
 -- so it is in each pause
 abbrev pub AllIsForwardedInRuns : Type 0

@@ -27,18 +27,18 @@ use Rattle.cycle_runs.specs.Recycling.InHand.{IsInHandOf, IsTakeRegion}
 -- has in hand, also a reference that it has loaded of an object and is about to store into a copy, or the beginning of a piece at all; it
 -- is the shared one, or has a seat's buffer; or a machine that takes room is about to carve it, or has taken it.
 pub data IsHeld (config : Config) (world : World) (machines : List Actor) (region : ℕ) : Type 0 where
-  by_root : (number index : ℕ) (x : Actor) (mutator : Mutating) → slice_get machines number ≡ Some x → x.machine ≡ mutating mutator → index < 16 → IsOf config region (root_now world mutator.seat mutator.kept mutator.spot index)
+  by_root : (number index : ℕ) (actor : Actor) (mutator : Mutating) → slice_get machines number ≡ Some actor → actor.machine ≡ mutating mutator → index < 16 → IsOf config region (root_now world mutator.seat mutator.kept mutator.spot index)
       → IsHeld config world machines region
-  by_pin : (t slot : ℕ) → t < config.mutators → slot < 4 → IsOf config region (world.memory (Pin t slot)) → IsHeld config world machines region
-  by_answer : (t : ℕ) → t < config.mutators → 1 < world.memory (Answer t) → IsOf config region (world.memory (Answer t)) → IsHeld config world machines region
+  by_pin : (mutator slot : ℕ) → mutator < config.mutators → slot < 4 → IsOf config region (world.memory (Pin mutator slot)) → IsHeld config world machines region
+  by_answer : (mutator : ℕ) → mutator < config.mutators → 1 < world.memory (Answer mutator) → IsOf config region (world.memory (Answer mutator)) → IsHeld config world machines region
   by_field : (address k : ℕ) (body : Body) → body_at (world.block address) ≡ Some body → k < body.refs → IsOf config region (world.memory (Heap (address + 3 + k))) → IsHeld config world machines region
-  by_hand : (number address : ℕ) (x : Actor) → slice_get machines number ≡ Some x → IsInHandOf config x.machine address → IsOf config region address → IsHeld config world machines region
-  by_carried : (number : ℕ) (x : Actor) (carried : Carried) (body : Body) → slice_get machines number ≡ Some x → carries_of x.machine ≡ Some carried → body_at (world.block carried.object) ≡ Some body
+  by_hand : (number address : ℕ) (actor : Actor) → slice_get machines number ≡ Some actor → IsInHandOf config actor.machine address → IsOf config region address → IsHeld config world machines region
+  by_carried : (number : ℕ) (actor : Actor) (carried : Carried) (body : Body) → slice_get machines number ≡ Some actor → carries_of actor.machine ≡ Some carried → body_at (world.block carried.object) ≡ Some body
       → 3 ≤ carried.index → carried.index < 3 + body.refs → IsOf config region carried.word → IsHeld config world machines region
-  by_piece : (address : ℕ) (x : Block) → world.block address ≡ Some x → IsOf config region address → IsHeld config world machines region
+  by_piece : (address : ℕ) (piece : Block) → world.block address ≡ Some piece → IsOf config region address → IsHeld config world machines region
   by_share : world.memory Share ≡ region + 1 → IsHeld config world machines region
   by_buffer : (seat : ℕ) → world.memory (Current seat) ≢ 0 → IsOf config region (end_in (world.memory (Current seat)) - 1) → IsHeld config world machines region
-  by_taking : (number : ℕ) (x : Actor) (t : Taking) → slice_get machines number ≡ Some x → taking_of x.machine ≡ Some t → IsTakeRegion t.take region → IsHeld config world machines region
+  by_taking : (number : ℕ) (actor : Actor) (taking : Taking) → slice_get machines number ≡ Some actor → taking_of actor.machine ≡ Some taking → IsTakeRegion taking.take region → IsHeld config world machines region
 
 -- Words and machines stand for a graph by some plot, in which no region that is free by the words that count is held.
 pub record FreeIsNotHeld (config : Config) (stage : Stage Actor) (graph : Graph) : Type 0 where

@@ -64,8 +64,8 @@ IsCopyHand copy _ a = a ≡ copy
 
 -- of who resolves an address: that address, what its taking of room has, and the answer before it leaves
 abbrev pub IsResolveHand : (address : ℕ) → ResolveSpot → ℕ → Type 0
-IsResolveHand address (Taking words at) a = (a ≡ address) ⊎ IsTakeHand at a
-IsResolveHand address (Copying copy end at) a = (a ≡ address) ⊎ IsCopyHand copy at a
+IsResolveHand address (Taking words spot) a = (a ≡ address) ⊎ IsTakeHand spot a
+IsResolveHand address (Copying copy end spot) a = (a ≡ address) ⊎ IsCopyHand copy spot a
 IsResolveHand address (Leaving answer) a = (a ≡ address) ⊎ (a ≡ answer)
 IsResolveHand address _ a = a ≡ address
 
@@ -88,7 +88,7 @@ abbrev pub IsEvacHand : EvacSpot → ℕ → Type 0
 IsEvacHand (evac.LoadFirst address end) a = a ≡ address
 IsEvacHand (evac.LoadShape address end) a = a ≡ address
 IsEvacHand (evac.LoadMark address end next) a = (a ≡ address) ⊎ ((next < end) × (a ≡ next))
-IsEvacHand (evac.Resolving address end next at) a = IsResolveHand address at a ⊎ ((next < end) × (a ≡ next))
+IsEvacHand (evac.Resolving address end next spot) a = IsResolveHand address spot a ⊎ ((next < end) × (a ≡ next))
 IsEvacHand _ a = ⊥
 
 -- of who updates references: the object, or the words that only fill, to which it has come, what it has found in a field, and the copy to which that leads
@@ -129,7 +129,7 @@ IsOverwrittenHand _ a = ⊥
 
 -- of who makes an object: its room, also while it takes it
 abbrev pub IsMakeHand : MakeSpot → ℕ → Type 0
-IsMakeHand (make.Taking at) a = IsTakeHand at a
+IsMakeHand (make.Taking spot) a = IsTakeHand spot a
 IsMakeHand (make.StoreWord address done) a = a ≡ address
 IsMakeHand (make.StoreRoot address) a = a ≡ address
 
@@ -140,37 +140,37 @@ IsWaitHand _ a = ⊥
 
 -- of a mutator
 abbrev pub IsMutatorHand : Command → Spot → ℕ → Type 0
-IsMutatorHand command (Loading at) a = IsLoadHand command at a
-IsMutatorHand command (OnField object at) a = IsFieldHand object at a
-IsMutatorHand command (Resolving address at next) a = IsResolveHand address at a ⊎ IsLoadedHand next a
-IsMutatorHand command (Recording at address next) a = IsRememberHand address at a ⊎ IsOverwrittenHand next a
-IsMutatorHand command (OnNumber object refs at) a = a ≡ object
-IsMutatorHand command (Showing value at) a = a ≡ value
+IsMutatorHand command (Loading spot) a = IsLoadHand command spot a
+IsMutatorHand command (OnField object spot) a = IsFieldHand object spot a
+IsMutatorHand command (Resolving address spot next) a = IsResolveHand address spot a ⊎ IsLoadedHand next a
+IsMutatorHand command (Recording spot address next) a = IsRememberHand address spot a ⊎ IsOverwrittenHand next a
+IsMutatorHand command (OnNumber object refs spot) a = a ≡ object
+IsMutatorHand command (Showing value spot) a = a ≡ value
 IsMutatorHand command (StoreRoot value) a = a ≡ value
-IsMutatorHand command (Pinning value at) a = a ≡ value
-IsMutatorHand command (Making at) a = IsMakeHand at a
-IsMutatorHand command (Waiting at) a = IsWaitHand at a
+IsMutatorHand command (Pinning value spot) a = a ≡ value
+IsMutatorHand command (Making spot) a = IsMakeHand spot a
+IsMutatorHand command (Waiting spot) a = IsWaitHand spot a
 IsMutatorHand command _ a = ⊥
 
 -- of who works on a unit
 abbrev pub IsUnitHand : Config → UnitSpot → ℕ → Type 0
-IsUnitHand config (unit.Scanning at) a = IsScanHand config at a
-IsUnitHand config (unit.Evacuating cset at) a = IsEvacHand at a
-IsUnitHand config (unit.Updating cset at) a = IsUpdateHand at a
+IsUnitHand config (unit.Scanning spot) a = IsScanHand config spot a
+IsUnitHand config (unit.Evacuating cset spot) a = IsEvacHand spot a
+IsUnitHand config (unit.Updating cset spot) a = IsUpdateHand spot a
 IsUnitHand config _ a = ⊥
 
 -- of a helper
 abbrev pub IsHelpHand : Config → HelpSpot → ℕ → Type 0
-IsHelpHand config (help.Working at) a = IsUnitHand config at a
+IsHelpHand config (help.Working spot) a = IsUnitHand config spot a
 IsHelpHand config _ a = ⊥
 
 -- of the control
 abbrev pub IsControlHand : Config → ControlSpot → ℕ → Type 0
-IsControlHand config (control.Working at) a = IsUnitHand config at a
+IsControlHand config (control.Working spot) a = IsUnitHand config spot a
 IsControlHand config _ a = ⊥
 
 -- and of any machine, by its role
 abbrev pub IsInHandOf : Config → Machine → ℕ → Type 0
-IsInHandOf config (mutating m) a = IsMutatorHand m.kept.command m.spot a
-IsInHandOf config (helping h) a = IsHelpHand config h.spot a
+IsInHandOf config (mutating mutator) a = IsMutatorHand mutator.kept.command mutator.spot a
+IsInHandOf config (helping helper) a = IsHelpHand config helper.spot a
 IsInHandOf config (controlling k) a = IsControlHand config k.spot a

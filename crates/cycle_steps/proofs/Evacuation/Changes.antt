@@ -8,7 +8,7 @@ use Rattle.heap_words.specs.Touch.{Touch, touched}
 use Rattle.heap_world.specs.World.{World, Plot, with_working, IsCaredFor, AreCaredFor, IsSweptTo, Shared}
 use Rattle.heap_world.specs.Rely.{Keeps, Rely}
 use Rattle.heap_world.specs.Part.{PartStep}
-use Rattle.heap_world.proofs.Updates.{updated, updated_there, updated_else}
+use Rattle.heap_world.proofs.FunctionUpdates.{updated, updated_there, updated_else}
 use Rattle.regions.specs.Place.{base_of}
 use Rattle.cycle_steps.specs.Evacuation.Facts.{HasNothing}
 
@@ -29,9 +29,9 @@ cared_still config evac block working seat unit region own (inr worker) = ⊎_el
     (λ (other : seat ≢ worker.0). inr (worker.0, worker.1, updated_else working seat unit worker.0 other ∙ worker.2))
     (cases_eq seat worker.0)
 
-module _ (config : Config) (world other_world : World) (seat claim : ℕ) (unit : Option ℕ) (on : other_world.memory Phase ≡ 2) (most : other_world.memory Claim ≤ claim) where
+module _ (config : Config) (world next_world : World) (seat claim : ℕ) (unit : Option ℕ) (on : next_world.memory Phase ≡ 2) (most : next_world.memory Claim ≤ claim) where
   -- machines share what they should
-  shared_then : Shared config other_world → AreCaredFor config (other_world.memory Phase) (other_world.memory Cset) (other_world.memory Evac) claim other_world.block (updated other_world.ghost.working seat unit) → Shared config (world_then other_world seat claim unit)
+  shared_then : Shared config next_world → AreCaredFor config (next_world.memory Phase) (next_world.memory Cset) (next_world.memory Evac) claim next_world.block (updated next_world.ghost.working seat unit) → Shared config (world_then next_world seat claim unit)
   shared_then shared units = record {
     parsable = shared.parsable;
     contents = shared.contents;
@@ -51,7 +51,7 @@ module _ (config : Config) (world other_world : World) (seat claim : ℕ) (unit 
   }
 
   -- the facts of the seat's machine stand
-  keeps_then : Keeps config seat world other_world → Keeps config seat world (world_then other_world seat claim unit)
+  keeps_then : Keeps config seat world next_world → Keeps config seat world (world_then next_world seat claim unit)
   keeps_then keeps = record {
     names = keeps.names;
     targets = keeps.targets;
@@ -80,7 +80,7 @@ module _ (config : Config) (world other_world : World) (seat claim : ℕ) (unit 
   }
 
   -- others can rely on what they knew
-  others_then : (k : ℕ) → k ≢ seat → Rely config k world other_world → Rely config k world (world_then other_world seat claim unit)
+  others_then : (k : ℕ) → k ≢ seat → Rely config k world next_world → Rely config k world (world_then next_world seat claim unit)
   others_then k differs rely = record {
     names = rely.names;
     targets = rely.targets;
@@ -124,7 +124,7 @@ module _ (config : Config) (world other_world : World) (seat claim : ℕ) (unit 
         quiet = rely.copies.keeps.quiet;
       };
       copying = rely.copies.copying;
-      working = updated_else other_world.ghost.working seat unit k (λ e. differs (sym e)) ∙ rely.copies.working;
+      working = updated_else next_world.ghost.working seat unit k (λ e. differs (sym e)) ∙ rely.copies.working;
       words = rely.copies.words;
     };
     fields = record {
@@ -138,11 +138,11 @@ module _ (config : Config) (world other_world : World) (seat claim : ℕ) (unit 
   }
 
   -- what the step owes, that led to the world but for these two, is owed then
-  pub step_then : (touch : Touch) (facts : World → Type 0) → write other_world.memory Claim claim ≡ touched world.memory touch → other_world.graph ≡ world.graph → Shared config other_world → Keeps config seat world other_world → ((k : ℕ) → k ≢ seat → Rely config k world other_world)
-      → AreCaredFor config (other_world.memory Phase) (other_world.memory Cset) (other_world.memory Evac) claim other_world.block (updated other_world.ghost.working seat unit)
-      → facts (world_then other_world seat claim unit) → PartStep config world seat touch facts
+  pub step_then : (touch : Touch) (facts : World → Type 0) → write next_world.memory Claim claim ≡ touched world.memory touch → next_world.graph ≡ world.graph → Shared config next_world → Keeps config seat world next_world → ((k : ℕ) → k ≢ seat → Rely config k world next_world)
+      → AreCaredFor config (next_world.memory Phase) (next_world.memory Cset) (next_world.memory Evac) claim next_world.block (updated next_world.ghost.working seat unit)
+      → facts (world_then next_world seat claim unit) → PartStep config world seat touch facts
   step_then touch facts memory graph shared keeps others units own = record {
-    world = world_then other_world seat claim unit;
+    world = world_then next_world seat claim unit;
     memory = memory;
     graph = graph;
     shared = shared_then shared units;

@@ -36,24 +36,24 @@ module _ (resolving : ResolvingSteps) (config : Config) (world other_world : Wor
     rooms = λ a x is room. nothing.rooms a x (rely.no_rooms a x is room) room;
   }
 
-  facts_stay : (at : EvacSpot) → WorkFacts config world seat at → WorkFacts config other_world seat at
+  facts_stay : (spot : EvacSpot) → WorkFacts config world seat spot → WorkFacts config other_world seat spot
   facts_stay LoadClaim facts = nothing_stays facts
   facts_stay (ClaimUnit unit) facts = (nothing_stays facts.0, facts.1)
   facts_stay (LoadTop region) facts = (nothing_stays facts.0, subst (λ set. IsIn set region) (sym rely.copies.keeps.cset) facts.1)
   facts_stay (LoadFirst address end) facts = (nothing_stays facts.0, walked_stays config world other_world rely.copies.keeps address end facts.1)
   facts_stay (LoadShape address end) facts = (nothing_stays facts.0, object_stays config world other_world rely.copies.keeps address end facts.1)
   facts_stay (LoadMark address end next) facts = (nothing_stays facts.0, measured_stays config world other_world rely.copies.keeps address end next facts.1)
-  facts_stay (Resolving address end next at) facts =
-      (facts.0, ((resolving.steps config seat address).stands world at shared facts.1).stays other_world rely, measured_stays config world other_world rely.copies.keeps address end next facts.2)
+  facts_stay (Resolving address end next spot) facts =
+      (facts.0, ((resolving.steps config seat address).stands world spot shared facts.1).stays other_world rely, measured_stays config world other_world rely.copies.keeps address end next facts.2)
   facts_stay (Ended unit) facts = nothing_stays facts
 
-  pub can_evacuate_stays : (cset : ℕ) (at : EvacSpot) → CanEvacuate config world seat cset at → CanEvacuate config other_world seat cset at
-  can_evacuate_stays cset at can = record {
+  pub can_evacuate_stays : (cset : ℕ) (spot : EvacSpot) → CanEvacuate config world seat cset spot → CanEvacuate config other_world seat cset spot
+  can_evacuate_stays cset spot can = record {
     seated = can.seated;
     phase = rely.marks.keeps.phase ∙ can.phase;
     set_is = can.set_is ∙ sym rely.copies.keeps.cset;
     working = rely.copies.working ∙ can.working;
-    facts = facts_stay at can.facts;
+    facts = facts_stay spot can.facts;
   }
 
 -- a word of the heap is one by test
@@ -65,14 +65,14 @@ module _ (config : Config) (world : World) (seat : ℕ) (shared : Shared config 
   -- the first word of a piece is of the heap
   header_there : (address : ℕ) (piece : Block) → world.block address ≡ Some piece → IsWord config (Heap address)
   header_there address piece is =
-      let inside = piece_inside config (λ r. world.memory (Top r)) world.block shared.parsable.plotted address piece is in
-      let some = some_words config (λ r. world.memory (Top r)) world.block shared.parsable shared.owned.rooms address piece is in
+      let inside = piece_inside config (λ region. world.memory (Top region)) world.block shared.parsable.plotted address piece is in
+      let some = some_words config (λ region. world.memory (Top region)) world.block shared.parsable shared.owned.rooms address piece is in
       (inside.0, omega (arith, inside.1, some))
 
   -- so is the second one, where the piece does not only fill
   second_there : (address end : ℕ) (at : IsWalkedTo config world address end) → filling at.piece ≡ None → IsWord config (Heap (address + 1))
   second_there address end at solid =
-      let inside = piece_inside config (λ r. world.memory (Top r)) world.block shared.parsable.plotted address at.piece at.there in
+      let inside = piece_inside config (λ region. world.memory (Top region)) world.block shared.parsable.plotted address at.piece at.there in
       let some = three_words config world shared address at.piece at.inside solid at.there in
       (omega (arith, inside.0), omega (arith, inside.1, some))
 
@@ -93,64 +93,64 @@ module _ (config : Config) (world : World) (seat : ℕ) (shared : Shared config 
       (λ (none : nat_lt next end ≡ false). cond-false (nat_lt next end) _ _ none)
       (cases_Bool (nat_lt next end))
 
-  ready_there : (at : EvacSpot) → WorkFacts config world seat at → is_ready config seat at ≡ true
+  ready_there : (spot : EvacSpot) → WorkFacts config world seat spot → is_ready config seat spot ≡ true
   ready_there LoadClaim facts = refl
   ready_there (ClaimUnit unit) facts = lt-ltb _ _ facts.1
   ready_there (LoadTop region) facts = lt-ltb _ _ (shared.evacuated.aside.in_heap region facts.1)
   ready_there (LoadFirst address end) facts = word_there config address (header_there address facts.1.piece facts.1.there)
   ready_there (LoadShape address end) facts = shape_there address end facts.1.at facts.1.solid
   ready_there (LoadMark address end next) facts = and_from _ _ (shape_there address end facts.1.at facts.1.solid) (walkable_there address end next facts.1)
-  ready_there (Resolving address end next at) facts =
+  ready_there (Resolving address end next spot) facts =
       and_from _ _ (shape_there address end facts.2.at facts.2.solid) (and_from _ _ (walkable_there address end next facts.2)
       (and_from _ _ facts.1.ready (ap (λ resolved. resolve.is_busy resolved) facts.0)))
   ready_there (Ended unit) facts = refl
 
 -- the next access is of the table
-pub unit_inside : (resolving : ResolvingSteps) (config : Config) (world : World) (seat cset : ℕ) (at : EvacSpot) → Shared config world → CanEvacuate config world seat cset at → IsWord config (touch_at config seat at).word
+pub unit_inside : (resolving : ResolvingSteps) (config : Config) (world : World) (seat cset : ℕ) (spot : EvacSpot) → Shared config world → CanEvacuate config world seat cset spot → IsWord config (touch_at config seat spot).word
 unit_inside resolving config world seat cset LoadClaim shared can = tt
 unit_inside resolving config world seat cset (ClaimUnit unit) shared can = tt
 unit_inside resolving config world seat cset (LoadTop region) shared can = shared.evacuated.aside.in_heap region can.facts.1
 unit_inside resolving config world seat cset (LoadFirst address end) shared can = header_there config world seat shared address can.facts.1.piece can.facts.1.there
 unit_inside resolving config world seat cset (LoadShape address end) shared can = second_there config world seat shared address end can.facts.1.at can.facts.1.solid
 unit_inside resolving config world seat cset (LoadMark address end next) shared can = word_inside config address (header_there config world seat shared address can.facts.1.at.piece can.facts.1.at.there)
-unit_inside resolving config world seat cset (Resolving address end next at) shared can = ((resolving.steps config seat address).stands world at shared can.facts.1).inside
+unit_inside resolving config world seat cset (Resolving address end next spot) shared can = ((resolving.steps config seat address).stands world spot shared can.facts.1).inside
 unit_inside resolving config world seat cset (Ended unit) shared can = tt
 
 -- of the words of copies only headers are accessed by more than loads
-unit_spares : (resolving : ResolvingSteps) (config : Config) (world : World) (seat cset : ℕ) (at : EvacSpot) (d k : ℕ) (body : Body) → Shared config world → CanEvacuate config world seat cset at → body_at (world.block d) ≡ Some body → k < body_words body
-    → (touch_at config seat at).word ≡ Heap (d + k) → ((touch_at config seat at).form ≡ loads) ⊎ (k ≡ 0)
-unit_spares resolving config world seat cset (ClaimUnit unit) d k body shared can is below word = absurd (cc (word))
-unit_spares resolving config world seat cset (Resolving address end next at) d k body shared can is below word =
-    ⊎_elim (λ loaded. inl loaded) (λ published. inr published.4) (resolving.spares config world seat address at d k body shared can.facts.1 is below word)
-unit_spares resolving config world seat cset _ d k body shared can is below word = inl refl
+unit_spares : (resolving : ResolvingSteps) (config : Config) (world : World) (seat cset : ℕ) (spot : EvacSpot) (address k : ℕ) (body : Body) → Shared config world → CanEvacuate config world seat cset spot → body_at (world.block address) ≡ Some body → k < body_words body
+    → (touch_at config seat spot).word ≡ Heap (address + k) → ((touch_at config seat spot).form ≡ loads) ⊎ (k ≡ 0)
+unit_spares resolving config world seat cset (ClaimUnit unit) address k body shared can is below word = absurd (cc (word))
+unit_spares resolving config world seat cset (Resolving address end next spot) d k body shared can is below word =
+    ⊎_elim (λ loaded. inl loaded) (λ published. inr published.4) (resolving.spares config world seat address spot d k body shared can.facts.1 is below word)
+unit_spares resolving config world seat cset _ address k body shared can is below word = inl refl
 
 -- the word that it finds is fit for the part
-part_fits : (resolving : ResolvingSteps) (config : Config) (world : World) (seat cset : ℕ) (at : EvacSpot) → Shared config world → CanEvacuate config world seat cset at → PartFit config seat at (world.memory (touch_at config seat at).word)
+part_fits : (resolving : ResolvingSteps) (config : Config) (world : World) (seat cset : ℕ) (spot : EvacSpot) → Shared config world → CanEvacuate config world seat cset spot → PartFit config seat spot (world.memory (touch_at config seat spot).word)
 part_fits resolving config world seat cset (LoadTop region) shared can = le-leb _ _ (shared.parsable.plotted.tops region (shared.evacuated.aside.in_heap region can.facts.1))
-part_fits resolving config world seat cset (Resolving address end next at) shared can = ((resolving.steps config seat address).goes world at can.facts.0 shared can.facts.1).fits
+part_fits resolving config world seat cset (Resolving address end next spot) shared can = ((resolving.steps config seat address).goes world spot can.facts.0 shared can.facts.1).fits
 part_fits resolving config world seat cset _ shared can = tt
 
 module _ (resolving : ResolvingSteps) where
-  sweeps : (config : Config) (world : World) (seat cset : ℕ) (at : EvacSpot) → is_ended at ≡ false → Shared config world → CanEvacuate config world seat cset at → SweptStep config world seat cset at
-  sweeps config world seat cset at going shared can =
-      let step = each_step resolving config world seat cset at going shared can in
+  sweeps : (config : Config) (world : World) (seat cset : ℕ) (spot : EvacSpot) → is_ended spot ≡ false → Shared config world → CanEvacuate config world seat cset spot → SweptStep config world seat cset spot
+  sweeps config world seat cset spot going shared can =
+      let step = each_step resolving config world seat cset spot going shared can in
       record { world = step.world; memory = step.memory; graph = step.graph; shared = step.shared; own = step.own.swept; keeps = step.keeps; others = step.others }
 
   -- what the steps owe
   pub evacuating_by : EvacuatingSteps
   evacuating_by = record {
     begins = λ c u seat seated on idle nothing. record { seated = seated; phase = on; set_is = refl; working = idle; facts = nothing };
-    steps = λ c seat cset. record {
-      stands = λ u at shared can. record { stays = λ w rely. can_evacuate_stays resolving c u w seat shared rely cset at can; inside = unit_inside resolving c u seat cset at shared can };
+    steps = λ config seat cset. record {
+      stands = λ world at shared can. record { stays = λ w rely. can_evacuate_stays resolving config world w seat shared rely cset at can; inside = unit_inside resolving config world seat cset at shared can };
       goes = λ u at going shared can.
-          let step = each_step resolving c u seat cset at going shared can in
+          let step = each_step resolving config u seat cset at going shared can in
           record {
             step = record { world = step.world; memory = step.memory; graph = step.graph; shared = step.shared; own = step.own.can; keeps = step.keeps; others = step.others };
-            fits = (ready_there c step.world seat step.shared (spot_then c u seat cset at) step.own.can.facts, part_fits resolving c u seat cset at shared can);
+            fits = (ready_there config step.world seat step.shared (spot_then config u seat cset at) step.own.can.facts, part_fits resolving config u seat cset at shared can);
           };
     };
     sweeps = sweeps;
-    stays_swept = λ c u w region keeps is swept. swept_stays c u w keeps region (base_of c (region + 1)) is (let next = next_base c region in omega (arith, next)) swept;
+    stays_swept = λ config world after region keeps is swept. swept_stays config world after keeps region (base_of config (region + 1)) is (let next = next_base config region in omega (arith, next)) swept;
     spares = unit_spares resolving;
   }
 

@@ -19,7 +19,7 @@ use Rattle.heap_world.specs.Rely.{Keeps, Rely}
 use Rattle.heap_world.specs.Part.{PartStep}
 use Rattle.heap_world.proofs.Pointing.{piece_inside}
 use Rattle.heap_world.proofs.Keeping.{load_keeps, rely_same, keeps_of}
-use Rattle.heap_world.proofs.Updates.{updated_there}
+use Rattle.heap_world.proofs.FunctionUpdates.{updated_there}
 use Rattle.load_barrier.specs.declared.spot.ResolveSpot.{ResolveSpot}
 use Rattle.load_barrier.specs.declared.spot.ResolveSpot.TheVariants.{LoadHeader, Resolved}
 use Rattle.load_barrier.specs.Rows as resolves
@@ -35,13 +35,13 @@ use Rattle.cycle_steps.proofs.Evacuation.Walks.{region_is, placed, header_tells,
 use Rattle.cycle_steps.proofs.Evacuation.Changes.{world_then, cared_still, step_then, nothing_then}
 
 -- what a machine counts on once it has made a step, and that a unit that it ended is swept
-pub record Evacuates (config : Config) (world : World) (seat cset : ℕ) (at next : EvacSpot) : Type 0 where
+pub record Evacuates (config : Config) (world : World) (seat cset : ℕ) (spot next : EvacSpot) : Type 0 where
   pub can : CanEvacuate config world seat cset next
-  pub swept : (region : ℕ) → working_of config at ≡ Some region → is_ended next ≡ true → IsSwept config world region
+  pub swept : (region : ℕ) → working_of config spot ≡ Some region → is_ended next ≡ true → IsSwept config world region
 
 -- what a step owes, this with it
 abbrev pub UnitStep : Config → World → ℕ → ℕ → EvacSpot → Type 0
-UnitStep config world seat cset at = PartStep config world seat (touch_at config seat at) (λ w. Evacuates config w seat cset at (spot_then config world seat cset at))
+UnitStep config world seat cset spot = PartStep config world seat (touch_at config seat spot) (λ other_world. Evacuates config other_world seat cset spot (spot_then config world seat cset spot))
 
 -- A walk of a region of the set has come to an address, at which a piece begins if it has not come to the end.
 pub record IsWalk (config : Config) (world : World) (region address end : ℕ) : Type 0 where
@@ -75,41 +75,41 @@ module _ (config : Config) (world : World) (shared : Shared config world) where
         from_base = omega (arith, next_is, at.from_base);
         to_end = omega (arith, next_is, end_is, there.to_top);
         end_is = at.end_is;
-        swept = subst (λ a. IsSweptTo config (world.memory Evac) world.block (region_with config address) a) (sym next_is) (swept_past config world shared (region_with config address) address at.piece at.there none at.swept);
-        piece = λ less. subst (λ a. (piece : Block) × (world.block a ≡ Some piece)) (sym next_is)
+        swept = subst (λ end. IsSweptTo config (world.memory Evac) world.block (region_with config address) end) (sym next_is) (swept_past config world shared (region_with config address) address at.piece at.there none at.swept);
+        piece = λ less. subst (λ address. (piece : Block) × (world.block address ≡ Some piece)) (sym next_is)
             (shared.parsable.filled.next (region_with config address) address at.piece there.within at.from_base at.there (omega (arith, less, next_is, end_is)));
       }
 
 module _ (config : Config) (world : World) (seat cset : ℕ) where
   -- a world to which the step leads, but for the unit on which the machine works
-  record IsBase (at : EvacSpot) (w : World) : Type 0 where
-    memory : w.memory ≡ touched world.memory (touch_at config seat at)
-    graph : w.graph ≡ world.graph
-    shared : Shared config w
-    keeps : Keeps config seat world w
-    others : (k : ℕ) → k ≢ seat → Rely config k world w
-    working : w.ghost.working seat ≡ working_of config at
+  record IsBase (spot : EvacSpot) (next_world : World) : Type 0 where
+    memory : next_world.memory ≡ touched world.memory (touch_at config seat spot)
+    graph : next_world.graph ≡ world.graph
+    shared : Shared config next_world
+    keeps : Keeps config seat world next_world
+    others : (k : ℕ) → k ≢ seat → Rely config k world next_world
+    working : next_world.ghost.working seat ≡ working_of config spot
 
   -- a load leads to the same world
-  loads_at : (at : EvacSpot) (word : Word) → touched world.memory (touch_at config seat at) ≡ write world.memory word (world.memory word) → Shared config world → CanEvacuate config world seat cset at → IsBase at world
-  loads_at at word is shared can = record {
+  loads_at : (spot : EvacSpot) (word : Word) → touched world.memory (touch_at config seat spot) ≡ write world.memory word (world.memory word) → Shared config world → CanEvacuate config world seat cset spot → IsBase spot world
+  loads_at spot word is shared can = record {
     memory = load_keeps world.memory word ∙ sym is;
     graph = refl;
     shared = shared;
     keeps = keeps_of config seat world world (rely_same config seat world);
-    others = λ k differs. rely_same config k world;
+    others = λ seat differs. rely_same config seat world;
     working = can.working;
   }
 
   -- the machine goes on with its unit, if it has one
-  goes_on : (at next : EvacSpot) (w : World) → IsBase at w → CanEvacuate config world seat cset at → spot_then config world seat cset at ≡ next → working_of config at ≡ working_of config next → is_ended next ≡ false
-      → WorkFacts config w seat next → UnitStep config world seat cset at
-  goes_on at next w base can leads unit going facts = record {
-    world = w;
+  goes_on : (spot next : EvacSpot) (next_world : World) → IsBase spot next_world → CanEvacuate config world seat cset spot → spot_then config world seat cset spot ≡ next → working_of config spot ≡ working_of config next → is_ended next ≡ false
+      → WorkFacts config next_world seat next → UnitStep config world seat cset spot
+  goes_on at next next_world base can leads unit going facts = record {
+    world = next_world;
     memory = base.memory;
     graph = base.graph;
     shared = base.shared;
-    own = subst (λ spot. Evacuates config w seat cset at spot) (sym leads) (record {
+    own = subst (λ spot. Evacuates config next_world seat cset at spot) (sym leads) (record {
       can = record {
         seated = can.seated;
         phase = base.keeps.marks.phase ∙ can.phase;
@@ -124,50 +124,50 @@ module _ (config : Config) (world : World) (seat cset : ℕ) where
   }
 
   -- the machine ends its unit
-  ends : (at : EvacSpot) (unit : Done) (w : World) → IsBase at w → CanEvacuate config world seat cset at → spot_then config world seat cset at ≡ Ended unit → HasNothing w seat
-      → ((region : ℕ) → working_of config at ≡ Some region → IsSwept config w region) → UnitStep config world seat cset at
-  ends at unit w base can leads nothing swept =
-      step_then config world w seat (w.memory Claim) None (base.keeps.marks.phase ∙ can.phase) (omega arith) (touch_at config seat at) (λ x. Evacuates config x seat cset at (spot_then config world seat cset at))
-      (sym (load_keeps w.memory Claim) ∙ base.memory) base.graph base.shared base.keeps base.others
-      (λ on region below is. cared_still config (w.memory Evac) w.block w.ghost.working seat None region (λ own. inl (swept region (sym base.working ∙ own))) (base.shared.evacuated.units on region below is))
-      (subst (λ spot. Evacuates config (world_then w seat (w.memory Claim) None) seat cset at spot) (sym leads) (record {
+  ends : (spot : EvacSpot) (unit : Done) (next_world : World) → IsBase spot next_world → CanEvacuate config world seat cset spot → spot_then config world seat cset spot ≡ Ended unit → HasNothing next_world seat
+      → ((region : ℕ) → working_of config spot ≡ Some region → IsSwept config next_world region) → UnitStep config world seat cset spot
+  ends at unit next_world base can leads nothing swept =
+      step_then config world next_world seat (next_world.memory Claim) None (base.keeps.marks.phase ∙ can.phase) (omega arith) (touch_at config seat at) (λ other_world. Evacuates config other_world seat cset at (spot_then config world seat cset at))
+      (sym (load_keeps next_world.memory Claim) ∙ base.memory) base.graph base.shared base.keeps base.others
+      (λ on region below is. cared_still config (next_world.memory Evac) next_world.block next_world.ghost.working seat None region (λ own. inl (swept region (sym base.working ∙ own))) (base.shared.evacuated.units on region below is))
+      (subst (λ spot. Evacuates config (world_then next_world seat (next_world.memory Claim) None) seat cset at spot) (sym leads) (record {
         can = record {
           seated = can.seated;
           phase = base.keeps.marks.phase ∙ can.phase;
           set_is = can.set_is ∙ sym base.keeps.copies.cset;
-          working = updated_there w.ghost.working seat None;
-          facts = nothing_then w seat (w.memory Claim) None nothing;
+          working = updated_there next_world.ghost.working seat None;
+          facts = nothing_then next_world seat (next_world.memory Claim) None nothing;
         };
         swept = λ region is ended. swept region is;
       }))
 
   -- the machine walks on, or has come to the end
-  walks : (at : EvacSpot) (w : World) (region address end : ℕ) → IsBase at w → CanEvacuate config world seat cset at → spot_then config world seat cset at ≡ walk_on address end → working_of config at ≡ Some region
-      → HasNothing w seat → IsWalk config w region address end → UnitStep config world seat cset at
-  walks at w region address end base can leads unit nothing walk = ⊎_elim
+  walks : (spot : EvacSpot) (next_world : World) (region address end : ℕ) → IsBase spot next_world → CanEvacuate config world seat cset spot → spot_then config world seat cset spot ≡ walk_on address end → working_of config spot ≡ Some region
+      → HasNothing next_world seat → IsWalk config next_world region address end → UnitStep config world seat cset spot
+  walks spot next_world region address end base can leads unit nothing walk = ⊎_elim
       (λ (more : nat_lt address end ≡ true).
-      let short : w.memory (Top region) ≤ config.region_words = base.shared.parsable.plotted.tops region (base.shared.evacuated.aside.in_heap region walk.set) in
+      let short : next_world.memory (Top region) ≤ config.region_words = base.shared.parsable.plotted.tops region (base.shared.evacuated.aside.in_heap region walk.set) in
       let less : address < end = ltb-true address end more in
       let end_is = walk.end_is in
       let here : region_with config address ≡ region = region_is config region address walk.from_base (omega (arith, less, end_is, short)) in
       let piece = walk.piece less in
-      goes_on at (LoadFirst address end) w base can (leads ∙ cond-true (nat_lt address end) _ _ more) (unit ∙ ap Some (sym here)) refl (
+      goes_on spot (LoadFirst address end) next_world base can (leads ∙ cond-true (nat_lt address end) _ _ more) (unit ∙ ap Some (sym here)) refl (
         nothing,
         record {
-          inside = subst (λ r. IsIn (w.memory Cset) r) (sym here) walk.set;
+          inside = subst (λ r. IsIn (next_world.memory Cset) r) (sym here) walk.set;
           from_base = subst (λ r. base_of config r ≤ address) (sym here) walk.from_base;
           before = less;
-          end_is = walk.end_is ∙ ap (λ r. base_of config r + w.memory (Top r)) (sym here);
+          end_is = walk.end_is ∙ ap (λ region. base_of config region + next_world.memory (Top region)) (sym here);
           piece = piece.0;
           there = piece.1;
-          swept = subst (λ r. IsSweptTo config (w.memory Evac) w.block r address) (sym here) walk.swept;
+          swept = subst (λ region. IsSweptTo config (next_world.memory Evac) next_world.block region address) (sym here) walk.swept;
         },
       ))
       (λ (none : nat_lt address end ≡ false).
       let past : end ≤ address = ltb-false address end none in
       let end_is = walk.end_is in
-      ends at Worked w base can (leads ∙ cond-false (nat_lt address end) _ _ none) nothing
-      (λ r is. subst (IsSwept config w) (same_Some region r (sym unit ∙ is)) (swept_whole config w base.shared region address (omega (arith, past, end_is)) walk.swept)))
+      ends spot Worked next_world base can (leads ∙ cond-false (nat_lt address end) _ _ none) nothing
+      (λ r is. subst (IsSwept config next_world) (same_Some region r (sym unit ∙ is)) (swept_whole config next_world base.shared region address (omega (arith, past, end_is)) walk.swept)))
       (cases_Bool (nat_lt address end))
 
   -- the load of what is claimed
@@ -183,8 +183,8 @@ module _ (config : Config) (world : World) (seat cset : ℕ) where
   claims : (unit : ℕ) (next : EvacSpot) → world.memory Claim ≡ unit → Shared config world → CanEvacuate config world seat cset (ClaimUnit unit) → after_claim cset unit ≡ next
       → (IsIn (world.memory Cset) unit → working_of config next ≡ Some unit) → WorkFacts config (world_then world seat (unit + 1) (working_of config next)) seat next → UnitStep config world seat cset (ClaimUnit unit)
   claims unit next won shared can leads works facts =
-      step_then config world world seat (unit + 1) (working_of config next) can.phase (omega (arith, won)) (touch_at config seat (ClaimUnit unit)) (λ x. Evacuates config x seat cset (ClaimUnit unit) (spot_then config world seat cset (ClaimUnit unit)))
-      (ap (λ n. write world.memory Claim n) (sym (cond-true (world.memory Claim == unit) (unit + 1) (world.memory Claim) (eq-eqb _ _ won)))) refl shared (keeps_of config seat world world (rely_same config seat world)) (λ k differs. rely_same config k world)
+      step_then config world world seat (unit + 1) (working_of config next) can.phase (omega (arith, won)) (touch_at config seat (ClaimUnit unit)) (λ other_world. Evacuates config other_world seat cset (ClaimUnit unit) (spot_then config world seat cset (ClaimUnit unit)))
+      (ap (λ n. write world.memory Claim n) (sym (cond-true (world.memory Claim == unit) (unit + 1) (world.memory Claim) (eq-eqb _ _ won)))) refl shared (keeps_of config seat world world (rely_same config seat world)) (λ seat differs. rely_same config seat world)
       (λ on region below is. ⊎_elim
       (λ (own : region ≡ unit). inr (seat, can.seated, updated_there world.ghost.working seat (working_of config next) ∙ works (subst (λ r. IsIn (world.memory Cset) r) own is) ∙ ap Some (sym own)))
       (λ (other : region ≢ unit). cared_still config (world.memory Evac) world.block world.ghost.working seat (working_of config next) region
@@ -254,11 +254,11 @@ module _ (config : Config) (world : World) (seat cset : ℕ) where
       (can.facts.0, record { at = walked; solid = can.facts.1.solid; next_is = ap (λ n. address + n) (words_there config world shared address walked.piece walked.inside can.facts.1.solid walked.there) })
 
   -- in the collection set an object that is not marked has no current copy
-  unmarked : (address end : ℕ) → Shared config world → world.memory Phase ≡ 2 → IsWalkedTo config world address end → (HasMark config (λ n. world.memory (Black n)) address → ⊥)
+  unmarked : (address end : ℕ) → Shared config world → world.memory Phase ≡ 2 → IsWalkedTo config world address end → (HasMark config (λ number. world.memory (Black number)) address → ⊥)
       → (refs nums : ℕ) (name : Name) → world.block address ≡ Some (thing name refs nums) → ⊥
   unmarked address end shared on walked white refs nums name is = ⊎_elim
-      (λ (black : HasMark config (λ n. world.memory (Black n)) address). white black)
-      (λ (young : IsYoung config (λ r. world.memory (Tams r)) address).
+      (λ (black : HasMark config (λ number. world.memory (Black number)) address). white black)
+      (λ (young : IsYoung config (λ region. world.memory (Tams region)) address).
       let old = shared.evacuated.aside.no_new (region_with config address) walked.inside in
       let end_is = walked.end_is in
       omega (arith, young, old, end_is, walked.before))
@@ -273,7 +273,7 @@ module _ (resolving : ResolvingSteps) (config : Config) (world : World) (seat cs
       let nothing = can.facts.0 in
       let measured = can.facts.1 in
       let base = loads_at config world seat cset at (Black (mark_word config address)) refl shared can in
-      let low = (piece_inside config (λ r. world.memory (Top r)) world.block shared.parsable.plotted address measured.at.piece measured.at.there).0 in
+      let low = (piece_inside config (λ region. world.memory (Top region)) world.block shared.parsable.plotted address measured.at.piece measured.at.there).0 in
       ⊎_elim
       (λ (black : (bit_at got (mark_bit config address) == 1) ≡ true).
       goes_on config world seat cset at (Resolving address end next LoadHeader) world base can (cond-true (bit_at got (mark_bit config address) == 1) _ _ black) refl refl (
@@ -289,47 +289,47 @@ module _ (resolving : ResolvingSteps) (config : Config) (world : World) (seat cs
       (cases_Bool (bit_at got (mark_bit config address) == 1))
 
   -- The address is resolved: with an answer in the set there was no room, and with another the object is forwarded.
-  answered : (address end next : ℕ) (at : ResolveSpot) (answer : ℕ) (w : World) → IsBase config world seat cset (Resolving address end next at) w → CanEvacuate config world seat cset (Resolving address end next at)
-      → resolves.next_at config address evacuation_phase at (world.memory (resolves.touch_at config seat address at).word) ≡ Resolved answer → CanResolve config w seat address (Resolved answer)
-      → UnitStep config world seat cset (Resolving address end next at)
-  answered address end next at answer w base can leads resolved =
+  answered : (address end next : ℕ) (spot : ResolveSpot) (answer : ℕ) (next_world : World) → IsBase config world seat cset (Resolving address end next spot) next_world → CanEvacuate config world seat cset (Resolving address end next spot)
+      → resolves.next_at config address evacuation_phase spot (world.memory (resolves.touch_at config seat address spot).word) ≡ Resolved answer → CanResolve config next_world seat address (Resolved answer)
+      → UnitStep config world seat cset (Resolving address end next spot)
+  answered address end next at answer next_world base can leads resolved =
       let spot : EvacSpot = Resolving address end next at in
-      let measured = measured_stays config world w base.keeps.copies address end next can.facts.2 in
-      let answers = resolving.answers config w seat address answer resolved in
-      let set_is : cset ≡ w.memory Cset = can.set_is ∙ sym base.keeps.copies.cset in
-      let nothing : HasNothing w seat = record { copying = resolved.copying; records_none = resolved.records_none; scans_none = resolved.scans_none; rooms = resolved.rooms } in
+      let measured = measured_stays config world next_world base.keeps.copies address end next can.facts.2 in
+      let answers = resolving.answers config next_world seat address answer resolved in
+      let set_is : cset ≡ next_world.memory Cset = can.set_is ∙ sym base.keeps.copies.cset in
+      let nothing : HasNothing next_world seat = record { copying = resolved.copying; records_none = resolved.records_none; scans_none = resolved.scans_none; rooms = resolved.rooms } in
       ⊎_elim
       (λ (is : lies_in_set config cset answer ≡ true).
-      ends config world seat cset spot Worked w base can (ap (after_resolve config cset address end next) leads ∙ cond-true (lies_in_set config cset answer) _ _ is) nothing
+      ends config world seat cset spot Worked next_world base can (ap (after_resolve config cset address end next) leads ∙ cond-true (lies_in_set config cset answer) _ _ is) nothing
       (λ region own. inl (answers.stopped (subst (λ set. IsCollected config set answer) set_is (eqb-true _ _ is)))))
       (λ (not_in : lies_in_set config cset answer ≡ false).
-      walks config world seat cset spot w (region_with config address) next end base can (ap (after_resolve config cset address end next) leads ∙ cond-false (lies_in_set config cset answer) _ _ not_in) refl nothing
-      (next_walk config w base.shared address end next measured.at measured.next_is
+      walks config world seat cset spot next_world (region_with config address) next end base can (ap (after_resolve config cset address end next) leads ∙ cond-false (lies_in_set config cset answer) _ _ not_in) refl nothing
+      (next_walk config next_world base.shared address end next measured.at measured.next_is
       (answers.passed (λ inside. false≢true (sym not_in ∙ eq-eqb _ 1 (subst (λ set. IsCollected config set answer) (sym set_is) inside))))))
       (cases_Bool (lies_in_set config cset answer))
 
   -- a step of the resolving
-  resolves_on : (address end next : ℕ) (at more : ResolveSpot) (w : World) → IsBase config world seat cset (Resolving address end next at) w → CanEvacuate config world seat cset (Resolving address end next at)
-      → resolves.next_at config address evacuation_phase at (world.memory (resolves.touch_at config seat address at).word) ≡ more → CanResolve config w seat address more
-      → UnitStep config world seat cset (Resolving address end next at)
-  resolves_on address end next at (Resolved answer) w base can leads resolves = answered address end next at answer w base can leads resolves
-  resolves_on address end next at more w base can leads resolves =
-      goes_on config world seat cset (Resolving address end next at) (Resolving address end next more) w base can (ap (after_resolve config cset address end next) leads) refl refl
-      (refl, resolves, measured_stays config world w base.keeps.copies address end next can.facts.2)
+  resolves_on : (address end next : ℕ) (spot more : ResolveSpot) (next_world : World) → IsBase config world seat cset (Resolving address end next spot) next_world → CanEvacuate config world seat cset (Resolving address end next spot)
+      → resolves.next_at config address evacuation_phase spot (world.memory (resolves.touch_at config seat address spot).word) ≡ more → CanResolve config next_world seat address more
+      → UnitStep config world seat cset (Resolving address end next spot)
+  resolves_on address end next spot (Resolved answer) next_world base can leads resolves = answered address end next spot answer next_world base can leads resolves
+  resolves_on address end next spot more next_world base can leads resolves =
+      goes_on config world seat cset (Resolving address end next spot) (Resolving address end next more) next_world base can (ap (after_resolve config cset address end next) leads) refl refl
+      (refl, resolves, measured_stays config world next_world base.keeps.copies address end next can.facts.2)
 
-  at_resolving : (address end next : ℕ) (at : ResolveSpot) → Shared config world → CanEvacuate config world seat cset (Resolving address end next at) → UnitStep config world seat cset (Resolving address end next at)
-  at_resolving address end next at shared can =
-      let step = ((resolving.steps config seat address).goes world at can.facts.0 shared can.facts.1).step in
-      resolves_on address end next at (resolves.next_at config address evacuation_phase at (world.memory (resolves.touch_at config seat address at).word)) step.world
+  at_resolving : (address end next : ℕ) (spot : ResolveSpot) → Shared config world → CanEvacuate config world seat cset (Resolving address end next spot) → UnitStep config world seat cset (Resolving address end next spot)
+  at_resolving address end next spot shared can =
+      let step = ((resolving.steps config seat address).goes world spot can.facts.0 shared can.facts.1).step in
+      resolves_on address end next spot (resolves.next_at config address evacuation_phase spot (world.memory (resolves.touch_at config seat address spot).word)) step.world
       (record { memory = step.memory; graph = step.graph; shared = step.shared; keeps = step.keeps; others = step.others; working = step.own.1 ∙ can.working }) can refl step.own.0
 
   -- each step
-  pub each_step : (at : EvacSpot) → is_ended at ≡ false → Shared config world → CanEvacuate config world seat cset at → UnitStep config world seat cset at
+  pub each_step : (spot : EvacSpot) → is_ended spot ≡ false → Shared config world → CanEvacuate config world seat cset spot → UnitStep config world seat cset spot
   each_step LoadClaim going shared can = at_load_claim config world seat cset shared can
   each_step (ClaimUnit unit) going shared can = at_claim_unit config world seat cset unit shared can
   each_step (LoadTop region) going shared can = at_load_top config world seat cset region shared can
   each_step (LoadFirst address end) going shared can = at_load_first config world seat cset address end shared can
   each_step (LoadShape address end) going shared can = at_load_shape config world seat cset address end shared can
   each_step (LoadMark address end next) going shared can = at_load_mark address end next shared can
-  each_step (Resolving address end next at) going shared can = at_resolving address end next at shared can
+  each_step (Resolving address end next spot) going shared can = at_resolving address end next spot shared can
   each_step (Ended unit) going shared can = absurd (cc (going))

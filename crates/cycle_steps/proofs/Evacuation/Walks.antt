@@ -19,21 +19,21 @@ use Rattle.cycle_steps.specs.Evacuation.Facts.{IsSwept, IsWalkedTo, IsAtObject, 
 
 -- an address at or above the base of its region lies in it
 pub before_end : (config : Config) (address : ℕ) → base_of config (region_with config address) ≤ address → address < base_of config (region_with config address) + config.region_words
-before_end config address from =
+before_end config address at_most =
     let words = config.region_words in
     let some : 0 < words = omega (arith, config.in_range.least_words) in
     let low : 1 * words ≤ (address / words - 1 + 1) * words = mul-le-mul_right words (omega arith) in
-    let least : 1 ≤ address / words = le-div 1 address words some (omega (arith, from, low)) in
+    let least : 1 ≤ address / words = le-div 1 address words some (omega (arith, at_most, low)) in
     let back : (address / words - 1 + 1) * words ≡ address / words * words = ap (λ (k : ℕ). k * words) (omega (arith, least)) in
     omega (arith, back, lt-div-mul-add {a = address} {b = words} some)
 
 -- an address between the base of a region and the next is of the region
 pub region_is : (config : Config) (region address : ℕ) → base_of config region ≤ address → address < base_of config region + config.region_words → region_with config address ≡ region
-region_is config region address from below = regions_tile.of_no_other config region address (record { from = from; before = below })
+region_is config region address at_most below = regions_tile.of_no_other config region address (record { from = at_most; before = below })
 
 -- so it lies in a set that has the region
 pub collected_in : (config : Config) (cset region address : ℕ) → IsIn cset region → base_of config region ≤ address → address < base_of config region + config.region_words → IsCollected config cset address
-collected_in config cset region address is from below = subst (λ r. IsIn cset r) (sym (region_is config region address from below)) is
+collected_in config cset region address is at_most below = subst (λ r. IsIn cset r) (sym (region_is config region address at_most below)) is
 
 -- the base of the next region
 pub next_base : (config : Config) (region : ℕ) → base_of config (region + 1) ≡ base_of config region + config.region_words
@@ -85,13 +85,13 @@ module _ (config : Config) (world : World) (shared : Shared config world) where
   placed address piece is =
       let used = shared.parsable.plotted.in_use address piece is in
       let most : world.memory (Top used.region) ≤ config.region_words = shared.parsable.plotted.tops used.region used.within in
-      let some = some_words config (λ r. world.memory (Top r)) world.block shared.parsable shared.owned.rooms address piece is in
+      let some = some_words config (λ region. world.memory (Top region)) world.block shared.parsable shared.owned.rooms address piece is in
       let here : region_with config address ≡ used.region = region_is config used.region address used.from_base (omega (arith, used.to_top, most, some)) in
       record {
         within = subst (λ r. r < config.regions) (sym here) used.within;
         from_base = subst (λ r. base_of config r ≤ address) (sym here) used.from_base;
-        to_top = subst (λ r. address + words_of piece ≤ base_of config r + world.memory (Top r)) (sym here) used.to_top;
-        short = subst (λ r. world.memory (Top r) ≤ config.region_words) (sym here) most;
+        to_top = subst (λ region. address + words_of piece ≤ base_of config region + world.memory (Top region)) (sym here) used.to_top;
+        short = subst (λ region. world.memory (Top region) ≤ config.region_words) (sym here) most;
       }
 
   -- the header of a piece of the set tells whether it only fills, and then how many words
@@ -147,7 +147,7 @@ module _ (config : Config) (world : World) (shared : Shared config world) where
       let there = placed b (thing name refs nums) is in
       let less : b < base_of config region + config.region_words = (let next = next_base config region in omega (arith, below, next)) in
       let here : region_with config b ≡ region = region_is config region b from less in
-      let under : b + (3 + refs + nums) ≤ base_of config region + world.memory (Top region) = subst (λ r. b + (3 + refs + nums) ≤ base_of config r + world.memory (Top r)) here there.to_top in
+      let under : b + (3 + refs + nums) ≤ base_of config region + world.memory (Top region) = subst (λ region. b + (3 + refs + nums) ≤ base_of config region + world.memory (Top region)) here there.to_top in
       swept b refs nums name from (omega (arith, under, all)) is)
 
 -- What is swept stays so, and a walk stays where it has come to.

@@ -31,7 +31,7 @@ module _ (config : Config) (world : World) (shared : Shared config world) where
   -- a piece lies in the heap
   pub piece_lies : (address : ℕ) (piece : Block) → world.block address ≡ Some piece → has_words config address (words_of piece) ≡ true
   piece_lies address piece is =
-      let inside = piece_inside config (λ r. world.memory (Top r)) world.block shared.parsable.plotted address piece is in
+      let inside = piece_inside config (λ region. world.memory (Top region)) world.block shared.parsable.plotted address piece is in
       and_from _ _ (le-leb _ _ inside.0) (le-leb _ _ inside.1)
 
   -- so does an object
@@ -45,22 +45,22 @@ module _ (config : Config) (world : World) (shared : Shared config world) where
   -- a word of a piece is one of the heap
   pub piece_word_is : (address k : ℕ) (piece : Block) → world.block address ≡ Some piece → k < words_of piece → is_word config (Heap (address + k)) ≡ true
   piece_word_is address k piece is below =
-      let inside = piece_inside config (λ r. world.memory (Top r)) world.block shared.parsable.plotted address piece is in
+      let inside = piece_inside config (λ region. world.memory (Top region)) world.block shared.parsable.plotted address piece is in
       let low : config.region_words ≤ address + k = omega (arith, inside.0) in
       let high : address + k < (config.regions + 1) * config.region_words = omega (arith, inside.1, below) in
       grind (arith, nat_tests)
 
   -- and so is its first
   pub piece_begins : (address : ℕ) (piece : Block) → world.block address ≡ Some piece → 1 ≤ words_of piece → is_word config (Heap address) ≡ true
-  piece_begins address piece is some =
-      let inside = piece_inside config (λ r. world.memory (Top r)) world.block shared.parsable.plotted address piece is in
+  piece_begins address piece is positive =
+      let inside = piece_inside config (λ region. world.memory (Top region)) world.block shared.parsable.plotted address piece is in
       let low : config.region_words ≤ address = inside.0 in
-      let high : address < (config.regions + 1) * config.region_words = omega (arith, inside.1, some) in
+      let high : address < (config.regions + 1) * config.region_words = omega (arith, inside.1, positive) in
       grind (arith, nat_tests)
 
   -- a copy is a piece
-  pub copy_piece : (address : ℕ) → HasCopy world.block address → (x : Block) × (world.block address ≡ Some x) × (3 ≤ words_of x)
-  copy_piece address (HasCopy.copy b is) = let piece = body_piece (world.block address) b is in (piece.0, piece.1, (let long = piece.2 in omega (arith, long)))
+  pub copy_piece : (address : ℕ) → HasCopy world.block address → (piece : Block) × (world.block address ≡ Some piece) × (3 ≤ words_of piece)
+  copy_piece address (HasCopy.copy body is) = let piece = body_piece (world.block address) body is in (piece.0, piece.1, (let long = piece.2 in omega (arith, long)))
   copy_piece address (HasCopy.spent_copy words to is) = (spent words to, is, shared.parsable.spents address words to is)
 
   -- what can be marked is a piece

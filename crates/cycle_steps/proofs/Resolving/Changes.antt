@@ -14,7 +14,7 @@ use Rattle.heap_words.specs.Counter.{is_out_of_room, IsQuiet}
 use Rattle.heap_world.specs.World.{World, Block, thing, moved, spent, promised, dead, filler, words_of, filling, room_of, Plot, Snapshot, Scan, no_snapshot, with_copying, name_at, Body, body_of, body_at, Target, IsCollected, IsParsable, AreObjects, AreOwned, IsMarkable, HaveMoved, IsCounted, AreKept, KeepsSnapshot, Shared}
 use Rattle.heap_world.specs.Rely.{KeepsMarks, KeepsCopies, Keeps, Rely}
 use Rattle.heap_world.specs.Part.{PartStep}
-use Rattle.heap_world.proofs.Updates.{updated}
+use Rattle.heap_world.proofs.FunctionUpdates.{updated}
 use Rattle.heap_world.proofs.Pins.{pins_stay}
 use Rattle.heap_world.proofs.Pointing.{named_body, body_named, body_piece, room_unnamed}
 use Rattle.heap_world.proofs.Marked.{noted_same}
@@ -22,34 +22,34 @@ use Rattle.heap_world.proofs.Unwritten.{unwritten_stays}
 
 -- a memory with other words of the heap, other tops and another counter
 abbrev pub with_words : (Word → ℕ) → (heap top : ℕ → ℕ) → ℕ → Word → ℕ
-with_words memory heap top evac (Heap a) = heap a
-with_words memory heap top evac (Top r) = top r
+with_words memory heap top evac (Heap address) = heap address
+with_words memory heap top evac (Top region) = top region
 with_words memory heap top evac Evac = evac
 with_words memory heap top evac word = memory word
 
 -- a word of the heap is written
-pub heap_written : (memory : Word → ℕ) (at value : ℕ) → with_words memory (updated (λ a. memory (Heap a)) at value) (λ r. memory (Top r)) (memory Evac) ≡ write memory (Heap at) value
+pub heap_written : (memory : Word → ℕ) (at value : ℕ) → with_words memory (updated (λ address. memory (Heap address)) at value) (λ region. memory (Top region)) (memory Evac) ≡ write memory (Heap at) value
 heap_written memory at value = fun_ext same
   where
-    same : (word : Word) → with_words memory (updated (λ a. memory (Heap a)) at value) (λ r. memory (Top r)) (memory Evac) word ≡ write memory (Heap at) value word
+    same : (word : Word) → with_words memory (updated (λ address. memory (Heap address)) at value) (λ region. memory (Top region)) (memory Evac) word ≡ write memory (Heap at) value word
     same (Heap a) = refl
     same _ = refl
 
 -- or the counter
-pub evac_written : (memory : Word → ℕ) (value : ℕ) → with_words memory (λ a. memory (Heap a)) (λ r. memory (Top r)) value ≡ write memory Evac value
+pub evac_written : (memory : Word → ℕ) (value : ℕ) → with_words memory (λ address. memory (Heap address)) (λ region. memory (Top region)) value ≡ write memory Evac value
 evac_written memory value = fun_ext same
   where
-    same : (word : Word) → with_words memory (λ a. memory (Heap a)) (λ r. memory (Top r)) value word ≡ write memory Evac value word
+    same : (word : Word) → with_words memory (λ address. memory (Heap address)) (λ region. memory (Top region)) value word ≡ write memory Evac value word
     same Evac = refl
     same _ = refl
 
 -- In other phases than that of marking all that marking counts on holds, for there is no snapshot.
 pub unmarked : (config : Config) (phase : ℕ) (grey black count : ℕ → ℕ) (buffer : ℕ → ℕ → ℕ) (top tams heap : ℕ → ℕ) (block : Plot) (snapshot : Snapshot) (recording : ℕ → Option ℕ) (scanning : ℕ → Option Scan)
     → phase ≢ 1 → snapshot ≡ no_snapshot → KeepsSnapshot config phase grey black count buffer top tams heap block snapshot recording scanning
-unmarked config phase grey black count buffer top tams heap block snapshot recording scanning other none = subst (λ x. KeepsSnapshot config phase grey black count buffer top tams heap block x recording scanning) (sym none) (record {
+unmarked config phase grey black count buffer top tams heap block snapshot recording scanning other none = subst (λ snapshot. KeepsSnapshot config phase grey black count buffer top tams heap block snapshot recording scanning) (sym none) (record {
   empty = λ is. refl;
   traced = record {
-    edges = λ a refs nums k name there. absurd (none-some _ there);
+    edges = λ address refs nums k name there. absurd (none-some _ there);
     starts = λ a there. absurd (false≢true there);
   };
   led = λ a refs nums name there. absurd (none-some _ there);
@@ -69,10 +69,10 @@ module _ (config : Config) (world : World) (seat : ℕ) (heap top : ℕ → ℕ)
   pub record IsCopyingStep : Type 0 where
     pub parsable : IsParsable config top block
     pub objects : AreObjects heap block world.graph.object
-    pub owned : AreOwned config top (world.memory Share) (world.memory Free) (world.memory Cset) (λ s. world.memory (Current s)) block world.ghost.owner
+    pub owned : AreOwned config top (world.memory Share) (world.memory Free) (world.memory Cset) (λ seat. world.memory (Current seat)) block world.ghost.owner
     pub moved_are : HaveMoved config (world.memory Cset) heap block
     pub counted : IsCounted config evac copying
-    pub kept : 2 ≤ world.memory Phase → AreKept config (world.memory Cset) (λ n. world.memory (Black n)) top (λ region. world.memory (Tams region)) block
+    pub kept : 2 ≤ world.memory Phase → AreKept config (world.memory Cset) (λ number. world.memory (Black number)) top (λ region. world.memory (Tams region)) block
     pub bodies : (address : ℕ) (body : Body) → body_at (world.block address) ≡ Some body → body_at (block address) ≡ Some body
     pub targets : (address refs nums : ℕ) (name : Name) → Target config (world.memory Cset) (world.memory Evac) world.block address refs nums name → Target config (world.memory Cset) evac block address refs nums name
     pub moveds : (address refs nums to : ℕ) (name : Name) → world.block address ≡ Some (moved name refs nums to) → block address ≡ Some (moved name refs nums to)
@@ -103,7 +103,7 @@ module _ (config : Config) (world : World) (seat : ℕ) (heap top : ℕ → ℕ)
     dead_header : (address words : ℕ) → world.block address ≡ Some (dead words) → heap address ≡ world.memory (Heap address)
     dead_header address words is =
         let there : address + 0 ≡ address = omega arith in
-        subst (λ x. heap x ≡ world.memory (Heap x)) there
+        subst (λ address. heap address ≡ world.memory (Heap address)) there
         (step.words address 0 (dead words) is (let long = shared.parsable.deads address words is in omega (arith, long)) (λ own. none-some seat own) (inr refl))
 
     -- and its length
@@ -115,7 +115,7 @@ module _ (config : Config) (world : World) (seat : ℕ) (heap top : ℕ → ℕ)
     filler_header_stays : (address words : ℕ) → world.block address ≡ Some (filler words) → heap address ≡ world.memory (Heap address)
     filler_header_stays address words is =
         let there : address + 0 ≡ address = omega arith in
-        subst (λ x. heap x ≡ world.memory (Heap x)) there (step.words address 0 (filler words) is (shared.parsable.fillers address words is) (λ own. none-some seat own) (inr refl))
+        subst (λ address. heap address ≡ world.memory (Heap address)) there (step.words address 0 (filler words) is (shared.parsable.fillers address words is) (λ own. none-some seat own) (inr refl))
 
     -- the words of a promised object stay
     promise_after : (address j words k : ℕ) → world.block address ≡ Some (promised j words) → k < words → heap (address + k) ≡ world.memory (Heap (address + k))
@@ -133,7 +133,7 @@ module _ (config : Config) (world : World) (seat : ℕ) (heap top : ℕ → ℕ)
           (λ address words is. let was = step.no_deads address words is in (was, dead_header address words was, dead_shape address words was))
           (λ address words is. let was = step.no_fillers address words is in (was, filler_header_stays address words was))
           shared.unwritten;
-      marked = unmarked config (world.memory Phase) (λ n. world.memory (Grey n)) (λ n. world.memory (Black n)) (λ t. world.memory (Count t)) (λ t k. world.memory (Buffer t k)) top (λ region. world.memory (Tams region)) heap block world.ghost.snapshot world.ghost.recording world.ghost.scanning
+      marked = unmarked config (world.memory Phase) (λ number. world.memory (Grey number)) (λ number. world.memory (Black number)) (λ mutator. world.memory (Count mutator)) (λ mutator entry. world.memory (Buffer mutator entry)) top (λ region. world.memory (Tams region)) heap block world.ghost.snapshot world.ghost.recording world.ghost.scanning
           (λ marking. omega (arith, marking, on)) (shared.marked.empty (λ marking. omega (arith, marking, on)));
       evacuated = record {
         moved = step.moved_are;
@@ -156,7 +156,7 @@ module _ (config : Config) (world : World) (seat : ℕ) (heap top : ℕ → ℕ)
             (shared.evacuated.units on region claimed is);
       };
       updated = λ updating. absurd (omega (arith, updating, on));
-      pinned = pins_stay config (world.memory Cset) (world.memory Evac) (world.memory Cset) evac world.block block (λ t i. world.memory (Pin t i)) world.graph.pin step.targets shared.pinned;
+      pinned = pins_stay config (world.memory Cset) (world.memory Evac) (world.memory Cset) evac world.block block (λ mutator slot. world.memory (Pin mutator slot)) world.graph.pin step.targets shared.pinned;
     }
       where
         of_region : (region address : ℕ) → IsIn (world.memory Cset) region → base_of config region ≤ address → address < base_of config (region + 1) → IsCollected config (world.memory Cset) address
@@ -196,11 +196,11 @@ module _ (config : Config) (world : World) (seat : ℕ) (heap top : ℕ → ℕ)
       names = names_after;
       targets = step.targets;
       promises = λ a words is. step.promises a seat words is;
-      no_promises = λ a words is. step.no_promises a seat words is;
-      promise_words = λ a words k is below. promise_after a seat words k is below;
+      no_promises = λ address words is. step.no_promises address seat words is;
+      promise_words = λ address words k is below. promise_after address seat words k is below;
       root_words = λ i. refl;
       roots = λ i. refl;
-      pin_words = λ i. refl;
+      pin_words = λ index. refl;
       pins = λ i. refl;
       count = refl;
       wait = refl;
@@ -216,17 +216,17 @@ module _ (config : Config) (world : World) (seat : ℕ) (heap top : ℕ → ℕ)
       targets = step.targets;
       rooms = λ a x is room. step.rooms j a x differs is room;
       no_rooms = λ a x is room. step.no_rooms j a x is room;
-      room_words = λ a k x is room below. step.words a k x is below (λ own. differs (same_Some j seat (sym room ∙ own))) (inr (room_unnamed x j room));
+      room_words = λ a k piece is room below. step.words a k piece is below (λ own. differs (same_Some j seat (sym room ∙ own))) (inr (room_unnamed piece j room));
       promises = λ a words is. step.promises a j words is;
-      no_promises = λ a words is. step.no_promises a j words is;
-      promise_words = λ a words k is below. promise_after a j words k is below;
+      no_promises = λ address words is. step.no_promises address j words is;
+      promise_words = λ address words k is below. promise_after address j words k is below;
       current = refl;
       opens = λ r is. is;
-      owners = λ r is. is;
+      owners = λ region is. is;
       tops = λ r is. step.own_tops r j differs is;
       root_words = λ i. refl;
       roots = λ i. refl;
-      pin_words = λ i. refl;
+      pin_words = λ index. refl;
       pins = λ i. refl;
       count = refl;
       wait = refl;
@@ -245,9 +245,9 @@ module _ (config : Config) (world : World) (seat : ℕ) (heap top : ℕ → ℕ)
         keeps = copies_kept;
         copying = step.copiers_else j differs;
         working = refl;
-        words = λ a k b seated counted inside is from below. let piece = body_piece (world.block a) b is in step.words a k piece.0 piece.1 (omega (arith, below, piece.2)) (λ own. none-some b.name (sym (room_unnamed piece.0 seat own) ∙ body_named (Some piece.0) b (ap body_at (sym piece.1) ∙ is))) (inl from);
+        words = λ address k body seated counted inside is from below. let piece = body_piece (world.block address) body is in step.words address k piece.0 piece.1 (omega (arith, below, piece.2)) (λ own. none-some body.name (sym (room_unnamed piece.0 seat own) ∙ body_named (Some piece.0) body (ap body_at (sym piece.1) ∙ is))) (inl from);
       };
-      fields = record { tams = λ r. refl; limits = λ r. refl; deads = step.deads; fillers = step.fillers; claims = λ all. all; fields = λ updating. absurd (omega (arith, updating, on)) };
+      fields = record { tams = λ r. refl; limits = λ region. refl; deads = step.deads; fillers = step.fillers; claims = λ all. all; fields = λ updating. absurd (omega (arith, updating, on)) };
     }
 
     -- the step owes no more

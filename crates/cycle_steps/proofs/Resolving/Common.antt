@@ -27,9 +27,9 @@ use Rattle.cycle_steps.proofs.Resolving.Bodies.{piece_begins}
 use Rattle.cycle_steps.proofs.Resolving.Counts.{counted_world, copying_now, counts_step}
 
 -- An old copy's answer is its current copy.
-pub moved_answer : (config : Config) (world : World) (a to : ℕ) (body : Body) → Shared config world → HasMovedTo world a body to → IsAnswer config world a to
-moved_answer config world a to body shared is =
-    let leads = shared.evacuated.moved.moveds a body.refs body.nums to body.name is in
+pub moved_answer : (config : Config) (world : World) (address to : ℕ) (body : Body) → Shared config world → HasMovedTo world address body to → IsAnswer config world address to
+moved_answer config world address to body shared is =
+    let leads = shared.evacuated.moved.moveds address body.refs body.nums to body.name is in
     record {
       named = λ d there.
           let same : body ≡ d = same_Some body d (sym (ap body_at is) ∙ there) in
@@ -59,18 +59,18 @@ still_answer config world address body inside quiet is = record {
 }
 
 -- a machine resolves an address, for the unit of work that it has claimed, or for none
-pub record CanResolveFor (config : Config) (world : World) (seat a : ℕ) (unit : Option ℕ) (at : ResolveSpot) : Type 0 where
-  pub resolves : CanResolve config world seat a at
+pub record CanResolveFor (config : Config) (world : World) (seat address : ℕ) (unit : Option ℕ) (spot : ResolveSpot) : Type 0 where
+  pub resolves : CanResolve config world seat address spot
   pub working : world.ghost.working seat ≡ unit
 
 -- what a step of a machine that resolves an address owes
-abbrev pub ResolveStep : Config → World → (seat a : ℕ) → Option ℕ → ResolveSpot → Type 0
-ResolveStep config world seat a unit at = PartStep config world seat (touch_at config seat a at) (λ w. CanResolveFor config w seat a unit (next_at config a evacuation_phase at (world.memory (touch_at config seat a at).word)))
+abbrev pub ResolveStep : Config → World → (seat address : ℕ) → Option ℕ → ResolveSpot → Type 0
+ResolveStep config world seat address unit spot = PartStep config world seat (touch_at config seat address spot) (λ other_world. CanResolveFor config other_world seat address unit (next_at config address evacuation_phase spot (world.memory (touch_at config seat address spot).word)))
 
 module _ (config : Config) (world : World) (seat address : ℕ) (unit : Option ℕ) (shared : Shared config world) where
   -- a step that leads to another spot
   abbrev pub StepTo : ResolveSpot → ResolveSpot → Type 0
-  StepTo at next = PartStep config world seat (touch_at config seat address at) (λ w. CanResolveFor config w seat address unit next)
+  StepTo at next = PartStep config world seat (touch_at config seat address at) (λ world. CanResolveFor config world seat address unit next)
 
   pub leads_to : (at next : ResolveSpot) → next_at config address evacuation_phase at (world.memory (touch_at config seat address at).word) ≡ next → StepTo at next → ResolveStep config world seat address unit at
   leads_to at next leads step = subst (λ n. StepTo at n) (sym leads) step
@@ -103,7 +103,7 @@ module _ (config : Config) (world : World) (seat address : ℕ) (unit : Option �
     shared = shared;
     own = can;
     keeps = keeps_of config seat world world (rely_same config seat world);
-    others = λ j differs. rely_same config j world;
+    others = λ seat differs. rely_same config seat world;
   }
 
   -- the header of an object that has not moved
@@ -120,7 +120,7 @@ module _ (config : Config) (world : World) (seat address : ℕ) (unit : Option �
 
   -- what the header that leads to a copy is answered by
   pub leads_header : (to : ℕ) → after_header address evacuation_phase (header_word to) ≡ Resolved to
-  leads_header to = cond-true (is_forwarded (header_word to)) (Resolved (forwardee_in (header_word to))) (Entering Look) (header_forwarded to) ∙ ap (λ x. Resolved x) (header_names to)
+  leads_header to = cond-true (is_forwarded (header_word to)) (Resolved (forwardee_in (header_word to))) (Entering Look) (header_forwarded to) ∙ ap (λ answer. Resolved answer) (header_names to)
 
   -- what it counts on after a step of the counter
   module _ (at : ResolveSpot) (spot : RoomSpot) (can : CanResolveFor config world seat address unit at) (going : is_ended spot ≡ false) (counts : is_copier at ≡ is_counted spot) (mine : Mine (world.memory Evac) spot)
@@ -131,8 +131,8 @@ module _ (config : Config) (world : World) (seat address : ℕ) (unit : Option �
     pub counter_moves : (next : ResolveSpot) → is_copier next ≡ is_counted (rooms.next_at spot (world.memory Evac)) → ((b : ℕ) (piece : Block) → IsResolvingRoom seat at b piece → IsResolvingRoom seat next b piece) → is_ready config seat address next ≡ true
         → ResolveFacts config counted_then seat address next → StepTo at next
     counter_moves next copies rooms_stay ready facts =
-        subst (λ t. PartStep config world seat t (λ w. CanResolveFor config w seat address unit next)) (sym touches)
-        (counts_step config world seat spot shared can.resolves.phase can.resolves.seated going (can.resolves.copying ∙ counts) mine (λ w. CanResolveFor config w seat address unit next) (record {
+        subst (λ t. PartStep config world seat t (λ world. CanResolveFor config world seat address unit next)) (sym touches)
+        (counts_step config world seat spot shared can.resolves.phase can.resolves.seated going (can.resolves.copying ∙ counts) mine (λ world. CanResolveFor config world seat address unit next) (record {
           resolves = record {
             seated = can.resolves.seated;
             phase = can.resolves.phase;

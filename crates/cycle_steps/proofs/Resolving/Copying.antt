@@ -21,7 +21,7 @@ use Rattle.evac_room.specs.declared.spot.RoomSpot.TheVariants.{Ask}
 use Rattle.heap_world.specs.World.{World, Block, thing, moved, hand, room_of, Body, body_at, body_words, IsCollected, HasCopy, Shared}
 use Rattle.heap_world.specs.Part.{PartStep, SameWork}
 use Rattle.heap_world.specs.Rely.{Keeps}
-use Rattle.heap_world.proofs.Updates.{updated_there, updated_else}
+use Rattle.heap_world.proofs.FunctionUpdates.{updated_there, updated_else}
 use Rattle.heap_world.proofs.Keeping.{load_keeps}
 use Rattle.heap_world.proofs.Pointing.{copy_cases, body_piece}
 use Rattle.load_barrier.specs.declared.copying.CopySpot.{CopySpot}
@@ -42,11 +42,11 @@ use Rattle.alloc_buffers.proofs.GivingBack.{CanGiveBack, fixed_stays, all_spare,
 
 -- a buffer out of which room was taken ends low
 taken_small : (config : Config) (world : World) (seat words copy end : ℕ) → Shared config world → 1 ≤ words → HasTakenRoom config world seat words copy end → end < 2 ^ 32
-taken_small config world seat words copy end shared some taken =
+taken_small config world seat words copy end shared positive taken =
     let used = shared.parsable.plotted.in_use copy (hand seat words) taken.here in
     let most = shared.parsable.plotted.tops used.region used.within in
     let to = used.to_top in
-    let here : region_with config copy ≡ used.region = regions_tile.of_no_other config used.region copy (record { from = used.from_base; before = omega (arith, to, most, some) }) in
+    let here : region_with config copy ≡ used.region = regions_tile.of_no_other config used.region copy (record { from = used.from_base; before = omega (arith, to, most, positive) }) in
     let high : end ≤ base_of config used.region + config.region_words = subst (λ r. end ≤ base_of config r + config.region_words) here taken.within in
     let few = config.in_range.most_regions in
     let long = config.in_range.most_words in
@@ -55,7 +55,7 @@ taken_small config world seat words copy end shared some taken =
     omega (arith, rows, long, high)
 
 -- A taking of room goes on, or has ended: with room for a copy, or without it.
-module _ (config : Config) (world other_world : World) (seat address words : ℕ) (unit : Option ℕ) (at : TakeSpot) (shared : Shared config other_world) (can : CanResolveFor config world seat address unit (Taking words at)) (keeps : Keeps config seat world other_world) (same : SameWork world other_world seat) where
+module _ (config : Config) (world other_world : World) (seat address words : ℕ) (unit : Option ℕ) (spot : TakeSpot) (shared : Shared config other_world) (can : CanResolveFor config world seat address unit (Taking words spot)) (keeps : Keeps config seat world other_world) (same : SameWork world other_world seat) where
   -- the object
   abbrev body : Body
   body = can.resolves.facts.0
@@ -108,7 +108,7 @@ module _ (config : Config) (world other_world : World) (seat address words : ℕ
           omega arith,
           (let least = can_take.least in omega (arith, least)),
           record {
-            taken = subst (λ n. HasTakenRoom config other_world seat n copy end) long room;
+            taken = subst (λ words. HasTakenRoom config other_world seat words copy end) long room;
             same = λ k some below. absurd (omega (arith, some, below));
           },
         ),
@@ -152,7 +152,7 @@ module _ (config : Config) (world : World) (seat address : ℕ) (unit : Option �
 
     -- the object is no room
     object_else : address ≢ copy
-    object_else same = (let both = sym is ∙ ap (λ x. body_at (world.block x)) same ∙ ap body_at room in cc)
+    object_else same = (let both = sym is ∙ ap (λ address. body_at (world.block address)) same ∙ ap body_at room in cc)
 
     -- its words stay
     object_stays : (k : ℕ) → k < body_words b → worded_then.memory (Heap (address + k)) ≡ world.memory (Heap (address + k))
@@ -163,17 +163,17 @@ module _ (config : Config) (world : World) (seat address : ℕ) (unit : Option �
 
     -- and so do other words of the room
     room_stays : (k : ℕ) → index ≢ k → worded_then.memory (Heap (copy + k)) ≡ world.memory (Heap (copy + k))
-    room_stays k other = updated_else (λ d. world.memory (Heap d)) place value (copy + k) (λ same. other (let where_is = place_is in omega (arith, same, where_is)))
+    room_stays k other = updated_else (λ address. world.memory (Heap address)) place value (copy + k) (λ same. other (let where_is = place_is in omega (arith, same, where_is)))
 
     -- the word is what was written
     word_now : worded_then.memory (Heap place) ≡ value
-    word_now = updated_there (λ d. world.memory (Heap d)) place value
+    word_now = updated_there (λ address. world.memory (Heap address)) place value
 
     word_moves : (next : ResolveSpot) → is_copier next ≡ is_copier at → ((d : ℕ) (piece : Block) → IsResolvingRoom seat at d piece → IsResolvingRoom seat next d piece) → is_ready config seat address next ≡ true → ResolveFacts config worded_then seat address next
         → steps.StepTo config world seat address unit shared at next
     word_moves next copies rooms_stay ready facts =
-        subst (λ t. PartStep config world seat t (λ w. CanResolveFor config w seat address unit next)) (sym touches)
-        (worded.word_step config world seat copy (body_words b) index place value shared can.resolves.phase room below place_is (λ w. CanResolveFor config w seat address unit next) (record {
+        subst (λ t. PartStep config world seat t (λ world. CanResolveFor config world seat address unit next)) (sym touches)
+        (worded.word_step config world seat copy (body_words b) index place value shared can.resolves.phase room below place_is (λ world. CanResolveFor config world seat address unit next) (record {
           resolves = record {
             seated = can.resolves.seated;
             phase = can.resolves.phase;
@@ -242,7 +242,7 @@ module _ (config : Config) (world : World) (seat address : ℕ) (unit : Option �
         word_moves here object copy index (copy + index) found can is copied.taken.here below refl refl
         (Copying copy end StoreHeader) refl (λ d x room. room)
         (and_from _ _ (piece_begins config world shared copy (hand seat (body_words object)) copied.taken.here (omega arith)) (and_parts _ _ can.resolves.ready).1)
-        (object, is, subst (λ n. IsCopied config then_world seat address copy end object n) all copied_then)
+        (object, is, subst (λ index. IsCopied config then_world seat address copy end object index) all copied_then)
 
     pub at_store_word : ResolveStep config world seat address unit (Copying copy end (StoreWord words index found))
     at_store_word = by_end (nat_lt (index + 1) words) refl
@@ -290,7 +290,7 @@ module _ (config : Config) (world : World) (seat address : ℕ) (unit : Option �
           let plain = steps.header_plain config world seat address unit shared can.resolves.facts.0 current in
           steps.leads_to config world seat address unit shared (Copying copy end Publish) (Leaving copy) (cond-true (world.memory (Heap address) == plain_header) _ _ (eq-eqb _ _ plain))
           (forwarded.publish_step config world seat address copy b.refs b.nums b.name shared can.resolves.phase can.resolves.inside current copied.taken.here copied.same can.resolves.facts.2.1 can.resolves.seated can.resolves.copying
-          (λ w. CanResolveFor config w seat address unit (Leaving copy)) plain (record {
+          (λ world. CanResolveFor config world seat address unit (Leaving copy)) plain (record {
             resolves = record {
               seated = can.resolves.seated;
               phase = can.resolves.phase;
@@ -317,7 +317,7 @@ module _ (config : Config) (world : World) (seat address : ℕ) (unit : Option �
           let header = steps.header_leads config world seat address unit shared can.resolves.facts.0 old.0 old.1 in
           let other : (world.memory (Heap address) == plain_header) ≡ false = ne_eqb _ _ (λ plain. omega (arith, header, plain)) in
           steps.leads_to config world seat address unit shared (Copying copy end Publish) (Copying copy end (GiveBack old.0))
-          (cond-false (world.memory (Heap address) == plain_header) _ _ other ∙ ap (λ h. Copying copy end (GiveBack (forwardee_in h))) header ∙ ap (λ x. Copying copy end (GiveBack x)) (header_names old.0))
+          (cond-false (world.memory (Heap address) == plain_header) _ _ other ∙ ap (λ h. Copying copy end (GiveBack (forwardee_in h))) header ∙ ap (λ answer. Copying copy end (GiveBack answer)) (header_names old.0))
           (steps.looked config world seat address unit shared (Copying copy end Publish) (Copying copy end (GiveBack old.0))
           (load_keeps world.memory (Heap address) ∙ ap (λ v. write world.memory (Heap address) v) (sym (cond-false (world.memory (Heap address) == plain_header) (header_word copy) (world.memory (Heap address)) other)))
           (steps.can_at config world seat address unit shared (Copying copy end Publish) (Copying copy end (GiveBack old.0)) can refl (λ d x room. room)
@@ -334,7 +334,7 @@ module _ (config : Config) (world : World) (seat address : ℕ) (unit : Option �
         rooms = λ d x there own. ⊎_elim (λ spare. inl spare) (λ here. inr (here, same_Some x (hand seat (body_words b)) (sym there ∙ ap world.block here ∙ taken.here))) (can.resolves.rooms d x there own);
       } in
       let old = fixed_stays config world seat (body_words b) copy end shared gives address (moved b.name b.refs b.nums answer) refl can.resolves.facts.2.1 in
-      back_step config world seat (body_words b) copy end shared gives (λ w. CanResolveFor config w seat address unit (Leaving answer)) (record {
+      back_step config world seat (body_words b) copy end shared gives (λ world. CanResolveFor config world seat address unit (Leaving answer)) (record {
         resolves = record {
           seated = can.resolves.seated;
           phase = can.resolves.phase;

@@ -12,7 +12,7 @@ use Rattle.evac_room.specs.Rows.{form_at, next_at}
 use Rattle.evac_room.proofs.OneStep.{Mine, after, IsKept, CanStep, each_keeps}
 use Rattle.heap_world.specs.World.{World, copiers, IsCounted, Shared}
 use Rattle.heap_world.specs.Part.{PartStep}
-use Rattle.heap_world.proofs.Updates.{updated, updated_same, updated_there, updated_else}
+use Rattle.heap_world.proofs.FunctionUpdates.{updated, updated_same, updated_there, updated_else}
 use Rattle.heap_world.proofs.Copies.{counted_one}
 use Rattle.cycle_steps.proofs.Resolving.Changes.{world_after, evac_written, IsCopyingStep, step_after}
 
@@ -83,7 +83,7 @@ module _ (config : Config) (world : World) (seat : ℕ) (spot : RoomSpot) (share
 
   -- the world then
   abbrev pub counted_world : World
-  counted_world = world_after config world seat (λ a. world.memory (Heap a)) (λ r. world.memory (Top r)) (after (world.memory Evac) spot) world.block copying_then
+  counted_world = world_after config world seat (λ address. world.memory (Heap address)) (λ region. world.memory (Top region)) (after (world.memory Evac) spot) world.block copying_then
 
   -- the counter counts them
   counted_then : IsCounted config (after (world.memory Evac) spot) copying_then
@@ -100,7 +100,7 @@ module _ (config : Config) (world : World) (seat : ℕ) (spot : RoomSpot) (share
   quiet_then : IsQuiet (world.memory Evac) → IsQuiet (after (world.memory Evac) spot)
   quiet_then quiet = subst IsQuiet (sym (counter_kept.quiet_stays quiet)) quiet
 
-  counting : IsCopyingStep config world seat (λ a. world.memory (Heap a)) (λ r. world.memory (Top r)) (after (world.memory Evac) spot) world.block copying_then
+  counting : IsCopyingStep config world seat (λ address. world.memory (Heap address)) (λ region. world.memory (Top region)) (after (world.memory Evac) spot) world.block copying_then
   counting = record {
     parsable = shared.parsable;
     objects = shared.contents.objects;
@@ -108,25 +108,25 @@ module _ (config : Config) (world : World) (seat : ℕ) (spot : RoomSpot) (share
     moved_are = shared.evacuated.moved;
     counted = counted_then;
     kept = shared.evacuated.kept;
-    bodies = λ a b is. is;
-    targets = λ a refs nums name is. record { piece = is.piece; safe = λ inside. quiet_then (is.safe inside) };
+    bodies = λ a body is. is;
+    targets = λ address refs nums name is. record { piece = is.piece; safe = λ inside. quiet_then (is.safe inside) };
     moveds = λ a refs nums to name is. is;
     spents = λ a words to is. is;
     pieces = λ a x inside is. (x, is, refl, refl);
     no_new = λ a refs nums name inside is. is;
-    set_tops = λ r is. refl;
+    set_tops = λ region is. refl;
     out = counter_kept.bit_stays;
     quiet = quiet_then;
     rooms = λ j a x differs is own. is;
     no_rooms = λ j a x is own. is;
     promises = λ a j words is. is;
-    no_promises = λ a j words is. is;
+    no_promises = λ address j words is. is;
     deads = λ a words is. is;
     fillers = λ a words is. is;
-    no_deads = λ a words is. is;
-    no_fillers = λ a words is. is;
+    no_deads = λ address words is. is;
+    no_fillers = λ address words is. is;
     words = λ a k x is below no_room which. refl;
-    own_tops = λ r j differs is. refl;
+    own_tops = λ region j differs is. refl;
     copiers_else = λ j differs. updated_else world.ghost.copying seat (is_counted (next_at spot (world.memory Evac))) j (λ same. differs (sym same));
   }
 
@@ -136,5 +136,5 @@ module _ (config : Config) (world : World) (seat : ℕ) (spot : RoomSpot) (share
 
   -- the step of the counter owes no more
   pub counts_step : (facts : World → Type 0) → facts counted_world → PartStep config world seat (touch Evac (form_at spot)) facts
-  counts_step facts own = step_after config world seat (λ a. world.memory (Heap a)) (λ r. world.memory (Top r)) (after (world.memory Evac) spot) world.block copying_then shared on counting
+  counts_step facts own = step_after config world seat (λ address. world.memory (Heap address)) (λ region. world.memory (Top region)) (after (world.memory Evac) spot) world.block copying_then shared on counting
       (touch Evac (form_at spot)) facts (evac_written world.memory (formed (form_at spot) (world.memory Evac))) own

@@ -78,15 +78,15 @@ module _ (config : Config) (world : World) (seat address : ℕ) (unit : Option �
   -- the load of the shape
   pub at_load_shape : CanResolveFor config world seat address unit LoadShape → ResolveStep config world seat address unit LoadShape
   at_load_shape can =
-      let b = can.resolves.facts.0 in
+      let facts = can.resolves.facts.0 in
       let is = can.resolves.facts.1 in
-      let long = body_long config world shared address b is in
-      let small = body_small config world shared address b is in
+      let long = body_long config world shared address facts is in
+      let small = body_small config world shared address facts is in
       let seated = can.resolves.seated in
-      steps.leads_to config world seat address unit shared LoadShape (Taking (body_words b) take.LoadBuffer) (ap (λ n. Taking n take.LoadBuffer) long)
-      (steps.looked config world seat address unit shared LoadShape (Taking (body_words b) take.LoadBuffer) (load_keeps world.memory (Heap (address + 1))) (steps.can_at config world seat address unit shared LoadShape (Taking (body_words b) take.LoadBuffer) can refl (λ d x room. room)
-      (and_from _ _ (body_lies config world shared address b is) (and_from _ _ (and_from _ _ (lt-ltb _ _ seated) refl) refl)) (
-        b,
+      steps.leads_to config world seat address unit shared LoadShape (Taking (body_words facts) take.LoadBuffer) (ap (λ words. Taking words take.LoadBuffer) long)
+      (steps.looked config world seat address unit shared LoadShape (Taking (body_words facts) take.LoadBuffer) (load_keeps world.memory (Heap (address + 1))) (steps.can_at config world seat address unit shared LoadShape (Taking (body_words facts) take.LoadBuffer) can refl (λ d x room. room)
+      (and_from _ _ (body_lies config world shared address facts is) (and_from _ _ (and_from _ _ (lt-ltb _ _ seated) refl) refl)) (
+        facts,
         is,
         (
           refl,

@@ -13,7 +13,7 @@ use Rattle.shen_graph.specs.declared.name.Name.{Name}
 use Rattle.shen_graph.specs.Graph.{Reference, Object}
 use Rattle.heap_world.specs.World.{World, Block, thing, moved, spent, hand, promised, dead, filler, spare, carved, words_of, filling, room_of, Plot, name_at, Points, IsInUse, Body, body_of, body_at, IsPlotted, IsFilled, IsThing, IsCollected, IsMarkable, IsYoung, HasCopy, IsMoved, Shared}
 use Rattle.heap_world.specs.Part.{PartStep}
-use Rattle.heap_world.proofs.Updates.{updated, updated_there, updated_else}
+use Rattle.heap_world.proofs.FunctionUpdates.{updated, updated_there, updated_else}
 use Rattle.heap_world.proofs.Apart.{one_piece}
 use Rattle.heap_world.proofs.Keeping.{points_stay}
 use Rattle.heap_world.proofs.Pieces.{object_reads, piece_cases}
@@ -26,7 +26,7 @@ use Rattle.cycle_steps.proofs.Resolving.Bodies.{room_outside}
 pub plotted_same : (config : Config) (top : ℕ → ℕ) (plot other_plot : Plot) → ((address : ℕ) (piece : Block) → other_plot address ≡ Some piece → (other_piece : Block) × (plot address ≡ Some other_piece) × (words_of other_piece ≡ words_of piece)) → IsPlotted config top plot → IsPlotted config top other_plot
 plotted_same config top plot other_plot was plotted = record {
   tops = plotted.tops;
-  in_use = λ address piece is. let old = was address piece is in subst (λ n. IsInUse config top address n) old.2 (plotted.in_use address old.0 old.1);
+  in_use = λ address piece is. let old = was address piece is in subst (λ words. IsInUse config top address words) old.2 (plotted.in_use address old.0 old.1);
   apart = λ address b piece other_piece is_x is_y before. let old_x = was address piece is_x in let old_y = was b other_piece is_y in let long = old_x.2 in let far = plotted.apart address b old_x.0 old_y.0 old_x.1 old_y.1 before in omega (arith, far, long);
 }
 
@@ -79,7 +79,7 @@ module _ (config : Config) (world : World) (seat address copy refs nums : ℕ) (
 
   -- the words of the heap then
   abbrev pub heap_then : ℕ → ℕ
-  heap_then = updated (λ b. world.memory (Heap b)) address (header_word copy)
+  heap_then = updated (λ address. world.memory (Heap address)) address (header_word copy)
 
   -- the plot with the old copy
   abbrev old_block : Plot
@@ -168,9 +168,9 @@ module _ (config : Config) (world : World) (seat address copy refs nums : ℕ) (
   -- a copy is one
   bodies : (b : ℕ) (body : Body) → body_at (world.block b) ≡ Some body → body_at (block_then b) ≡ Some body
   bodies b body is = ⊎_elim
-      (λ (new : b ≡ copy). absurd (let both = sym is ∙ ap (λ x. body_at (world.block x)) new ∙ ap body_at room in cc))
+      (λ (new : b ≡ copy). absurd (let both = sym is ∙ ap (λ address. body_at (world.block address)) new ∙ ap body_at room in cc))
       (λ (not_new : b ≢ copy). ⊎_elim
-      (λ (old : b ≡ address). ap (λ x. body_at (block_then x)) old ∙ ap body_at old_there ∙ sym (ap body_at object) ∙ sym (ap (λ x. body_at (world.block x)) old) ∙ is)
+      (λ (old : b ≡ address). ap (λ x. body_at (block_then x)) old ∙ ap body_at old_there ∙ sym (ap body_at object) ∙ sym (ap (λ address. body_at (world.block address)) old) ∙ is)
       (λ (not_old : b ≢ address). ap body_at (else_there b not_old not_new) ∙ is)
       (cases_eq b address))
       (cases_eq b copy)
@@ -180,28 +180,28 @@ module _ (config : Config) (world : World) (seat address copy refs nums : ℕ) (
 
   -- a word that is not the object's header stays
   word_stays : (b k : ℕ) (piece : Block) → world.block b ≡ Some piece → k < words_of piece → (b ≢ address) ⊎ (1 ≤ k) → heap_then (b + k) ≡ world.memory (Heap (b + k))
-  word_stays b k piece is below which = updated_else (λ d. world.memory (Heap d)) address (header_word copy) (b + k) (λ same.
+  word_stays b k piece is below which = updated_else (λ address. world.memory (Heap address)) address (header_word copy) (b + k) (λ same.
       let one : b ≡ address = one_piece config tops world.block shared.parsable.plotted b address address piece (thing name refs nums) is object (omega (arith, same)) (omega (arith, same, below)) (omega arith) (omega arith) in
       ⊎_elim (λ other. other one) (λ some. omega (arith, same, one, some)) which)
 
   first_stays : (b : ℕ) → b ≢ address → heap_then b ≡ world.memory (Heap b)
-  first_stays b other = updated_else (λ d. world.memory (Heap d)) address (header_word copy) b (λ same. other (sym same))
+  first_stays b other = updated_else (λ address. world.memory (Heap address)) address (header_word copy) b (λ same. other (sym same))
 
   -- what a word behind the name stands for it stands for then
   refers_then : (b k : ℕ) (piece : Block) → world.block b ≡ Some piece → 3 + k < words_of piece → (b ≢ address) ⊎ (1 ≤ 3 + k) → (reference : Reference) → Points world.block (world.memory (Heap (b + 3 + k))) reference
       → Points block_then (heap_then (b + 3 + k)) reference
   refers_then b k piece is below which reference points =
       let place : b + (3 + k) ≡ b + 3 + k = omega arith in
-      let same : heap_then (b + 3 + k) ≡ world.memory (Heap (b + 3 + k)) = subst (λ d. heap_then d ≡ world.memory (Heap d)) place (word_stays b (3 + k) piece is below which) in
+      let same : heap_then (b + 3 + k) ≡ world.memory (Heap (b + 3 + k)) = subst (λ address. heap_then address ≡ world.memory (Heap address)) place (word_stays b (3 + k) piece is below which) in
       subst (λ v. Points block_then v reference) (sym same) (points_stay world.block block_then names (world.memory (Heap (b + 3 + k))) reference points)
 
   -- an object before
-  was_object : (o : Object) × (world.graph.object name ≡ Some o) × IsThing (λ b. world.memory (Heap b)) world.block address refs nums name o
+  was_object : (o : Object) × (world.graph.object name ≡ Some o) × IsThing (λ address. world.memory (Heap address)) world.block address refs nums name o
   was_object = shared.contents.objects.each address refs nums name object
 
   -- the new copy is the object
   new_thing : IsThing heap_then block_then copy refs nums name was_object.0
-  new_thing = thing_copied (λ b. world.memory (Heap b)) heap_then world.block block_then address copy refs nums name was_object.0
+  new_thing = thing_copied (λ address. world.memory (Heap address)) heap_then world.block block_then address copy refs nums name was_object.0
       (first_stays copy (λ same. two (sym same)) ∙ header)
       (λ k some below. word_stays copy k (hand seat words) room below (inl (λ same. two (sym same))) ∙ copied k some below)
       names was_object.2
@@ -216,7 +216,7 @@ module _ (config : Config) (world : World) (seat address copy refs nums : ℕ) (
 
   -- what else has the name
   no_other : (b more_refs more_nums : ℕ) (n : Name) → b ≢ address → world.block b ≡ Some (thing n more_refs more_nums) → n ≡ name → ⊥
-  no_other b more_refs more_nums n other is same = other (shared.contents.objects.once b address more_refs more_nums refs nums name (is ∙ ap (λ m. Some (thing m more_refs more_nums)) same) object)
+  no_other b more_refs more_nums n other is same = other (shared.contents.objects.once b address more_refs more_nums refs nums name (is ∙ ap (λ name. Some (thing name more_refs more_nums)) same) object)
 
   -- a markable piece outside the set stays one
   markable_stays : (b : ℕ) → b ≢ address → IsMarkable world.block b → IsMarkable block_then b
@@ -230,7 +230,7 @@ module _ (config : Config) (world : World) (seat address copy refs nums : ℕ) (
 
   -- a copy in the set is one
   copy_stays : (address : ℕ) → HasCopy world.block address → HasCopy block_then address
-  copy_stays address (HasCopy.copy d is) = HasCopy.copy d (bodies address d is)
+  copy_stays address (HasCopy.copy body is) = HasCopy.copy body (bodies address body is)
   copy_stays address (HasCopy.spent_copy more to is) = HasCopy.spent_copy more to (stays address (spent more to) (λ same. (let differ = same in cc)) (λ same. (let differ = same in cc)) is)
 
   -- an address outside the set is not the object's
@@ -240,7 +240,7 @@ module _ (config : Config) (world : World) (seat address copy refs nums : ℕ) (
   -- the old copy leads to the new one
   new_moved : IsMoved config (world.memory Cset) heap_then block_then address refs nums copy name
   new_moved = record {
-    header = updated_there (λ d. world.memory (Heap d)) address (header_word copy);
+    header = updated_there (λ address. world.memory (Heap address)) address (header_word copy);
     shape = word_stays address 1 (thing name refs nums) object (omega arith) (inr (omega arith)) ∙ was_object.2.shape;
     name_word = word_stays address 2 (thing name refs nums) object (omega arith) (inr (omega arith)) ∙ was_object.2.name_word;
     few_refs = was_object.2.few_refs;
@@ -274,24 +274,24 @@ module _ (config : Config) (world : World) (seat address copy refs nums : ℕ) (
   publishing = record {
     parsable = record {
       plotted = plotted_same config tops world.block block_then was_piece shared.parsable.plotted;
-      filled = filled_same config tops world.block block_then was_piece (λ b x is. let now = now_piece b x is in (now.0, now.1)) shared.parsable.filled;
+      filled = filled_same config tops world.block block_then was_piece (λ address piece is. let now = now_piece address piece is in (now.0, now.1)) shared.parsable.filled;
       promises = λ b j more is. shared.parsable.promises b j more (came b (promised j more) (λ same. (let differ = same in cc)) (λ same. (let differ = same in cc)) is).2;
       deads = λ b more is. shared.parsable.deads b more (came b (dead more) (λ same. (let differ = same in cc)) (λ same. (let differ = same in cc)) is).2;
       spents = λ b more to is. shared.parsable.spents b more to (came b (spent more to) (λ same. (let differ = same in cc)) (λ same. (let differ = same in cc)) is).2;
       fillers = λ b more is. shared.parsable.fillers b more (came b (filler more) (λ same. (let differ = same in cc)) (λ same. (let differ = same in cc)) is).2;
     };
     objects = record {
-      each = λ b more_refs more_nums n is. ⊎_elim
-          (λ (new : (b ≡ copy) × (thing n more_refs more_nums ≡ thing name refs nums)).
+      each = λ address more_refs more_nums other_name is. ⊎_elim
+          (λ (new : (address ≡ copy) × (thing other_name more_refs more_nums ≡ thing name refs nums)).
           let both = new.1 in
-          let name_is : n ≡ name = cc in
+          let name_is : other_name ≡ name = cc in
           let refs_are : more_refs ≡ refs = cc in
           let nums_are : more_nums ≡ nums = cc in
           (was_object.0, ap world.graph.object name_is ∙ was_object.1, rw (new.0, name_is, refs_are, nums_are) new_thing))
           (λ same.
-          let o = shared.contents.objects.each b more_refs more_nums n same.2 in
-          (o.0, o.1, object_reads (λ d. world.memory (Heap d)) heap_then world.block block_then b more_refs more_nums n o.0 (λ k below. word_stays b k (thing n more_refs more_nums) same.2 below (inl same.0)) names o.2))
-          (thing_now b more_refs more_nums n is);
+          let o = shared.contents.objects.each address more_refs more_nums other_name same.2 in
+          (o.0, o.1, object_reads (λ address. world.memory (Heap address)) heap_then world.block block_then address more_refs more_nums other_name o.0 (λ k below. word_stays address k (thing other_name more_refs more_nums) same.2 below (inl same.0)) names o.2))
+          (thing_now address more_refs more_nums other_name is);
       once = λ b d refs_b nums_b refs_d nums_d n is_b is_d. ⊎_elim
           (λ new_b. ⊎_elim
           (λ new_d. new_b.0 ∙ sym new_d.0)
@@ -322,29 +322,29 @@ module _ (config : Config) (world : World) (seat address copy refs nums : ℕ) (
                   (λ has. inr (has.0, has.1, stays has.0 (carved j has.1) (λ same. (let differ = same in cc)) (λ same. (let differ = same in cc)) has.2))
                   (was.free more);
             };
-        spares = λ b j more is. shared.owned.buffers.spares b j more (room_came b j (spare j more) is refl);
+        spares = λ address seat more is. shared.owned.buffers.spares address seat more (room_came address seat (spare seat more) is refl);
       };
       rooms = record {
-        seated = λ b j x is own. shared.owned.rooms.seated b j x (room_came b j x is own) own;
-        hands = λ b j more is. shared.owned.rooms.hands b j more (room_came b j (hand j more) is refl);
-        spares = λ b j more is. shared.owned.rooms.spares b j more (room_came b j (spare j more) is refl);
-        carveds = λ b j more is. shared.owned.rooms.carveds b j more (room_came b j (carved j more) is refl);
+        seated = λ address seat piece is own. shared.owned.rooms.seated address seat piece (room_came address seat piece is own) own;
+        hands = λ address seat more is. shared.owned.rooms.hands address seat more (room_came address seat (hand seat more) is refl);
+        spares = λ address seat more is. shared.owned.rooms.spares address seat more (room_came address seat (spare seat more) is refl);
+        carveds = λ address seat more is. shared.owned.rooms.carveds address seat more (room_came address seat (carved seat more) is refl);
       };
     };
     moved_are = record {
-      moveds = λ b more_refs more_nums to n is. ⊎_elim
+      moveds = λ b more_refs more_nums to other_name is. ⊎_elim
           (λ new. absurd (let differ = new.1 in cc))
           (λ rest. ⊎_elim
           (λ old.
           let both = old.1 in
-          let name_is : n ≡ name = cc in
+          let name_is : other_name ≡ name = cc in
           let refs_are : more_refs ≡ refs = cc in
           let nums_are : more_nums ≡ nums = cc in
           let to_is : to ≡ copy = cc in
           rw (old.0, name_is, refs_are, nums_are, to_is) new_moved)
-          (λ same. other_moved b more_refs more_nums to n same.0 same.2)
+          (λ same. other_moved b more_refs more_nums to other_name same.0 same.2)
           rest)
-          (now_cases b (moved n more_refs more_nums to) is);
+          (now_cases b (moved other_name more_refs more_nums to) is);
       spents = λ b more to is.
           let same = came b (spent more to) (λ e. (let differ = e in cc)) (λ e. (let differ = e in cc)) is in
           let was = shared.evacuated.moved.spents b more to same.2 in
@@ -363,40 +363,40 @@ module _ (config : Config) (world : World) (seat address copy refs nums : ℕ) (
     };
     counted = shared.evacuated.counted;
     kept = λ still. record {
-      objects = λ b is. ⊎_elim
-          (λ (new : b ≡ copy). inr (subst (λ x. IsYoung config (λ r. world.memory (Tams r)) x) (sym new) ((shared.evacuated.kept still).young copy seat (hand seat words) room refl)))
-          (λ was. (shared.evacuated.kept still).objects b was)
-          (markable_was b is);
-      young = λ b j x is own. (shared.evacuated.kept still).young b j x (room_came b j x is own) own;
+      objects = λ address is. ⊎_elim
+          (λ (new : address ≡ copy). inr (subst (λ x. IsYoung config (λ region. world.memory (Tams region)) x) (sym new) ((shared.evacuated.kept still).young copy seat (hand seat words) room refl)))
+          (λ was. (shared.evacuated.kept still).objects address was)
+          (markable_was address is);
+      young = λ address seat piece is own. (shared.evacuated.kept still).young address seat piece (room_came address seat piece is own) own;
       floors = (shared.evacuated.kept still).floors;
       unmarked = λ b more is. (shared.evacuated.kept still).unmarked b more (came b (dead more) (λ same. (let differ = same in cc)) (λ same. (let differ = same in cc)) is).2;
       deads = λ b more is. (shared.evacuated.kept still).deads b more (came b (dead more) (λ same. (let differ = same in cc)) (λ same. (let differ = same in cc)) is).2;
-      only = λ b from mark collected. copy_stays b ((shared.evacuated.kept still).only b from mark collected);
+      only = λ address from mark collected. copy_stays address ((shared.evacuated.kept still).only address from mark collected);
     };
     bodies = bodies;
     targets = λ b more_refs more_nums n is.
         let other : b ≢ address = λ same. not_quiet config (world.memory Evac) world.ghost.copying seat shared.evacuated.counted seated counted (is.safe (subst (λ x. IsCollected config (world.memory Cset) x) (sym same) inside)) in
         record { piece = else_there b other (λ same. (let both = sym is.piece ∙ ap world.block same ∙ room in cc)) ∙ is.piece; safe = is.safe };
-    moveds = λ b more_refs more_nums to n is. stays b (moved n more_refs more_nums to) (λ same. (let differ = same in cc)) (λ same. (let differ = same in cc)) is;
-    spents = λ b more to is. stays b (spent more to) (λ same. (let differ = same in cc)) (λ same. (let differ = same in cc)) is;
-    pieces = λ b x collected is. now_piece b x is;
+    moveds = λ address more_refs more_nums to name is. stays address (moved name more_refs more_nums to) (λ same. (let differ = same in cc)) (λ same. (let differ = same in cc)) is;
+    spents = λ address more to is. stays address (spent more to) (λ same. (let differ = same in cc)) (λ same. (let differ = same in cc)) is;
+    pieces = λ address piece collected is. now_piece address piece is;
     no_new = λ b more_refs more_nums n collected is. ⊎_elim
         (λ new. absurd (outside (subst (λ x. IsCollected config (world.memory Cset) x) new.0 collected)))
         (λ same. same.2)
         (thing_now b more_refs more_nums n is);
-    set_tops = λ r is. refl;
+    set_tops = λ region is. refl;
     out = λ is. is;
     quiet = λ is. is;
-    rooms = λ j b x differs is own. stays b x (λ same. differs (same_Some j seat (sym own ∙ ap room_of same))) (λ same. none-some j (ap room_of (sym same) ∙ own)) is;
-    no_rooms = λ j b x is own. room_came b j x is own;
-    promises = λ b j more is. stays b (promised j more) (λ same. (let differ = same in cc)) (λ same. (let differ = same in cc)) is;
-    no_promises = λ b j more is. (came b (promised j more) (λ same. (let differ = same in cc)) (λ same. (let differ = same in cc)) is).2;
-    fillers = λ b more is. stays b (filler more) (λ same. (let differ = same in cc)) (λ same. (let differ = same in cc)) is;
-    deads = λ b more is. stays b (dead more) (λ same. (let differ = same in cc)) (λ same. (let differ = same in cc)) is;
-    no_deads = λ b more is. (came b (dead more) (λ same. (let differ = same in cc)) (λ same. (let differ = same in cc)) is).2;
-    no_fillers = λ b more is. (came b (filler more) (λ same. (let differ = same in cc)) (λ same. (let differ = same in cc)) is).2;
-    words = λ b k x is below no_room which. word_stays b k x is below (⊎_elim (λ some. inr some) (λ none. inl (λ same. none-some name (sym none ∙ ap name_at (sym is ∙ ap world.block same ∙ object)))) which);
-    own_tops = λ r j differs is. refl;
+    rooms = λ j address piece differs is own. stays address piece (λ same. differs (same_Some j seat (sym own ∙ ap room_of same))) (λ same. none-some j (ap room_of (sym same) ∙ own)) is;
+    no_rooms = λ seat address piece is own. room_came address seat piece is own;
+    promises = λ address seat more is. stays address (promised seat more) (λ same. (let differ = same in cc)) (λ same. (let differ = same in cc)) is;
+    no_promises = λ address j more is. (came address (promised j more) (λ same. (let differ = same in cc)) (λ same. (let differ = same in cc)) is).2;
+    fillers = λ address more is. stays address (filler more) (λ same. (let differ = same in cc)) (λ same. (let differ = same in cc)) is;
+    deads = λ address more is. stays address (dead more) (λ same. (let differ = same in cc)) (λ same. (let differ = same in cc)) is;
+    no_deads = λ address more is. (came address (dead more) (λ same. (let differ = same in cc)) (λ same. (let differ = same in cc)) is).2;
+    no_fillers = λ address more is. (came address (filler more) (λ same. (let differ = same in cc)) (λ same. (let differ = same in cc)) is).2;
+    words = λ b k piece is below no_room which. word_stays b k piece is below (⊎_elim (λ some. inr some) (λ none. inl (λ same. none-some name (sym none ∙ ap name_at (sym is ∙ ap world.block same ∙ object)))) which);
+    own_tops = λ region j differs is. refl;
     copiers_else = λ j differs. refl;
   }
 

@@ -25,15 +25,15 @@ module _ (config : Config) (world : World) (shared : Shared config world) (addre
 
 pub headers_lead : HeadersLead
 headers_lead = record {
-  leads = λ c w a b shared is forwarded. ⊎_elim
-      (λ current. absurd (let differ : false ≡ true = sym (ap is_forwarded (plain c w shared a b current)) ∙ forwarded in cc))
-      (λ old. subst (λ to. TargetIn c w to b.refs b.nums b.name × (w.memory (Heap to) ≡ plain_header)) (sym (ap forwardee_in (led c w shared a b old.0 old.1) ∙ header_names old.0)) (leads_to c w shared a b old.0 old.1))
-      (copy_cases (w.block a) b is);
-  once = λ c u w a b before after keeps is. ⊎_elim
+  leads = λ c w address body shared is forwarded. ⊎_elim
+      (λ current. absurd (let differ : false ≡ true = sym (ap is_forwarded (plain c w shared address body current)) ∙ forwarded in cc))
+      (λ old. subst (λ to. TargetIn c w to body.refs body.nums body.name × (w.memory (Heap to) ≡ plain_header)) (sym (ap forwardee_in (led c w shared address body old.0 old.1) ∙ header_names old.0)) (leads_to c w shared address body old.0 old.1))
+      (copy_cases (w.block address) body is);
+  once = λ c u w address body before after keeps is. ⊎_elim
       (λ was_current. ⊎_elim
-      (λ current. inl (plain c w after a b current ∙ sym (plain c u before a b was_current)))
-      (λ old. inr (plain c u before a b was_current, ap is_forwarded (led c w after a b old.0 old.1) ∙ header_forwarded old.0))
-      (copy_cases (w.block a) b (keeps.bodies a b is)))
-      (λ was_old. inl (led c w after a b was_old.0 (keeps.moveds a b.refs b.nums was_old.0 b.name was_old.1) ∙ sym (led c u before a b was_old.0 was_old.1)))
-      (copy_cases (u.block a) b is);
+      (λ current. inl (plain c w after address body current ∙ sym (plain c u before address body was_current)))
+      (λ old. inr (plain c u before address body was_current, ap is_forwarded (led c w after address body old.0 old.1) ∙ header_forwarded old.0))
+      (copy_cases (w.block address) body (keeps.bodies address body is)))
+      (λ was_old. inl (led c w after address body was_old.0 (keeps.moveds address body.refs body.nums was_old.0 body.name was_old.1) ∙ sym (led c u before address body was_old.0 was_old.1)))
+      (copy_cases (u.block address) body is);
 }

@@ -73,23 +73,23 @@ module _ (config : Config) (world : World) (seat address : ℕ) (unit : Option �
   -- the last load of the header
   at_load_again : CanResolveFor config world seat address unit LoadAgain → ResolveStep config world seat address unit LoadAgain
   at_load_again can =
-      let b = can.resolves.facts.0 in
+      let facts = can.resolves.facts.0 in
       let quiet = can.resolves.facts.2 in
       ⊎_elim
       (λ current.
-      steps.leads_to config world seat address unit shared LoadAgain (Resolved address) (ap (λ h. Resolved (current_copy address h)) (steps.header_plain config world seat address unit shared b current))
+      steps.leads_to config world seat address unit shared LoadAgain (Resolved address) (ap (λ h. Resolved (current_copy address h)) (steps.header_plain config world seat address unit shared facts current))
       (steps.looked config world seat address unit shared LoadAgain (Resolved address) (load_keeps world.memory (Heap address))
       (steps.can_at config world seat address unit shared LoadAgain (Resolved address) can refl (λ d x room. room) (let piece = copy_piece config world shared address can.resolves.there in piece_begins config world shared address piece.0 piece.1 (let long = piece.2 in omega (arith, long)))
-      (still_answer config world address b can.resolves.inside quiet current))))
+      (still_answer config world address facts can.resolves.inside quiet current))))
       (λ old.
       steps.leads_to config world seat address unit shared LoadAgain (Resolved old.0)
-      (ap (λ h. Resolved (current_copy address h)) (steps.header_leads config world seat address unit shared b old.0 old.1)
-      ∙ ap (λ x. Resolved x) (cond-true (is_forwarded (header_word old.0)) (forwardee_in (header_word old.0)) address (header_forwarded old.0) ∙ header_names old.0))
+      (ap (λ h. Resolved (current_copy address h)) (steps.header_leads config world seat address unit shared facts old.0 old.1)
+      ∙ ap (λ answer. Resolved answer) (cond-true (is_forwarded (header_word old.0)) (forwardee_in (header_word old.0)) address (header_forwarded old.0) ∙ header_names old.0))
       (steps.looked config world seat address unit shared LoadAgain (Resolved old.0) (load_keeps world.memory (Heap address))
-      (steps.can_at config world seat address unit shared LoadAgain (Resolved old.0) can refl (λ d x room. room) (steps.answer_word config world seat address unit shared b old.0 old.1) (moved_answer config world address old.0 b shared old.1))))
-      (copy_cases (world.block address) b can.resolves.facts.1)
+      (steps.can_at config world seat address unit shared LoadAgain (Resolved old.0) can refl (λ d x room. room) (steps.answer_word config world seat address unit shared facts old.0 old.1) (moved_answer config world address old.0 facts shared old.1))))
+      (copy_cases (world.block address) facts can.resolves.facts.1)
 
-  at_entering : (at : RoomSpot) → CanResolveFor config world seat address unit (Entering at) → ResolveStep config world seat address unit (Entering at)
+  at_entering : (spot : RoomSpot) → CanResolveFor config world seat address unit (Entering spot) → ResolveStep config world seat address unit (Entering spot)
   at_entering Look can = at_look config world seat address unit shared can
   at_entering (Raise found) can = at_raise config world seat address unit shared found can
   at_entering Outside can = absurd (let ready = can.resolves.ready in cc)
@@ -100,7 +100,7 @@ module _ (config : Config) (world : World) (seat address : ℕ) (unit : Option �
   at_entering Wait can = absurd (let ready = can.resolves.ready in cc)
   at_entering Stopped can = absurd (let ready = can.resolves.ready in cc)
 
-  at_stopping : (at : RoomSpot) → CanResolveFor config world seat address unit (Stopping at) → ResolveStep config world seat address unit (Stopping at)
+  at_stopping : (spot : RoomSpot) → CanResolveFor config world seat address unit (Stopping spot) → ResolveStep config world seat address unit (Stopping spot)
   at_stopping Ask can = at_ask can
   at_stopping (Mark found) can = at_mark found can
   at_stopping Wait can = at_wait can
@@ -112,13 +112,13 @@ module _ (config : Config) (world : World) (seat address : ℕ) (unit : Option �
   at_stopping Stopped can = absurd (let ready = can.resolves.ready in cc)
 
   -- each step of a resolving
-  pub each_resolve : (at : ResolveSpot) → is_ended at ≡ false → CanResolveFor config world seat address unit at → ResolveStep config world seat address unit at
+  pub each_resolve : (spot : ResolveSpot) → is_ended spot ≡ false → CanResolveFor config world seat address unit spot → ResolveStep config world seat address unit spot
   each_resolve LoadHeader going can = at_load_header config world seat address unit shared can
-  each_resolve (Entering at) going can = at_entering at can
+  each_resolve (Entering spot) going can = at_entering spot can
   each_resolve LoadShape going can = at_load_shape config world seat address unit shared can
-  each_resolve (Taking words at) going can = at_taking config world seat address unit shared words at can
-  each_resolve (Copying copy end at) going can = at_copying config world seat address unit shared copy end at can
+  each_resolve (Taking words spot) going can = at_taking config world seat address unit shared words spot can
+  each_resolve (Copying copy end spot) going can = at_copying config world seat address unit shared copy end spot can
   each_resolve (Leaving answer) going can = at_leaving answer can
-  each_resolve (Stopping at) going can = at_stopping at can
+  each_resolve (Stopping spot) going can = at_stopping spot can
   each_resolve LoadAgain going can = at_load_again can
   each_resolve (Resolved answer) going can = absurd (cc (going))

@@ -22,54 +22,54 @@ use Rattle.cycle_steps.proofs.Resolving.Bodies.{copy_piece, piece_begins, room_n
 use Rattle.cycle_steps.proofs.Resolving.Stays.{can_resolve_stays}
 use Rattle.cycle_steps.proofs.Resolving.Leaving.{each_resolve}
 
-module _ (config : Config) (world : World) (seat a : ℕ) (shared : Shared config world) where
+module _ (config : Config) (world : World) (seat address : ℕ) (shared : Shared config world) where
   -- who leaves is counted
-  leaves_fit : (at : ResolveSpot) → CanResolve config world seat a at → LeavesFit at (world.memory (touch_at config seat a at).word)
+  leaves_fit : (spot : ResolveSpot) → CanResolve config world seat address spot → LeavesFit spot (world.memory (touch_at config seat address spot).word)
   leaves_fit (Leaving answer) can = λ none.
       let counts = shared.evacuated.counted.counts in
       let some = counted_one world.ghost.copying (seat_count config.mutators config.helpers) seat can.seated can.copying in
       omega (arith, none, counts, some)
   leaves_fit LoadHeader can = tt
-  leaves_fit (Entering at) can = tt
+  leaves_fit (Entering spot) can = tt
   leaves_fit LoadShape can = tt
-  leaves_fit (Taking words at) can = tt
-  leaves_fit (Copying copy end at) can = tt
-  leaves_fit (Stopping at) can = tt
+  leaves_fit (Taking words spot) can = tt
+  leaves_fit (Copying copy end spot) can = tt
+  leaves_fit (Stopping spot) can = tt
   leaves_fit LoadAgain can = tt
   leaves_fit (Resolved answer) can = tt
 
   -- the next access is of the table
-  inside_at : (at : ResolveSpot) → CanResolve config world seat a at → IsWord config (touch_at config seat a at).word
-  inside_at at can =
-      let piece = copy_piece config world shared a can.there in
-      resolve_inside config seat a at can.seated (piece_begins config world shared a piece.0 piece.1 (let long = piece.2 in omega (arith, long))) can.ready
+  inside_at : (spot : ResolveSpot) → CanResolve config world seat address spot → IsWord config (touch_at config seat address spot).word
+  inside_at spot can =
+      let piece = copy_piece config world shared address can.there in
+      resolve_inside config seat address spot can.seated (piece_begins config world shared address piece.0 piece.1 (let long = piece.2 in omega (arith, long))) can.ready
 
 module _ (config : Config) (world : World) (seat a address k : ℕ) (body : Body) (shared : Shared config world) (is : body_at (world.block address) ≡ Some body) (below : k < body_words body) where
   -- what it accesses of copies
   abbrev IsSpared : ResolveSpot → Type 0
-  IsSpared at = (touch_at config seat a at).word ≡ Heap (address + k) → ((touch_at config seat a at).form ≡ loads) ⊎ ((copy : ℕ) × (end : ℕ) × (at ≡ Copying copy end Publish) × (address ≡ a) × (k ≡ 0))
+  IsSpared spot = (touch_at config seat a spot).word ≡ Heap (address + k) → ((touch_at config seat a spot).form ≡ loads) ⊎ ((copy : ℕ) × (end : ℕ) × (spot ≡ Copying copy end Publish) × (address ≡ a) × (k ≡ 0))
 
   -- no word of its room is one of a copy
   room_far : (copy index words : ℕ) → world.block copy ≡ Some (hand seat words) → index < words → copy + index ≢ address + k
   room_far copy index words room inside =
       let piece = body_piece (world.block address) body is in
       let long = piece.2 in
-      far config (λ r. world.memory (Top r)) world.block shared.parsable.plotted copy address index k (hand seat words) piece.0 room piece.1
-      (λ same. room_no_copy config world shared copy seat words room body (ap (λ x. body_at (world.block x)) same ∙ is)) inside (omega (arith, below, long))
+      far config (λ region. world.memory (Top region)) world.block shared.parsable.plotted copy address index k (hand seat words) piece.0 room piece.1
+      (λ same. room_no_copy config world shared copy seat words room body (ap (λ address. body_at (world.block address)) same ∙ is)) inside (omega (arith, below, long))
 
   -- no free words of its buffer begin within a copy
   spare_far : (more : ℕ) → world.block (address + k) ≡ Some (spare seat more) → 1 ≤ more → ⊥
-  spare_far more there some =
+  spare_far more there positive =
       let piece = body_piece (world.block address) body is in
       let long = piece.2 in
-      far config (λ r. world.memory (Top r)) world.block shared.parsable.plotted (address + k) address 0 k (spare seat more) piece.0 there piece.1
-      (λ same. (let both = sym (ap (λ x. body_at (world.block x)) same ∙ is) ∙ ap body_at there in cc)) (omega (arith, some)) (omega (arith, below, long)) (omega arith)
+      far config (λ region. world.memory (Top region)) world.block shared.parsable.plotted (address + k) address 0 k (spare seat more) piece.0 there piece.1
+      (λ same. (let both = sym (ap (λ address. body_at (world.block address)) same ∙ is) ∙ ap body_at there in cc)) (omega (arith, positive)) (omega (arith, below, long)) (omega arith)
 
   -- one word of the heap has one address
   one_address : (address other_address : ℕ) → Heap address ≡ Heap other_address → address ≡ other_address
   one_address address other_address same = cc
 
-  copy_spares : (copy end : ℕ) (at : CopySpot) → CanResolve config world seat a (Copying copy end at) → IsSpared (Copying copy end at)
+  copy_spares : (copy end : ℕ) (spot : CopySpot) → CanResolve config world seat a (Copying copy end spot) → IsSpared (Copying copy end spot)
   copy_spares copy end (LoadWord words index) can word = inl refl
   copy_spares copy end (StoreWord words index found) can word =
       absurd (room_far copy index (body_words can.facts.0) can.facts.2.3.taken.here (let less = can.facts.2.2 in let long = can.facts.2.0 in omega (arith, less, long)) (one_address _ _ word))
@@ -81,18 +81,18 @@ module _ (config : Config) (world : World) (seat a address k : ℕ) (body : Body
       let long = piece.2 in
       let same = one_address a (address + k) word in
       let some = there.2 in
-      let one : address ≡ a = one_piece config (λ r. world.memory (Top r)) world.block shared.parsable.plotted address a a piece.0 there.0 piece.1 there.1 (omega (arith, same)) (omega (arith, same, below, long)) (omega arith) (omega (arith, some)) in
+      let one : address ≡ a = one_piece config (λ region. world.memory (Top region)) world.block shared.parsable.plotted address a a piece.0 there.0 piece.1 there.1 (omega (arith, same)) (omega (arith, same, below, long)) (omega arith) (omega (arith, some)) in
       inr (copy, end, refl, one, omega (arith, same, one))
   copy_spares copy end (GiveBack answer) can word = absurd (cc (word))
 
-  spares_at : (at : ResolveSpot) → CanResolve config world seat a at → IsSpared at
+  spares_at : (spot : ResolveSpot) → CanResolve config world seat a spot → IsSpared spot
   spares_at LoadHeader can word = inl refl
-  spares_at (Entering at) can word = absurd (cc (word))
+  spares_at (Entering spot) can word = absurd (cc (word))
   spares_at LoadShape can word = inl refl
-  spares_at (Taking words at) can word = (let there = writes_spare config world seat words at can.facts.2.1 (address + k) word in absurd (spare_far there.0 there.1 there.2))
-  spares_at (Copying copy end at) can word = copy_spares copy end at can word
+  spares_at (Taking words spot) can word = (let there = writes_spare config world seat words spot can.facts.2.1 (address + k) word in absurd (spare_far there.0 there.1 there.2))
+  spares_at (Copying copy end spot) can word = copy_spares copy end spot can word
   spares_at (Leaving answer) can word = absurd (cc (word))
-  spares_at (Stopping at) can word = absurd (cc (word))
+  spares_at (Stopping spot) can word = absurd (cc (word))
   spares_at LoadAgain can word = inl refl
   spares_at (Resolved answer) can word = inl refl
 

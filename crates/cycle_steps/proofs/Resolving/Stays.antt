@@ -54,7 +54,7 @@ module _ (config : Config) (world other_world : World) (seat address : ℕ) (sha
           ∙ sym (rely.copies.words address k b seated counted inside is some (omega (arith, below, most)));
     }
 
-    copy_facts_stay : (copy end : ℕ) (at : CopySpot) → world.ghost.copying seat ≡ true → CopyFacts config world seat address copy end b at → CopyFacts config other_world seat address copy end b at
+    copy_facts_stay : (copy end : ℕ) (spot : CopySpot) → world.ghost.copying seat ≡ true → CopyFacts config world seat address copy end b spot → CopyFacts config other_world seat address copy end b spot
     copy_facts_stay copy end (LoadWord words index) counted facts =
         let long = facts.0 in let below = facts.2 in (facts.0, facts.1, facts.2, copied_stays copy end index counted (omega (arith, long, below)) facts.3)
     copy_facts_stay copy end (StoreWord words index found) counted facts =
@@ -70,39 +70,39 @@ module _ (config : Config) (world other_world : World) (seat address : ℕ) (sha
     copy_facts_stay copy end StoreHeader counted facts = copied_stays copy end (body_words b) counted (omega arith) facts
     copy_facts_stay copy end Publish counted facts = (
       copied_stays copy end (body_words b) counted (omega arith) facts.0,
-      (let there : copy + 0 ≡ copy = omega arith in subst (λ x. other_world.memory (Heap x) ≡ world.memory (Heap x)) there (rely.room_words copy 0 _ facts.0.taken.here refl (omega arith))) ∙ facts.1,
+      (let there : copy + 0 ≡ copy = omega arith in subst (λ address. other_world.memory (Heap address) ≡ world.memory (Heap address)) there (rely.room_words copy 0 _ facts.0.taken.here refl (omega arith))) ∙ facts.1,
     )
     copy_facts_stay copy end (GiveBack answer) counted facts = (take_stays config world other_world seat rely (body_words b) (Ended (At copy) end) facts.0, rely.copies.keeps.moveds address b.refs b.nums answer b.name facts.1)
 
-    stop_stays : (at : RoomSpot) → StopFacts (world.memory Evac) at → StopFacts (other_world.memory Evac) at
+    stop_stays : (spot : RoomSpot) → StopFacts (world.memory Evac) spot → StopFacts (other_world.memory Evac) spot
     stop_stays Wait facts = rely.copies.keeps.out facts
     stop_stays _ facts = tt
 
-    body_facts_stay : (at : ResolveSpot) → world.ghost.copying seat ≡ is_copier at → BodyFacts config world seat address b at → BodyFacts config other_world seat address b at
+    body_facts_stay : (spot : ResolveSpot) → world.ghost.copying seat ≡ is_copier spot → BodyFacts config world seat address b spot → BodyFacts config other_world seat address b spot
     body_facts_stay LoadHeader copying facts = tt
-    body_facts_stay (Entering at) copying facts = tt
+    body_facts_stay (Entering spot) copying facts = tt
     body_facts_stay LoadShape copying facts = tt
-    body_facts_stay (Taking words at) copying facts = (facts.0, can_take_stays config world other_world seat words at rely facts.1)
-    body_facts_stay (Copying copy end at) copying facts = copy_facts_stay copy end at copying facts
+    body_facts_stay (Taking words spot) copying facts = (facts.0, can_take_stays config world other_world seat words spot rely facts.1)
+    body_facts_stay (Copying copy end spot) copying facts = copy_facts_stay copy end spot copying facts
     body_facts_stay (Leaving answer) copying facts = rely.copies.keeps.moveds address b.refs b.nums answer b.name facts
-    body_facts_stay (Stopping at) copying facts = stop_stays at facts
+    body_facts_stay (Stopping spot) copying facts = stop_stays spot facts
     body_facts_stay LoadAgain copying facts = rely.copies.keeps.quiet facts
     body_facts_stay (Resolved answer) copying facts = tt
 
-  facts_stay : (at : ResolveSpot) → CanResolve config world seat address at → ResolveFacts config world seat address at → ResolveFacts config other_world seat address at
+  facts_stay : (spot : ResolveSpot) → CanResolve config world seat address spot → ResolveFacts config world seat address spot → ResolveFacts config other_world seat address spot
   facts_stay LoadHeader can facts = tt
   facts_stay (Resolved answer) can facts = answer_stays answer can.there can.inside facts
-  facts_stay (Entering at) can facts = (facts.0, rely.copies.keeps.bodies address facts.0 facts.1, tt)
+  facts_stay (Entering spot) can facts = (facts.0, rely.copies.keeps.bodies address facts.0 facts.1, tt)
   facts_stay LoadShape can facts = (facts.0, rely.copies.keeps.bodies address facts.0 facts.1, tt)
-  facts_stay (Taking words at) can facts = (facts.0, rely.copies.keeps.bodies address facts.0 facts.1, body_facts_stay can.seated can.inside facts.0 facts.1 (Taking words at) can.copying facts.2)
-  facts_stay (Copying copy end at) can facts = (facts.0, rely.copies.keeps.bodies address facts.0 facts.1, body_facts_stay can.seated can.inside facts.0 facts.1 (Copying copy end at) can.copying facts.2)
+  facts_stay (Taking words spot) can facts = (facts.0, rely.copies.keeps.bodies address facts.0 facts.1, body_facts_stay can.seated can.inside facts.0 facts.1 (Taking words spot) can.copying facts.2)
+  facts_stay (Copying copy end spot) can facts = (facts.0, rely.copies.keeps.bodies address facts.0 facts.1, body_facts_stay can.seated can.inside facts.0 facts.1 (Copying copy end spot) can.copying facts.2)
   facts_stay (Leaving answer) can facts = (facts.0, rely.copies.keeps.bodies address facts.0 facts.1, body_facts_stay can.seated can.inside facts.0 facts.1 (Leaving answer) can.copying facts.2)
-  facts_stay (Stopping at) can facts = (facts.0, rely.copies.keeps.bodies address facts.0 facts.1, body_facts_stay can.seated can.inside facts.0 facts.1 (Stopping at) can.copying facts.2)
+  facts_stay (Stopping spot) can facts = (facts.0, rely.copies.keeps.bodies address facts.0 facts.1, body_facts_stay can.seated can.inside facts.0 facts.1 (Stopping spot) can.copying facts.2)
   facts_stay LoadAgain can facts = (facts.0, rely.copies.keeps.bodies address facts.0 facts.1, body_facts_stay can.seated can.inside facts.0 facts.1 LoadAgain can.copying facts.2)
 
   -- all that it counts on stays
-  pub can_resolve_stays : (at : ResolveSpot) → CanResolve config world seat address at → CanResolve config other_world seat address at
-  can_resolve_stays at can = record {
+  pub can_resolve_stays : (spot : ResolveSpot) → CanResolve config world seat address spot → CanResolve config other_world seat address spot
+  can_resolve_stays spot can = record {
     seated = can.seated;
     phase = rely.marks.keeps.phase ∙ can.phase;
     inside = now_inside address can.inside;
@@ -112,5 +112,5 @@ module _ (config : Config) (world other_world : World) (seat address : ℕ) (sha
     scans_none = rely.marks.scanning ∙ can.scans_none;
     rooms = λ b x is own. can.rooms b x (rely.no_rooms b x is own) own;
     ready = can.ready;
-    facts = facts_stay at can can.facts;
+    facts = facts_stay spot can can.facts;
   }

@@ -7,31 +7,31 @@ use Rattle.heap_world.specs.World.{World, Scan, with_scanning, KeepsSnapshot, Is
 use Rattle.heap_world.specs.Rely.{KeepsFields, Keeps, Rely}
 use Rattle.heap_world.specs.Part.{PartStep}
 use Rattle.heap_world.proofs.Unmarked.{none_marked_in}
-use Rattle.heap_world.proofs.Updates.{updated, updated_else}
+use Rattle.heap_world.proofs.FunctionUpdates.{updated, updated_else}
 
 -- the world with another number of units claimed, and with a machine that stands elsewhere
 abbrev pub world_then : World → ℕ → ℕ → Option Scan → World
 world_then world seat claim pass = record { memory = write world.memory Claim claim; block = world.block; ghost = with_scanning world.ghost (updated world.ghost.scanning seat pass); graph = world.graph }
 
-module _ (config : Config) (world other_world : World) (seat claim : ℕ) (pass : Option Scan) where
+module _ (config : Config) (world next_world : World) (seat claim : ℕ) (pass : Option Scan) where
   -- of what is updated, with these two
   abbrev pub UpdatingThen : Type 0
-  UpdatingThen = IsUpdating config (other_world.memory Cset) claim (λ r. other_world.memory (Top r)) (λ r. other_world.memory (Limit r)) (λ a. other_world.memory (Heap a)) other_world.block (updated other_world.ghost.scanning seat pass)
+  UpdatingThen = IsUpdating config (next_world.memory Cset) claim (λ region. next_world.memory (Top region)) (λ region. next_world.memory (Limit region)) (λ address. next_world.memory (Heap address)) next_world.block (updated next_world.ghost.scanning seat pass)
 
   -- machines share what they should
-  shared_then : Shared config other_world → other_world.memory Phase ≡ 3 → UpdatingThen → Shared config (world_then other_world seat claim pass)
+  shared_then : Shared config next_world → next_world.memory Phase ≡ 3 → UpdatingThen → Shared config (world_then next_world seat claim pass)
   shared_then shared on updating =
-      let other : other_world.memory Phase ≢ 1 = λ one. (omega (arith, on, one)) in
+      let other : next_world.memory Phase ≢ 1 = λ one. (omega (arith, on, one)) in
       record {
         parsable = shared.parsable;
         contents = shared.contents;
         owned = shared.owned;
         phased = shared.phased;
         unwritten = shared.unwritten;
-        marked = subst (λ s. KeepsSnapshot config (other_world.memory Phase) (λ n. other_world.memory (Grey n)) (λ n. other_world.memory (Black n)) (λ t. other_world.memory (Count t)) (λ t k. other_world.memory (Buffer t k)) (λ r. other_world.memory (Top r)) (λ r. other_world.memory (Tams r))
-            (λ a. other_world.memory (Heap a)) other_world.block s other_world.ghost.recording (updated other_world.ghost.scanning seat pass)) (sym (shared.marked.empty other))
-            (none_marked_in config (other_world.memory Phase) (λ n. other_world.memory (Grey n)) (λ n. other_world.memory (Black n)) (λ t. other_world.memory (Count t)) (λ t k. other_world.memory (Buffer t k)) (λ r. other_world.memory (Top r)) (λ r. other_world.memory (Tams r))
-            (λ a. other_world.memory (Heap a)) other_world.block other_world.ghost.recording (updated other_world.ghost.scanning seat pass) other);
+        marked = subst (λ snapshot. KeepsSnapshot config (next_world.memory Phase) (λ number. next_world.memory (Grey number)) (λ number. next_world.memory (Black number)) (λ mutator. next_world.memory (Count mutator)) (λ mutator entry. next_world.memory (Buffer mutator entry)) (λ region. next_world.memory (Top region)) (λ region. next_world.memory (Tams region))
+            (λ address. next_world.memory (Heap address)) next_world.block snapshot next_world.ghost.recording (updated next_world.ghost.scanning seat pass)) (sym (shared.marked.empty other))
+            (none_marked_in config (next_world.memory Phase) (λ number. next_world.memory (Grey number)) (λ number. next_world.memory (Black number)) (λ mutator. next_world.memory (Count mutator)) (λ mutator entry. next_world.memory (Buffer mutator entry)) (λ region. next_world.memory (Top region)) (λ region. next_world.memory (Tams region))
+            (λ address. next_world.memory (Heap address)) next_world.block next_world.ghost.recording (updated next_world.ghost.scanning seat pass) other);
         evacuated = record {
           moved = shared.evacuated.moved;
           counted = shared.evacuated.counted;
@@ -44,7 +44,7 @@ module _ (config : Config) (world other_world : World) (seat claim : ℕ) (pass 
       }
 
   -- the facts of the seat's machine stand
-  pub keeps_then : Keeps config seat world other_world → Keeps config seat world (world_then other_world seat claim pass)
+  pub keeps_then : Keeps config seat world next_world → Keeps config seat world (world_then next_world seat claim pass)
   keeps_then keeps = record {
     names = keeps.names;
     targets = keeps.targets;
@@ -73,11 +73,11 @@ module _ (config : Config) (world other_world : World) (seat claim : ℕ) (pass 
   }
 
   -- so do those of updating
-  pub fields_then : (config.regions ≤ world.memory Claim → config.regions ≤ claim) → KeepsFields config world other_world → KeepsFields config world (world_then other_world seat claim pass)
+  pub fields_then : (config.regions ≤ world.memory Claim → config.regions ≤ claim) → KeepsFields config world next_world → KeepsFields config world (world_then next_world seat claim pass)
   fields_then claims fields = record { tams = fields.tams; limits = fields.limits; deads = fields.deads; fillers = fields.fillers; claims = claims; fields = fields.fields }
 
   -- others can rely on what they knew
-  others_then : (config.regions ≤ world.memory Claim → config.regions ≤ claim) → (k : ℕ) → k ≢ seat → Rely config k world other_world → Rely config k world (world_then other_world seat claim pass)
+  others_then : (config.regions ≤ world.memory Claim → config.regions ≤ claim) → (k : ℕ) → k ≢ seat → Rely config k world next_world → Rely config k world (world_then next_world seat claim pass)
   others_then claims k differs rely = record {
     names = rely.names;
     targets = rely.targets;
@@ -103,7 +103,7 @@ module _ (config : Config) (world other_world : World) (seat claim : ℕ) (pass 
     marks = record {
       keeps = record { phase = rely.marks.keeps.phase; snapshot = rely.marks.keeps.snapshot; markable = rely.marks.keeps.markable; shapes = rely.marks.keeps.shapes; noted = rely.marks.keeps.noted };
       recording = rely.marks.recording;
-      scanning = updated_else other_world.ghost.scanning seat pass k (λ e. differs (sym e)) ∙ rely.marks.scanning;
+      scanning = updated_else next_world.ghost.scanning seat pass k (λ e. differs (sym e)) ∙ rely.marks.scanning;
       entries = rely.marks.entries;
       buffer = rely.marks.buffer;
       greys = rely.marks.greys;
@@ -128,10 +128,10 @@ module _ (config : Config) (world other_world : World) (seat claim : ℕ) (pass 
   }
 
   -- what the step owes, that led to the world but for these two, is owed then
-  pub step_then : (touch : Touch) (facts : World → Type 0) → write other_world.memory Claim claim ≡ touched world.memory touch → other_world.graph ≡ world.graph → Shared config other_world → other_world.memory Phase ≡ 3 → (config.regions ≤ world.memory Claim → config.regions ≤ claim)
-      → Keeps config seat world other_world → ((k : ℕ) → k ≢ seat → Rely config k world other_world) → UpdatingThen → facts (world_then other_world seat claim pass) → PartStep config world seat touch facts
+  pub step_then : (touch : Touch) (facts : World → Type 0) → write next_world.memory Claim claim ≡ touched world.memory touch → next_world.graph ≡ world.graph → Shared config next_world → next_world.memory Phase ≡ 3 → (config.regions ≤ world.memory Claim → config.regions ≤ claim)
+      → Keeps config seat world next_world → ((k : ℕ) → k ≢ seat → Rely config k world next_world) → UpdatingThen → facts (world_then next_world seat claim pass) → PartStep config world seat touch facts
   step_then touch facts memory graph shared on claims keeps others updating own = record {
-    world = world_then other_world seat claim pass;
+    world = world_then next_world seat claim pass;
     memory = memory;
     graph = graph;
     shared = shared_then shared on updating;

@@ -36,26 +36,26 @@ module _ (config : Config) (world other_world : World) (seat : ℕ) (shared : Sh
   alive_stays = keeps.marks.markable (λ two. omega (arith, on, two))
 
   -- a piece
-  piece_stays : (a : ℕ) → IsPiece world a → IsPiece other_world a
-  piece_stays a (inl alive) = inl (alive_stays a alive)
-  piece_stays a (inr fills) = inr (fills.0, fields.deads a fills.0 fills.1)
+  piece_stays : (address : ℕ) → IsPiece world address → IsPiece other_world address
+  piece_stays address (inl alive) = inl (alive_stays address alive)
+  piece_stays address (inr fills) = inr (fills.0, fields.deads address fills.0 fills.1)
 
   -- or words that only fill
-  any_stays : (a : ℕ) → HasPiece world a → HasPiece other_world a
-  any_stays a (inl piece) = inl (piece_stays a piece)
-  any_stays a (inr fills) = inr (fills.0, fields.fillers a fills.0 fills.1)
+  any_stays : (address : ℕ) → HasPiece world address → HasPiece other_world address
+  any_stays address (inl piece) = inl (piece_stays address piece)
+  any_stays address (inr fills) = inr (fills.0, fields.fillers address fills.0 fills.1)
 
   -- the shape word of a piece
-  shape_stays : (a shape : ℕ) → HasShape world a shape → HasShape other_world a shape
-  shape_stays a shape (inl object) = inl (alive_stays a object.0, object.1 ∙ sym (keeps.marks.shapes a object.0))
-  shape_stays a shape (inr fills) = inr (fills.0, fields.deads a fills.0 fills.1, fills.2)
+  shape_stays : (address shape : ℕ) → HasShape world address shape → HasShape other_world address shape
+  shape_stays address shape (inl object) = inl (alive_stays address object.0, object.1 ∙ sym (keeps.marks.shapes address object.0))
+  shape_stays address shape (inr fills) = inr (fills.0, fields.deads address fills.0 fills.1, fills.2)
 
   -- a reference of an object
-  pub field_stays : (at : Visit) (field : ℕ) → HasField config world at field → HasField config other_world at field
-  field_stays at field has = record {
-    walked = walked_stays at.walk at.address has.walked;
-    alive = alive_stays at.address has.alive;
-    shape_is = has.shape_is ∙ sym (keeps.marks.shapes at.address has.alive);
+  pub field_stays : (visit : Visit) (field : ℕ) → HasField config world visit field → HasField config other_world visit field
+  field_stays visit field has = record {
+    walked = walked_stays visit.walk visit.address has.walked;
+    alive = alive_stays visit.address has.alive;
+    shape_is = has.shape_is ∙ sym (keeps.marks.shapes visit.address has.alive);
     below = has.below;
   }
 
@@ -64,29 +64,29 @@ module _ (config : Config) (world other_world : World) (seat : ℕ) (shared : Sh
   thing_stays address refs nums name is = (keeps.targets address refs nums name (record { piece = is; safe = λ inside. absurd ((shared.updated on).outside address refs nums name is inside) })).piece
 
   -- what the reference was found to be
-  found_stays : (at : Visit) (field found to : ℕ) → HasField config world at field → HasFound world at field found to → HasFound other_world at field found to
-  found_stays at field found to has finds =
+  found_stays : (visit : Visit) (field found to : ℕ) → HasField config world visit field → HasFound world visit field found to → HasFound other_world visit field found to
+  found_stays visit field found to has finds =
       let holder = finds.holder in
-      let there = (shared.contents.objects.each at.address holder.1 holder.2 holder.0 holder.3).2 in
-      let all : refs_in at.shape ≡ holder.1 = ap refs_in (has.shape_is ∙ there.shape) ∙ refs_in-shape_word holder.1 holder.2 there.few_refs there.few_nums in
+      let there = (shared.contents.objects.each visit.address holder.1 holder.2 holder.0 holder.3).2 in
+      let all : refs_in visit.shape ≡ holder.1 = ap refs_in (has.shape_is ∙ there.shape) ∙ refs_in-shape_word holder.1 holder.2 there.few_refs there.few_nums in
       let below = has.below in
       record {
-        holder = (holder.0, holder.1, holder.2, thing_stays at.address holder.1 holder.2 holder.0 holder.3);
+        holder = (holder.0, holder.1, holder.2, thing_stays visit.address holder.1 holder.2 holder.0 holder.3);
         refs = finds.refs;
         nums = finds.nums;
         name = finds.name;
         old = keeps.copies.moveds found finds.refs finds.nums to finds.name finds.old;
         still = ⊎_elim
-            (λ (same : other_world.memory (Heap (at.address + 3 + field)) ≡ world.memory (Heap (at.address + 3 + field))). ⊎_elim
-            (λ (is : world.memory (Heap (at.address + 3 + field)) ≡ found). inl (same ∙ is))
-            (λ (current : IsCurrent world.block (world.memory (Heap (at.address + 3 + field)))). inr (subst (IsCurrent other_world.block) (sym same) (current_stays world.block other_world.block thing_stays _ current)))
+            (λ (same : other_world.memory (Heap (visit.address + 3 + field)) ≡ world.memory (Heap (visit.address + 3 + field))). ⊎_elim
+            (λ (is : world.memory (Heap (visit.address + 3 + field)) ≡ found). inl (same ∙ is))
+            (λ (current : IsCurrent world.block (world.memory (Heap (visit.address + 3 + field)))). inr (subst (IsCurrent other_world.block) (sym same) (current_stays world.block other_world.block thing_stays _ current)))
             finds.still)
-            (λ (current : IsCurrent other_world.block (other_world.memory (Heap (at.address + 3 + field)))). inr current)
-            (fields.fields on at.address holder.1 holder.2 field holder.0 holder.3 (omega (arith, below, all)));
+            (λ (current : IsCurrent other_world.block (other_world.memory (Heap (visit.address + 3 + field)))). inr current)
+            (fields.fields on visit.address holder.1 holder.2 field holder.0 holder.3 (omega (arith, below, all)));
       }
 
   -- so do all of them
-  pub facts_stay : (at : UpdateSpot) → UpdateFacts config world at → UpdateFacts config other_world at
+  pub facts_stay : (spot : UpdateSpot) → UpdateFacts config world spot → UpdateFacts config other_world spot
   facts_stay LoadClaim facts = tt
   facts_stay (ClaimUnit unit) facts = facts
   facts_stay (LoadLimit region) facts = unit_stays region facts
@@ -100,8 +100,8 @@ module _ (config : Config) (world other_world : World) (seat : ℕ) (shared : Sh
   facts_stay (Ended unit) facts = tt
 
 -- While others step, what it counts on stays.
-pub can_update_stays : (config : Config) (world other_world : World) (seat cset : ℕ) (at : UpdateSpot) → Shared config world → Keeps config seat world other_world → Rely config seat world other_world → CanUpdate config world seat cset at → CanUpdate config other_world seat cset at
-can_update_stays config world other_world seat cset at shared keeps rely can = record {
+pub can_update_stays : (config : Config) (world next_world : World) (seat cset : ℕ) (spot : UpdateSpot) → Shared config world → Keeps config seat world next_world → Rely config seat world next_world → CanUpdate config world seat cset spot → CanUpdate config next_world seat cset spot
+can_update_stays config world next_world seat cset spot shared keeps rely can = record {
   seated = can.seated;
   phase = rely.marks.keeps.phase ∙ can.phase;
   set_is = can.set_is ∙ sym rely.copies.keeps.cset;
@@ -110,5 +110,5 @@ can_update_stays config world other_world seat cset at shared keeps rely can = r
   records_none = rely.marks.recording ∙ can.records_none;
   scanning = rely.marks.scanning ∙ can.scanning;
   rooms = λ a x is room. can.rooms a x (rely.no_rooms a x is room) room;
-  facts = facts_stay config world other_world seat shared can.phase keeps rely.fields at can.facts;
+  facts = facts_stay config world next_world seat shared can.phase keeps rely.fields spot can.facts;
 }

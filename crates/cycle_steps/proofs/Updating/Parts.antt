@@ -28,10 +28,10 @@ word_there config address is = and_from _ _ (le-leb _ _ is.0) (lt-ltb _ _ is.1)
 
 module _ (config : Config) (world : World) (shared : Shared config world) (on : world.memory Phase ≡ 3) where
   -- a word of a piece is one of the heap
-  piece_heap : (address at : ℕ) (piece : Block) → world.block address ≡ Some piece → address ≤ at → at < address + words_of piece → IsWord config (Heap at)
-  piece_heap address at piece is from to =
-      let inside = piece_inside config (λ r. world.memory (Top r)) world.block shared.parsable.plotted address piece is in
-      (omega (arith, inside.0, from), omega (arith, inside.1, to))
+  piece_heap : (address other_address : ℕ) (piece : Block) → world.block address ≡ Some piece → address ≤ other_address → other_address < address + words_of piece → IsWord config (Heap other_address)
+  piece_heap address at piece is at_most below =
+      let inside = piece_inside config (λ region. world.memory (Top region)) world.block shared.parsable.plotted address piece is in
+      (omega (arith, inside.0, at_most), omega (arith, inside.1, below))
 
   -- so is one of a piece with a shape word, up to its last reference
   shape_heap : (address shape k : ℕ) → HasShape world address shape → k < 3 + refs_in shape → IsWord config (Heap (address + k))
@@ -41,7 +41,7 @@ module _ (config : Config) (world : World) (shared : Shared config world) (on : 
 
   -- the first word of what a walk comes to
   any_heap : (address : ℕ) → HasPiece world address → IsWord config (Heap address)
-  any_heap address (inl piece) = subst (λ x. IsWord config (Heap x)) (omega arith) (shape_heap address (world.memory (Heap (address + 1))) 0 (piece_shape config world shared on address piece) (omega arith))
+  any_heap address (inl piece) = subst (λ address. IsWord config (Heap address)) (omega arith) (shape_heap address (world.memory (Heap (address + 1))) 0 (piece_shape config world shared on address piece) (omega arith))
   any_heap address (inr fills) = piece_heap address address (filler fills.0) fills.1 (omega arith) (let some = shared.parsable.fillers address fills.0 fills.1 in omega (arith, some))
 
   -- the numbers of a walk are in range
@@ -55,28 +55,28 @@ module _ (config : Config) (world : World) (shared : Shared config world) (on : 
       and_from _ _ (lt-ltb _ _ within) (and_from _ _ (le-leb walk.limit config.region_words (omega (arith, limit_is, short))) (le-leb walk.tams config.region_words (omega (arith, tams_is, low))))
 
   -- so are those of an object
-  visit_there : (at : Visit) → HasComeTo config world at.walk at.address → HasShape world at.address at.shape → visit_fits config at ≡ true
-  visit_there at walked has =
-      let first : IsWord config (Heap at.address) = subst (λ a. IsWord config (Heap a)) (omega arith) (shape_heap at.address at.shape 0 has (omega arith)) in
-      let last : IsWord config (Heap (at.address + 2 + refs_in at.shape)) = subst (λ a. IsWord config (Heap a)) (omega arith) (shape_heap at.address at.shape (2 + refs_in at.shape) has (omega arith)) in
-      and_from _ _ (walk_there at.walk at.address walked) (and_from _ _ (word_there config at.address first) (word_there config (at.address + 2 + refs_in at.shape) last))
+  visit_there : (visit : Visit) → HasComeTo config world visit.walk visit.address → HasShape world visit.address visit.shape → visit_fits config visit ≡ true
+  visit_there visit walked has =
+      let first : IsWord config (Heap visit.address) = subst (λ address. IsWord config (Heap address)) (omega arith) (shape_heap visit.address visit.shape 0 has (omega arith)) in
+      let last : IsWord config (Heap (visit.address + 2 + refs_in visit.shape)) = subst (λ address. IsWord config (Heap address)) (omega arith) (shape_heap visit.address visit.shape (2 + refs_in visit.shape) has (omega arith)) in
+      and_from _ _ (walk_there visit.walk visit.address walked) (and_from _ _ (word_there config visit.address first) (word_there config (visit.address + 2 + refs_in visit.shape) last))
 
   -- and those of one with a reference
-  field_there : (at : Visit) (field : ℕ) → HasField config world at field → has_field config at field ≡ true
-  field_there at field has = and_from _ _ (visit_there at has.walked (inl (has.alive, has.shape_is))) (lt-ltb _ _ has.below)
+  field_there : (visit : Visit) (field : ℕ) → HasField config world visit field → has_field config visit field ≡ true
+  field_there visit field has = and_from _ _ (visit_there visit has.walked (inl (has.alive, has.shape_is))) (lt-ltb _ _ has.below)
 
   -- the word of a reference
-  field_heap : (at : Visit) (field : ℕ) → HasField config world at field → IsWord config (Heap (at.address + 3 + field))
-  field_heap at field has =
+  field_heap : (visit : Visit) (field : ℕ) → HasField config world visit field → IsWord config (Heap (visit.address + 3 + field))
+  field_heap visit field has =
       let below = has.below in
-      subst (λ a. IsWord config (Heap a)) (omega arith) (shape_heap at.address at.shape (3 + field) (inl (has.alive, has.shape_is)) (omega (arith, below)))
+      subst (λ address. IsWord config (Heap address)) (omega arith) (shape_heap visit.address visit.shape (3 + field) (inl (has.alive, has.shape_is)) (omega (arith, below)))
 
   -- the header of an old copy
   found_heap : (found refs nums to : ℕ) (name : Name) → world.block found ≡ Some (moved name refs nums to) → IsWord config (Heap found)
   found_heap found refs nums to name is = piece_heap found found (moved name refs nums to) is (omega arith) (omega arith)
 
   -- the numbers of the spot are in range
-  pub ready_there : (at : UpdateSpot) → UpdateFacts config world at → is_ready config at ≡ true
+  pub ready_there : (spot : UpdateSpot) → UpdateFacts config world spot → is_ready config spot ≡ true
   ready_there LoadClaim facts = refl
   ready_there (ClaimUnit unit) facts = lt-ltb _ _ facts
   ready_there (LoadLimit region) facts = lt-ltb _ _ facts.0
@@ -87,7 +87,7 @@ module _ (config : Config) (world : World) (shared : Shared config world) (on : 
   ready_there (LoadFirst walk address) facts = and_from _ _ (walk_there walk address facts.0) (word_there config address (any_heap address facts.1))
   ready_there (LoadShape walk address) facts =
       let has = piece_shape config world shared on address facts.1 in
-      let first : IsWord config (Heap address) = subst (λ a. IsWord config (Heap a)) (omega arith) (shape_heap address (world.memory (Heap (address + 1))) 0 has (omega arith)) in
+      let first : IsWord config (Heap address) = subst (λ address. IsWord config (Heap address)) (omega arith) (shape_heap address (world.memory (Heap (address + 1))) 0 has (omega arith)) in
       and_from _ _ (walk_there walk address facts.0) (and_from _ _ (word_there config address first) (word_there config (address + 1) (shape_heap address (world.memory (Heap (address + 1))) 1 has (omega arith))))
   ready_there (LoadBlack at) facts = visit_there at facts.0 facts.1
   ready_there (LoadField at field) facts = field_there at field facts
@@ -96,22 +96,22 @@ module _ (config : Config) (world : World) (shared : Shared config world) (on : 
   ready_there (Ended unit) facts = refl
 
   -- the next access is of the table
-  pub update_inside : (at : UpdateSpot) → UpdateFacts config world at → IsWord config (touch_at config at).word
+  pub update_inside : (spot : UpdateSpot) → UpdateFacts config world spot → IsWord config (touch_at config spot).word
   update_inside LoadClaim facts = tt
   update_inside (ClaimUnit unit) facts = tt
   update_inside (LoadLimit region) facts = facts.0
   update_inside (LoadTams region limit) facts = facts.0.0
   update_inside (LoadFirst walk address) facts = any_heap address facts.1
   update_inside (LoadShape walk address) facts = shape_heap address (world.memory (Heap (address + 1))) 1 (piece_shape config world shared on address facts.1) (omega arith)
-  update_inside (LoadBlack at) facts = word_inside config at.address (subst (λ a. IsWord config (Heap a)) (omega arith) (shape_heap at.address at.shape 0 facts.1 (omega arith)))
+  update_inside (LoadBlack at) facts = word_inside config at.address (subst (λ address. IsWord config (Heap address)) (omega arith) (shape_heap at.address at.shape 0 facts.1 (omega arith)))
   update_inside (LoadField at field) facts = field_heap at field facts
   update_inside (LoadHeader at field found) facts = found_heap found facts.1.1.refs facts.1.1.nums facts.1.0 facts.1.1.name facts.1.1.old
   update_inside (ExchangeField at field found copy) facts = field_heap at field facts.0
   update_inside (Ended unit) facts = tt
 
   -- of the words of copies in the collection set none is accessed by more than loads, for the objects of a unit lie outside
-  pub update_spares : (at : UpdateSpot) (address k : ℕ) (body : Body) → UpdateFacts config world at → body_at (world.block address) ≡ Some body → IsCollected config (world.memory Cset) address → k < body_words body → (touch_at config at).word ≡ Heap (address + k)
-      → (touch_at config at).form ≡ loads
+  pub update_spares : (spot : UpdateSpot) (address k : ℕ) (body : Body) → UpdateFacts config world spot → body_at (world.block address) ≡ Some body → IsCollected config (world.memory Cset) address → k < body_words body → (touch_at config spot).word ≡ Heap (address + k)
+      → (touch_at config spot).form ≡ loads
   update_spares (ClaimUnit unit) address k body facts is inside below word = absurd (cc (word))
   update_spares (ExchangeField at field found copy) address k body facts is inside below word =
       let same : at.address + 3 + field ≡ address + k = cc in
@@ -120,7 +120,7 @@ module _ (config : Config) (world : World) (shared : Shared config world) (on : 
       let piece = shape_words config world shared on at.address at.shape (inl (has.alive, has.shape_is)) in
       let copied = body_piece (world.block address) body is in
       let less = has.below in
-      let here : at.address ≡ address = one_piece config (λ r. world.memory (Top r)) world.block shared.parsable.plotted at.address address (at.address + 3 + field) piece.0 copied.0 piece.1 copied.1
+      let here : at.address ≡ address = one_piece config (λ region. world.memory (Top region)) world.block shared.parsable.plotted at.address address (at.address + 3 + field) piece.0 copied.0 piece.1 copied.1
       (omega arith) (let long = piece.2 in omega (arith, long, less)) (omega (arith, same)) (let long = copied.2 in omega (arith, same, long, below)) in
       absurd ((shared.updated on).outside at.address holder.1 holder.2 holder.0 holder.3 (subst (λ a. IsCollected config (world.memory Cset) a) (sym here) inside))
   update_spares _ address k body facts is inside below word = refl
@@ -139,14 +139,14 @@ updating_steps = record {
     rooms = nothing.rooms;
     facts = tt;
   };
-  steps = λ c seat cset. record {
-    stands = λ u at shared can. record {
-      stays = λ w rely. can_update_stays c u w seat cset at shared (keeps_of c seat u w rely) rely can;
-      inside = update_inside c u shared can.phase at can.facts;
+  steps = λ config seat cset. record {
+    stands = λ world at shared can. record {
+      stays = λ w rely. can_update_stays config world w seat cset at shared (keeps_of config seat world w rely) rely can;
+      inside = update_inside config world shared can.phase at can.facts;
     };
     goes = λ u at going shared can.
-        let step = each_updates c u seat cset at going shared can in
-        record { step = step; fits = ready_there c step.world step.shared step.own.phase (spot_then c u cset at) step.own.facts };
+        let step = each_updates config u seat cset at going shared can in
+        record { step = step; fits = ready_there config step.world step.shared step.own.phase (spot_then config u cset at) step.own.facts };
   };
   ready = λ c u seat cset at shared can. ready_there c u shared can.phase at can.facts;
   spares = λ c u seat cset at d k b shared can is inside below word. update_spares c u shared can.phase at d k b can.facts is inside below word;

@@ -8,7 +8,7 @@ use Rattle.heap_words.specs.Ranges.{seat_count}
 use Rattle.regions.specs.Place.{region_with}
 use Rattle.shen_graph.specs.declared.name.Name.{Name}
 use Rattle.heap_world.specs.World.{Plot, Scan, thing, IsYoung, IsAhead, IsCurrent, IsToUpdate, IsUpdating}
-use Rattle.heap_world.proofs.Updates.{updated, updated_there, updated_else}
+use Rattle.heap_world.proofs.FunctionUpdates.{updated, updated_there, updated_else}
 
 -- a field comes where a machine stands, if it stands in the unit of the field's region, or behind
 abbrev pub Comes : Config → Option Scan → (address k : ℕ) → Type 0
@@ -51,11 +51,11 @@ module _ (config : Config) (cset claim : ℕ) (top limit heap : ℕ → ℕ) (bl
   pub updating_passed : (to : Option Scan) → IsPassed config limit heap block (scanning seat) to → IsUpdating config cset claim top limit heap block (updated scanning seat to)
   updating_passed to passed = record {
     outside = is.outside;
-    renewed = λ a refs nums k name there below. ⊎_elim
-        (λ (current : IsCurrent block (heap (a + 3 + k))). inl current)
-        (λ (due : IsToUpdate config claim limit scanning a k). to_update_then config claim claim limit scanning seat to seated a k (IsCurrent block (heap (a + 3 + k)))
-        (λ old above. inl above) (λ old comes. passed a refs nums k name there below old comes) due)
-        (is.renewed a refs nums k name there below);
+    renewed = λ address refs nums k name there below. ⊎_elim
+        (λ (current : IsCurrent block (heap (address + 3 + k))). inl current)
+        (λ (due : IsToUpdate config claim limit scanning address k). to_update_then config claim claim limit scanning seat to seated address k (IsCurrent block (heap (address + 3 + k)))
+        (λ old above. inl above) (λ old comes. passed address refs nums k name there below old comes) due)
+        (is.renewed address refs nums k name there below);
     young = is.young;
     limits = is.limits;
   }

@@ -51,7 +51,7 @@ module _ (config : Config) (world : World) (shared : Shared config world) (on : 
   -- no piece of a unit below its limit is room
   no_room_below : (region address seat : ℕ) (piece : Block) → region_with config address ≡ region → address < base_of config region + world.memory (Limit region) → world.block address ≡ Some piece → room_of piece ≡ Some seat → ⊥
   no_room_below region address seat piece here below is room =
-      let young : base_of config region + world.memory (Limit region) ≤ address = subst (λ r. base_of config r + world.memory (Limit r) ≤ address) here ((shared.updated on).young address seat piece is room) in
+      let young : base_of config region + world.memory (Limit region) ≤ address = subst (λ region. base_of config region + world.memory (Limit region) ≤ address) here ((shared.updated on).young address seat piece is room) in
       omega (arith, below, young)
 
   -- it is an object, a promised one, or a dead one, or only fills
@@ -117,33 +117,33 @@ module _ (config : Config) (world : World) (shared : Shared config world) (on : 
   shape_refs address shape refs nums name is (inr fills) = (let both : Some (dead fills.0) ≡ Some (thing name refs nums) = sym fills.1 ∙ is in absurd (cc (both)))
 
   -- a word that stands for a reference, of an object of the graph, is current, or an old copy's address
-  reference_word : (at : Visit) (field : ℕ) (name : Name) (refs nums : ℕ) → world.block at.address ≡ Some (thing name refs nums) → (reference : Reference) → Points world.block (world.memory (Heap (at.address + 3 + field))) reference
-      → IsCurrent world.block (world.memory (Heap (at.address + 3 + field))) ⊎ ((to : ℕ) × HasFound world at field (world.memory (Heap (at.address + 3 + field))) to)
-  reference_word at field name refs nums there None points = inl (IsCurrent.null points)
-  reference_word at field name refs nums there (Some n) points =
-      let word : ℕ = world.memory (Heap (at.address + 3 + field)) in
-      let body = named_body (world.block word) n points in
+  reference_word : (visit : Visit) (field : ℕ) (name : Name) (refs nums : ℕ) → world.block visit.address ≡ Some (thing name refs nums) → (reference : Reference) → Points world.block (world.memory (Heap (visit.address + 3 + field))) reference
+      → IsCurrent world.block (world.memory (Heap (visit.address + 3 + field))) ⊎ ((to : ℕ) × HasFound world visit field (world.memory (Heap (visit.address + 3 + field))) to)
+  reference_word visit field name refs nums there None points = inl (IsCurrent.null points)
+  reference_word visit field name refs nums there (Some other_name) points =
+      let word : ℕ = world.memory (Heap (visit.address + 3 + field)) in
+      let body = named_body (world.block word) other_name points in
       ⊎_elim
-      (λ (now : world.block word ≡ Some (thing n body.0 body.1)). inl (IsCurrent.names body.0 body.1 n now))
-      (λ (was : (to : ℕ) × (world.block word ≡ Some (moved n body.0 body.1 to))).
-      inr (was.0, record { holder = (name, refs, nums, there); refs = body.0; nums = body.1; name = n; old = was.1; still = inl refl }))
-      (copy_cases (world.block word) (body_of n body.0 body.1) body.2)
+      (λ (now : world.block word ≡ Some (thing other_name body.0 body.1)). inl (IsCurrent.names body.0 body.1 other_name now))
+      (λ (was : (to : ℕ) × (world.block word ≡ Some (moved other_name body.0 body.1 to))).
+      inr (was.0, record { holder = (name, refs, nums, there); refs = body.0; nums = body.1; name = other_name; old = was.1; still = inl refl }))
+      (copy_cases (world.block word) (body_of other_name body.0 body.1) body.2)
 
   -- so is each reference to which a walk comes
-  pub field_word : (at : Visit) (field : ℕ) → HasField config world at field
-      → IsCurrent world.block (world.memory (Heap (at.address + 3 + field))) ⊎ ((to : ℕ) × HasFound world at field (world.memory (Heap (at.address + 3 + field))) to)
-  field_word at field has = by_object has.alive
+  pub field_word : (visit : Visit) (field : ℕ) → HasField config world visit field
+      → IsCurrent world.block (world.memory (Heap (visit.address + 3 + field))) ⊎ ((to : ℕ) × HasFound world visit field (world.memory (Heap (visit.address + 3 + field))) to)
+  field_word visit field has = by_object has.alive
     where
-      by_object : IsMarkable world.block at.address → IsCurrent world.block (world.memory (Heap (at.address + 3 + field))) ⊎ ((to : ℕ) × HasFound world at field (world.memory (Heap (at.address + 3 + field))) to)
+      by_object : IsMarkable world.block visit.address → IsCurrent world.block (world.memory (Heap (visit.address + 3 + field))) ⊎ ((to : ℕ) × HasFound world visit field (world.memory (Heap (visit.address + 3 + field))) to)
       by_object (IsMarkable.object name refs nums is) =
-          let of_graph = shared.contents.objects.each at.address refs nums name is in
+          let of_graph = shared.contents.objects.each visit.address refs nums name is in
           let there = of_graph.2 in
-          let all : refs_in at.shape ≡ refs = shape_refs at.address at.shape refs nums name is (inl (has.alive, has.shape_is)) in
+          let all : refs_in visit.shape ≡ refs = shape_refs visit.address visit.shape refs nums name is (inl (has.alive, has.shape_is)) in
           let within : field < length of_graph.0.refs = (let many = there.refs_are in let below = has.below in omega (arith, below, all, many)) in
-          reference_word at field name refs nums is _ (there.references field _ (slice_get-get_or of_graph.0.refs field None within))
+          reference_word visit field name refs nums is _ (there.references field _ (slice_get-get_or of_graph.0.refs field None within))
       by_object (IsMarkable.to_come seat words is) =
-          let blank = shared.unwritten.blanks at.address seat words is in
-          let all : refs_in at.shape ≡ blank.refs = ap refs_in (has.shape_is ∙ blank.shape) ∙ refs_in-shape_word blank.refs blank.nums blank.few_refs blank.few_nums in
+          let blank = shared.unwritten.blanks visit.address seat words is in
+          let all : refs_in visit.shape ≡ blank.refs = ap refs_in (has.shape_is ∙ blank.shape) ∙ refs_in-shape_word blank.refs blank.nums blank.few_refs blank.few_nums in
           inl (IsCurrent.null (blank.nulls field (let below = has.below in omega (arith, below, all))))
 
   -- a word that is current does not name the set
@@ -159,5 +159,5 @@ module _ (config : Config) (world : World) (shared : Shared config world) (on : 
   -- and an address of an old copy does
   pub old_names_set : (address refs nums to : ℕ) (name : Name) → world.block address ≡ Some (moved name refs nums to) → names_set config (world.memory Cset) address ≡ true
   old_names_set address refs nums to name is = and_from (is_word config (Heap address)) (bit_at (world.memory Cset) (region_with config address) == 1)
-      (ap (λ a. is_word config (Heap a)) (omega arith) ∙ piece_word config (λ r. world.memory (Top r)) world.block shared.parsable.plotted address 0 (moved name refs nums to) is (omega arith))
+      (ap (λ address. is_word config (Heap address)) (omega arith) ∙ piece_word config (λ region. world.memory (Top region)) world.block shared.parsable.plotted address 0 (moved name refs nums to) is (omega arith))
       (eq-eqb _ _ (shared.evacuated.moved.moveds address refs nums to name is).inside)

@@ -13,7 +13,7 @@ use Rattle.shen_graph.proofs.PlainLemmas.{same_name-true}
 use Rattle.heap_world.specs.World.{World, thing, moved, name_at, Points, IsThing, TargetIn, IsCurrent, IsCovered, Shared}
 use Rattle.heap_world.specs.Rely.{Rely}
 use Rattle.heap_world.proofs.Pointing.{piece_inside}
-use Rattle.heap_world.proofs.Updates.{updated}
+use Rattle.heap_world.proofs.FunctionUpdates.{updated}
 use Rattle.heap_world.proofs.Objects.{stored, changed, field_stored, shared_stored, rely_stored}
 
 -- a list in which an element is set that was there is the same
@@ -23,11 +23,11 @@ set_same (y ∷ ys) zero x here = cc
 set_same (y ∷ ys) (suc index) x here = ap (λ zs. y ∷ zs) (set_same ys index x here)
 
 -- the graph is the same where an object is put that is there
-same_graph : (graph : Graph) (name : Name) (o : Object) → graph.object name ≡ Some o → changed graph name o graph.root ≡ graph
-same_graph graph name o is = ap (λ (object : Name → Option Object). record { object = object; root = graph.root; count = graph.count; pin = graph.pin }) (fun_ext (λ n. ⊎_elim
-    (λ (same : same_name n name ≡ true). cond-true (same_name n name) (Some o) (graph.object n) same ∙ sym is ∙ ap graph.object (sym (same_name-true n name same)))
-    (λ (other : same_name n name ≡ false). cond-false (same_name n name) (Some o) (graph.object n) other)
-    (cases_Bool (same_name n name))))
+same_graph : (graph : Graph) (name : Name) (object : Object) → graph.object name ≡ Some object → changed graph name object graph.root ≡ graph
+same_graph graph name o is = ap (λ (object : Name → Option Object). record { object = object; root = graph.root; count = graph.count; pin = graph.pin }) (fun_ext (λ other_name. ⊎_elim
+    (λ (same : same_name other_name name ≡ true). cond-true (same_name other_name name) (Some o) (graph.object other_name) same ∙ sym is ∙ ap graph.object (sym (same_name-true other_name name same)))
+    (λ (other : same_name other_name name ≡ false). cond-false (same_name other_name name) (Some o) (graph.object other_name) other)
+    (cases_Bool (same_name other_name name))))
 
 module _ (config : Config) (world : World) (shared : Shared config world) (on : world.memory Phase ≡ 3) where
   -- the current copy of an object stands for what an old copy stands for
@@ -49,17 +49,17 @@ module _ (config : Config) (world : World) (shared : Shared config world) (on : 
     target = record { piece = is; safe = λ inside. absurd ((shared.updated on).outside address refs nums name is inside) }
 
     -- the words are the same object then
-    same_thing : IsThing (updated (λ b. world.memory (Heap b)) (address + 3 + field) to) world.block address refs nums name (shared.contents.objects.each address refs nums name is).0
+    same_thing : IsThing (updated (λ address. world.memory (Heap address)) (address + 3 + field) to) world.block address refs nums name (shared.contents.objects.each address refs nums name is).0
     same_thing =
         let of_graph = shared.contents.objects.each address refs nums name is in
         let o = of_graph.0 in
         let there = of_graph.2 in
         let within : field < length o.refs = (let many = there.refs_are in omega (arith, below, many)) in
-        let r : Reference = get_or o.refs field None in
-        let here : slice_get o.refs field ≡ Some r = slice_get-get_or o.refs field None within in
-        let points : Points world.block found r = subst (λ v. Points world.block v r) was (there.references field r here) in
-        subst (λ refs_then. IsThing (updated (λ b. world.memory (Heap b)) (address + 3 + field) to) world.block address refs nums name (record { refs = refs_then; nums = o.nums })) (set_same o.refs field r here)
-        (field_stored (λ b. world.memory (Heap b)) world.block address refs nums name o there field to r below (points_copy found more_refs more_nums to other_name r old points))
+        let reference : Reference = get_or o.refs field None in
+        let here : slice_get o.refs field ≡ Some reference = slice_get-get_or o.refs field None within in
+        let points : Points world.block found reference = subst (λ v. Points world.block v reference) was (there.references field reference here) in
+        subst (λ refs_then. IsThing (updated (λ address. world.memory (Heap address)) (address + 3 + field) to) world.block address refs nums name (record { refs = refs_then; nums = o.nums })) (set_same o.refs field reference here)
+        (field_stored (λ address. world.memory (Heap address)) world.block address refs nums name o there field to reference below (points_copy found more_refs more_nums to other_name reference old points))
 
     -- nobody marks
     nothing_covered : (i : ℕ) → i < refs → address + 3 + field ≡ address + 3 + i → IsCovered config world address i

@@ -16,7 +16,7 @@ use Rattle.heap_world.specs.World.{World, Scan, Block, thing, filler, words_of, 
 use Rattle.heap_world.specs.Rely.{Rely}
 use Rattle.heap_world.specs.Part.{PartStep}
 use Rattle.heap_world.proofs.Keeping.{load_keeps, rely_same, keeps_of}
-use Rattle.heap_world.proofs.Updates.{updated, updated_there}
+use Rattle.heap_world.proofs.FunctionUpdates.{updated, updated_there}
 use Rattle.unit_part.specs.declared.update_spot.Walk.{Walk}
 use Rattle.unit_part.specs.declared.update_spot.Visit.{Visit}
 use Rattle.unit_part.specs.declared.update_spot.UpdateSpot.{UpdateSpot}
@@ -32,11 +32,11 @@ use Rattle.cycle_steps.proofs.Updating.Stored.{renewed_world, shared_renewed, re
 
 -- where a machine stands after a step
 abbrev pub spot_then : Config → World → ℕ → UpdateSpot → UpdateSpot
-spot_then config world cset at = next_at config cset at (world.memory (touch_at config at).word)
+spot_then config world cset spot = next_at config cset spot (world.memory (touch_at config spot).word)
 
 -- what a step of a machine that updates owes
 abbrev pub UpdateStep : Config → World → ℕ → ℕ → UpdateSpot → Type 0
-UpdateStep config world seat cset at = PartStep config world seat (touch_at config at) (λ w. CanUpdate config w seat cset (spot_then config world cset at))
+UpdateStep config world seat cset spot = PartStep config world seat (touch_at config spot) (λ other_world. CanUpdate config other_world seat cset (spot_then config world cset spot))
 
 -- a place of a unit
 abbrev stand : ℕ → ℕ → Scan
@@ -44,7 +44,7 @@ stand object field = record { object = object; field = field }
 
 -- each field to which a machine comes from where it stands it comes to from another stand, in a world, or the field is current
 abbrev IsPassedIn : Config → World → (from to : Option Scan) → Type 0
-IsPassedIn config world from to = IsPassed config (λ r. world.memory (Limit r)) (λ a. world.memory (Heap a)) world.block from to
+IsPassedIn config world from to = IsPassed config (λ region. world.memory (Limit region)) (λ address. world.memory (Heap address)) world.block from to
 
 -- the base of a region is of the region
 base_region : (config : Config) (region : ℕ) → region_with config (base_of config region) ≡ region
@@ -60,20 +60,20 @@ header_leads to = omega arith
 
 module _ (config : Config) (world : World) (seat cset : ℕ) where
   -- a world to which the step leads, but for where the machine stands
-  record IsBase (at : UpdateSpot) (w : World) : Type 0 where
-    memory : w.memory ≡ touched world.memory (touch_at config at)
-    graph : w.graph ≡ world.graph
-    shared : Shared config w
-    rely : (k : ℕ) → Rely config k world w
+  record IsBase (spot : UpdateSpot) (some_world : World) : Type 0 where
+    memory : some_world.memory ≡ touched world.memory (touch_at config spot)
+    graph : some_world.graph ≡ world.graph
+    shared : Shared config some_world
+    rely : (k : ℕ) → Rely config k world some_world
 
   -- a load leads to the same world
-  loads_at : (at : UpdateSpot) (word : Word) → touched world.memory (touch_at config at) ≡ write world.memory word (world.memory word) → Shared config world → IsBase at world
-  loads_at at word is shared = record { memory = load_keeps world.memory word ∙ sym is; graph = refl; shared = shared; rely = λ k. rely_same config k world }
+  loads_at : (spot : UpdateSpot) (word : Word) → touched world.memory (touch_at config spot) ≡ write world.memory word (world.memory word) → Shared config world → IsBase spot world
+  loads_at spot word is shared = record { memory = load_keeps world.memory word ∙ sym is; graph = refl; shared = shared; rely = λ seat. rely_same config seat world }
 
   -- what a machine counts on once it stands elsewhere
-  stands_then : (world : World) (claim : ℕ) (at next : UpdateSpot) → Shared config world → CanUpdate config world seat cset at → (config.regions ≤ world.memory Claim → config.regions ≤ claim) → UpdateFacts config world next
+  stands_then : (world : World) (claim : ℕ) (spot next : UpdateSpot) → Shared config world → CanUpdate config world seat cset spot → (config.regions ≤ world.memory Claim → config.regions ≤ claim) → UpdateFacts config world next
       → CanUpdate config (world_then world seat claim (pass_of config next)) seat cset next
-  stands_then world claim at next shared can claims facts = record {
+  stands_then world claim spot next shared can claims facts = record {
     seated = can.seated;
     phase = can.phase;
     set_is = can.set_is;
@@ -88,34 +88,34 @@ module _ (config : Config) (world : World) (seat cset : ℕ) where
   }
 
   -- the machine goes on
-  goes_on : (at next : UpdateSpot) (w : World) → IsBase at w → CanUpdate config w seat cset at → spot_then config world cset at ≡ next → IsPassedIn config w (pass_of config at) (pass_of config next) → UpdateFacts config w next
-      → UpdateStep config world seat cset at
-  goes_on at next w base can leads passed facts =
-      step_then config world w seat (w.memory Claim) (pass_of config next) (touch_at config at) (λ x. CanUpdate config x seat cset (spot_then config world cset at))
-      (sym (load_keeps w.memory Claim) ∙ base.memory) base.graph base.shared can.phase (base.rely seat).fields.claims
-      (keeps_of config seat world w (base.rely seat)) (λ k differs. base.rely k)
-      (updating_passed config (w.memory Cset) (w.memory Claim) (λ r. w.memory (Top r)) (λ r. w.memory (Limit r)) (λ a. w.memory (Heap a)) w.block w.ghost.scanning seat can.seated
-      (base.shared.updated can.phase) (pass_of config next) (subst (λ from. IsPassedIn config w from (pass_of config next)) (sym can.scanning) passed))
-      (subst (λ spot. CanUpdate config (world_then w seat (w.memory Claim) (pass_of config next)) seat cset spot) (sym leads)
-      (stands_then w (w.memory Claim) at next base.shared can (λ all. all) facts))
+  goes_on : (spot next : UpdateSpot) (some_world : World) → IsBase spot some_world → CanUpdate config some_world seat cset spot → spot_then config world cset spot ≡ next → IsPassedIn config some_world (pass_of config spot) (pass_of config next) → UpdateFacts config some_world next
+      → UpdateStep config world seat cset spot
+  goes_on at next some_world base can leads passed facts =
+      step_then config world some_world seat (some_world.memory Claim) (pass_of config next) (touch_at config at) (λ other_world. CanUpdate config other_world seat cset (spot_then config world cset at))
+      (sym (load_keeps some_world.memory Claim) ∙ base.memory) base.graph base.shared can.phase (base.rely seat).fields.claims
+      (keeps_of config seat world some_world (base.rely seat)) (λ k differs. base.rely k)
+      (updating_passed config (some_world.memory Cset) (some_world.memory Claim) (λ region. some_world.memory (Top region)) (λ region. some_world.memory (Limit region)) (λ address. some_world.memory (Heap address)) some_world.block some_world.ghost.scanning seat can.seated
+      (base.shared.updated can.phase) (pass_of config next) (subst (λ from. IsPassedIn config some_world from (pass_of config next)) (sym can.scanning) passed))
+      (subst (λ spot. CanUpdate config (world_then some_world seat (some_world.memory Claim) (pass_of config next)) seat cset spot) (sym leads)
+      (stands_then some_world (some_world.memory Claim) at next base.shared can (λ all. all) facts))
 
   -- it stays where it stands
-  stays_there : (at next : UpdateSpot) (w : World) → IsBase at w → CanUpdate config w seat cset at → spot_then config world cset at ≡ next → pass_of config at ≡ pass_of config next → UpdateFacts config w next → UpdateStep config world seat cset at
-  stays_there at next w base can leads same facts =
-      goes_on at next w base can leads (subst (λ to. IsPassedIn config w (pass_of config at) to) same (passed_same config (λ r. w.memory (Limit r)) (λ a. w.memory (Heap a)) w.block (pass_of config at))) facts
+  stays_there : (spot next : UpdateSpot) (some_world : World) → IsBase spot some_world → CanUpdate config some_world seat cset spot → spot_then config world cset spot ≡ next → pass_of config spot ≡ pass_of config next → UpdateFacts config some_world next → UpdateStep config world seat cset spot
+  stays_there spot next some_world base can leads same facts =
+      goes_on spot next some_world base can leads (subst (λ to. IsPassedIn config some_world (pass_of config spot) to) same (passed_same config (λ region. some_world.memory (Limit region)) (λ address. some_world.memory (Heap address)) some_world.block (pass_of config spot))) facts
 
   -- It goes behind a piece whose references are current from where it stands on.
-  goes_behind : (at : UpdateSpot) (w : World) (walk : Walk) (address field : ℕ) (piece : Block) → IsBase at w → CanUpdate config w seat cset at → HasComeTo config w walk address → w.block address ≡ Some piece
-      → pass_of config at ≡ Some (stand address field)
-      → ((refs nums k : ℕ) (name : Name) → w.block address ≡ Some (thing name refs nums) → k < refs → field ≤ k → IsCurrent w.block (w.memory (Heap (address + 3 + k))))
-      → spot_then config world cset at ≡ next_object config walk (address + words_of piece) → UpdateStep config world seat cset at
-  goes_behind at w walk address field piece base can walked there stands current leads = ⊎_elim
+  goes_behind : (spot : UpdateSpot) (some_world : World) (walk : Walk) (address field : ℕ) (piece : Block) → IsBase spot some_world → CanUpdate config some_world seat cset spot → HasComeTo config some_world walk address → some_world.block address ≡ Some piece
+      → pass_of config spot ≡ Some (stand address field)
+      → ((refs nums k : ℕ) (name : Name) → some_world.block address ≡ Some (thing name refs nums) → k < refs → field ≤ k → IsCurrent some_world.block (some_world.memory (Heap (address + 3 + k))))
+      → spot_then config world cset spot ≡ next_object config walk (address + words_of piece) → UpdateStep config world seat cset spot
+  goes_behind spot some_world walk address field piece base can walked there stands current leads = ⊎_elim
       (λ (more : nat_lt (address + words_of piece) (limit_of config walk) ≡ true).
-      let next = walks_on config w base.shared can.phase walk address piece walked there (ltb-true _ _ more) in
-      let next_region = walked_region config w base.shared can.phase walk (address + words_of piece) next.0 in
-      goes_on at (LoadFirst walk (address + words_of piece)) w base can (leads ∙ cond-true (nat_lt (address + words_of piece) (limit_of config walk)) _ _ more)
+      let next = walks_on config some_world base.shared can.phase walk address piece walked there (ltb-true _ _ more) in
+      let next_region = walked_region config some_world base.shared can.phase walk (address + words_of piece) next.0 in
+      goes_on spot (LoadFirst walk (address + words_of piece)) some_world base can (leads ∙ cond-true (nat_lt (address + words_of piece) (limit_of config walk)) _ _ more)
       (λ a refs nums k name is below old comes.
-      let from = comes_at config (pass_of config at) (stand address field) a k stands comes in
+      let from = comes_at config (pass_of config spot) (stand address field) a k stands comes in
       ⊎_elim
       (λ (less : address < a).
       let apart = base.shared.parsable.plotted.apart address a piece (thing name refs nums) there is less in
@@ -128,56 +128,56 @@ module _ (config : Config) (world : World) (seat cset : ℕ) where
             (λ (differs : address + words_of piece ≢ a). inl (omega (arith, apart, differs)))
             (cases_eq (address + words_of piece) a),
       ))
-      (λ (same : (address ≡ a) × (field ≤ k)). inl (subst (λ b. IsCurrent w.block (w.memory (Heap (b + 3 + k)))) same.0 (current refs nums k name (ap w.block same.0 ∙ is) below same.1)))
+      (λ (same : (address ≡ a) × (field ≤ k)). inl (subst (λ b. IsCurrent some_world.block (some_world.memory (Heap (b + 3 + k)))) same.0 (current refs nums k name (ap some_world.block same.0 ∙ is) below same.1)))
       from.1)
       next)
       (λ (none : nat_lt (address + words_of piece) (limit_of config walk) ≡ false).
       let past : limit_of config walk ≤ address + words_of piece = ltb-false _ _ none in
       let limit_is = walked.limit_is in
-      goes_on at (Ended Worked) w base can (leads ∙ cond-false (nat_lt (address + words_of piece) (limit_of config walk)) _ _ none)
+      goes_on spot (Ended Worked) some_world base can (leads ∙ cond-false (nat_lt (address + words_of piece) (limit_of config walk)) _ _ none)
       (λ a refs nums k name is below old comes.
-      let from = comes_at config (pass_of config at) (stand address field) a k stands comes in
+      let from = comes_at config (pass_of config spot) (stand address field) a k stands comes in
       ⊎_elim
       (λ (less : address < a).
       let apart = base.shared.parsable.plotted.apart address a piece (thing name refs nums) there is less in
-      absurd (old (subst (λ r. base_of config r + w.memory (Limit r) ≤ a) (sym here ∙ from.0) (omega (arith, apart, past, limit_is)))))
-      (λ (same : (address ≡ a) × (field ≤ k)). inl (subst (λ b. IsCurrent w.block (w.memory (Heap (b + 3 + k)))) same.0 (current refs nums k name (ap w.block same.0 ∙ is) below same.1)))
+      absurd (old (subst (λ region. base_of config region + some_world.memory (Limit region) ≤ a) (sym here ∙ from.0) (omega (arith, apart, past, limit_is)))))
+      (λ (same : (address ≡ a) × (field ≤ k)). inl (subst (λ b. IsCurrent some_world.block (some_world.memory (Heap (b + 3 + k)))) same.0 (current refs nums k name (ap some_world.block same.0 ∙ is) below same.1)))
       from.1)
       tt)
       (cases_Bool (nat_lt (address + words_of piece) (limit_of config walk)))
     where
       here : region_with config address ≡ walk.region
-      here = walked_region config w base.shared can.phase walk address walked
+      here = walked_region config some_world base.shared can.phase walk address walked
 
   -- It goes past a reference that is current.
-  goes_past : (at : UpdateSpot) (w : World) (visit : Visit) (field : ℕ) → IsBase at w → CanUpdate config w seat cset at → HasField config w visit field → pass_of config at ≡ Some (stand visit.address field)
-      → IsCurrent w.block (w.memory (Heap (visit.address + 3 + field))) → spot_then config world cset at ≡ next_field config visit (field + 1) → UpdateStep config world seat cset at
-  goes_past at w visit field base can has stands current leads = ⊎_elim
+  goes_past : (spot : UpdateSpot) (some_world : World) (visit : Visit) (field : ℕ) → IsBase spot some_world → CanUpdate config some_world seat cset spot → HasField config some_world visit field → pass_of config spot ≡ Some (stand visit.address field)
+      → IsCurrent some_world.block (some_world.memory (Heap (visit.address + 3 + field))) → spot_then config world cset spot ≡ next_field config visit (field + 1) → UpdateStep config world seat cset spot
+  goes_past spot some_world visit field base can has stands current leads = ⊎_elim
       (λ (more : nat_lt (field + 1) (refs_in visit.shape) ≡ true).
-      goes_on at (LoadField visit (field + 1)) w base can (leads ∙ cond-true (nat_lt (field + 1) (refs_in visit.shape)) _ _ more)
+      goes_on spot (LoadField visit (field + 1)) some_world base can (leads ∙ cond-true (nat_lt (field + 1) (refs_in visit.shape)) _ _ more)
       (λ a refs nums k name is below old comes.
-      let from = comes_at config (pass_of config at) (stand visit.address field) a k stands comes in
+      let from = comes_at config (pass_of config spot) (stand visit.address field) a k stands comes in
       ⊎_elim
       (λ (less : visit.address < a). inr (stand visit.address (field + 1), refl, from.0, inl less))
       (λ (same : (visit.address ≡ a) × (field ≤ k)). ⊎_elim
-      (λ (here : field ≡ k). inl (subst (λ b. IsCurrent w.block (w.memory (Heap (b + 3 + k)))) same.0 (at_field k here)))
+      (λ (here : field ≡ k). inl (subst (λ b. IsCurrent some_world.block (some_world.memory (Heap (b + 3 + k)))) same.0 (at_field k here)))
       (λ (differs : field ≢ k). let least = same.1 in inr (stand visit.address (field + 1), refl, from.0, inr (same.0, omega (arith, least, differs))))
       (cases_eq field k))
       from.1)
       (record { walked = has.walked; alive = has.alive; shape_is = has.shape_is; below = ltb-true _ _ more }))
       (λ (none : nat_lt (field + 1) (refs_in visit.shape) ≡ false).
-      let shape : HasShape w visit.address visit.shape = inl (has.alive, has.shape_is) in
-      let piece = shape_words config w base.shared can.phase visit.address visit.shape shape in
-      goes_behind at w visit.walk visit.address field piece.0 base can has.walked piece.1 stands
+      let shape : HasShape some_world visit.address visit.shape = inl (has.alive, has.shape_is) in
+      let piece = shape_words config some_world base.shared can.phase visit.address visit.shape shape in
+      goes_behind spot some_world visit.walk visit.address field piece.0 base can has.walked piece.1 stands
       (λ refs nums k name is below from.
-      let all = shape_refs config w base.shared can.phase visit.address visit.shape refs nums name is shape in
+      let all = shape_refs config some_world base.shared can.phase visit.address visit.shape refs nums name is shape in
       let past : refs_in visit.shape ≤ field + 1 = ltb-false _ _ none in
       at_field k (omega (arith, all, past, below, from)))
       (leads ∙ cond-false (nat_lt (field + 1) (refs_in visit.shape)) _ _ none ∙ ap (λ n. next_object config visit.walk (visit.address + n)) piece.2))
       (cases_Bool (nat_lt (field + 1) (refs_in visit.shape)))
     where
-      at_field : (k : ℕ) → field ≡ k → IsCurrent w.block (w.memory (Heap (visit.address + 3 + k)))
-      at_field k same = subst (λ i. IsCurrent w.block (w.memory (Heap (visit.address + 3 + i)))) same current
+      at_field : (k : ℕ) → field ≡ k → IsCurrent some_world.block (some_world.memory (Heap (visit.address + 3 + k)))
+      at_field k same = subst (λ i. IsCurrent some_world.block (some_world.memory (Heap (visit.address + 3 + i)))) same current
 
   -- the load of what is claimed
   at_load_claim : Shared config world → CanUpdate config world seat cset LoadClaim → UpdateStep config world seat cset LoadClaim
@@ -194,11 +194,11 @@ module _ (config : Config) (world : World) (seat cset : ℕ) where
       → UpdateFacts config world next → UpdateStep config world seat cset (ClaimUnit unit)
   claims unit next won shared can leads first facts =
       let more : config.regions ≤ world.memory Claim → config.regions ≤ unit + 1 = λ all. omega (arith, all, won) in
-      step_then config world world seat (unit + 1) (pass_of config next) (touch_at config (ClaimUnit unit)) (λ x. CanUpdate config x seat cset (spot_then config world cset (ClaimUnit unit)))
+      step_then config world world seat (unit + 1) (pass_of config next) (touch_at config (ClaimUnit unit)) (λ other_world. CanUpdate config other_world seat cset (spot_then config world cset (ClaimUnit unit)))
       (ap (λ n. write world.memory Claim n) (sym (cond-true (world.memory Claim == unit) (unit + 1) (world.memory Claim) (eq-eqb _ _ won)))) refl shared can.phase more
-      (keeps_of config seat world world (rely_same config seat world)) (λ k differs. rely_same config k world)
-      (subst (λ n. IsUpdating config (world.memory Cset) (n + 1) (λ r. world.memory (Top r)) (λ r. world.memory (Limit r)) (λ address. world.memory (Heap address)) world.block (updated world.ghost.scanning seat (pass_of config next))) won
-      (updating_claimed config (world.memory Cset) (world.memory Claim) (λ r. world.memory (Top r)) (λ r. world.memory (Limit r)) (λ address. world.memory (Heap address)) world.block world.ghost.scanning seat can.seated
+      (keeps_of config seat world world (rely_same config seat world)) (λ seat differs. rely_same config seat world)
+      (subst (λ n. IsUpdating config (world.memory Cset) (n + 1) (λ region. world.memory (Top region)) (λ region. world.memory (Limit region)) (λ address. world.memory (Heap address)) world.block (updated world.ghost.scanning seat (pass_of config next))) won
+      (updating_claimed config (world.memory Cset) (world.memory Claim) (λ region. world.memory (Top region)) (λ region. world.memory (Limit region)) (λ address. world.memory (Heap address)) world.block world.ghost.scanning seat can.seated
       (shared.updated can.phase) (pass_of config next) can.scanning (λ address refs nums k name is there. first address refs nums k name is (there ∙ won))))
       (subst (λ spot. CanUpdate config (world_then world seat (unit + 1) (pass_of config next)) seat cset spot) (sym leads) (stands_then world (unit + 1) (ClaimUnit unit) next shared can more facts))
 
@@ -241,7 +241,7 @@ module _ (config : Config) (world : World) (seat cset : ℕ) where
       let from = comes_at config (pass_of config (LoadLimit region)) (stand (base_of config region) 0) a k refl comes in
       let here : region ≡ region_with config a = sym (base_region config region) ∙ from.0 in
       let low : base_of config region ≤ a = subst (λ r. base_of config r ≤ a) (sym here) (placed config world shared a (thing name refs nums) is).from_base in
-      absurd (old (subst (λ r. base_of config r + world.memory (Limit r) ≤ a) here (omega (arith, low, zero)))))
+      absurd (old (subst (λ region. base_of config region + world.memory (Limit region) ≤ a) here (omega (arith, low, zero)))))
       tt)
       (λ (some : (world.memory (Limit region) == 0) ≡ false).
       stays_there (LoadLimit region) (LoadTams region (world.memory (Limit region))) world (loads_at (LoadLimit region) (Limit region) refl shared) can (cond-false (world.memory (Limit region) == 0) _ _ some) refl
@@ -280,7 +280,7 @@ module _ (config : Config) (world : World) (seat cset : ℕ) where
   alive_above walk address shared on walked (inr fills) above =
       let tams_is = walked.tams_is in
       absurd ((shared.evacuated.kept (omega (arith, on))).deads address fills.0 fills.1
-      (subst (λ r. base_of config r + world.memory (Tams r) ≤ address) (sym (walked_region config world shared on walk address walked)) (omega (arith, above, tams_is))))
+      (subst (λ region. base_of config region + world.memory (Tams region) ≤ address) (sym (walked_region config world shared on walk address walked)) (omega (arith, above, tams_is))))
 
   -- the load of a shape
   at_load_shape : (walk : Walk) (address : ℕ) → Shared config world → CanUpdate config world seat cset (LoadShape walk address) → UpdateStep config world seat cset (LoadShape walk address)
@@ -311,90 +311,90 @@ module _ (config : Config) (world : World) (seat cset : ℕ) where
       (cases_Bool (refs_in got == 0))
 
   -- a marked object is not dead
-  alive_marked : (at : Visit) → Shared config world → world.memory Phase ≡ 3 → HasComeTo config world at.walk at.address → HasShape world at.address at.shape → refs_in at.shape ≢ 0 → HasMark config (λ n. world.memory (Black n)) at.address
-      → HasField config world at 0
-  alive_marked at shared on walked (inl object) some mark = record { walked = walked; alive = object.0; shape_is = object.1; below = omega (arith, some) }
-  alive_marked at shared on walked (inr fills) some mark = absurd ((shared.evacuated.kept (omega (arith, on))).unmarked at.address fills.0 fills.1 mark)
+  alive_marked : (visit : Visit) → Shared config world → world.memory Phase ≡ 3 → HasComeTo config world visit.walk visit.address → HasShape world visit.address visit.shape → refs_in visit.shape ≢ 0 → HasMark config (λ number. world.memory (Black number)) visit.address
+      → HasField config world visit 0
+  alive_marked visit shared on walked (inl object) positive mark = record { walked = walked; alive = object.0; shape_is = object.1; below = omega (arith, positive) }
+  alive_marked visit shared on walked (inr fills) positive mark = absurd ((shared.evacuated.kept (omega (arith, on))).unmarked visit.address fills.0 fills.1 mark)
 
   -- the load of a mark
-  at_load_black : (at : Visit) → Shared config world → CanUpdate config world seat cset (LoadBlack at) → UpdateStep config world seat cset (LoadBlack at)
-  at_load_black at shared can =
-      let got : ℕ = world.memory (Black (mark_word config at.address)) in
-      let base = loads_at (LoadBlack at) (Black (mark_word config at.address)) refl shared in
+  at_load_black : (visit : Visit) → Shared config world → CanUpdate config world seat cset (LoadBlack visit) → UpdateStep config world seat cset (LoadBlack visit)
+  at_load_black visit shared can =
+      let got : ℕ = world.memory (Black (mark_word config visit.address)) in
+      let base = loads_at (LoadBlack visit) (Black (mark_word config visit.address)) refl shared in
       let walked = can.facts.0 in
       let shape = can.facts.1 in
       let old = can.facts.3 in
-      let piece = shape_words config world shared can.phase at.address at.shape shape in
+      let piece = shape_words config world shared can.phase visit.address visit.shape shape in
       ⊎_elim
-      (λ (black : (bit_at got (mark_bit config at.address) == 1) ≡ true).
-      stays_there (LoadBlack at) (LoadField at 0) world base can (cond-true (bit_at got (mark_bit config at.address) == 1) _ _ black) refl
-      (alive_marked at shared can.phase walked shape can.facts.2 (eqb-true _ _ black)))
-      (λ (white : (bit_at got (mark_bit config at.address) == 1) ≡ false).
-      goes_behind (LoadBlack at) world at.walk at.address 0 piece.0 base can walked piece.1 refl
+      (λ (black : (bit_at got (mark_bit config visit.address) == 1) ≡ true).
+      stays_there (LoadBlack visit) (LoadField visit 0) world base can (cond-true (bit_at got (mark_bit config visit.address) == 1) _ _ black) refl
+      (alive_marked visit shared can.phase walked shape can.facts.2 (eqb-true _ _ black)))
+      (λ (white : (bit_at got (mark_bit config visit.address) == 1) ≡ false).
+      goes_behind (LoadBlack visit) world visit.walk visit.address 0 piece.0 base can walked piece.1 refl
       (λ refs nums k name is below from. ⊎_elim
-      (λ (mark : HasMark config (λ n. world.memory (Black n)) at.address). absurd (false≢true (sym white ∙ eq-eqb _ _ mark)))
-      (λ (young : IsYoung config (λ r. world.memory (Tams r)) at.address).
+      (λ (mark : HasMark config (λ number. world.memory (Black number)) visit.address). absurd (false≢true (sym white ∙ eq-eqb _ _ mark)))
+      (λ (young : IsYoung config (λ region. world.memory (Tams region)) visit.address).
       let tams_is = walked.tams_is in
-      let above : base_of config at.walk.region + world.memory (Tams at.walk.region) ≤ at.address =
-      subst (λ r. base_of config r + world.memory (Tams r) ≤ at.address) (walked_region config world shared can.phase at.walk at.address walked) young in
+      let above : base_of config visit.walk.region + world.memory (Tams visit.walk.region) ≤ visit.address =
+      subst (λ region. base_of config region + world.memory (Tams region) ≤ visit.address) (walked_region config world shared can.phase visit.walk visit.address walked) young in
       absurd (omega (arith, old, tams_is, above)))
-      ((shared.evacuated.kept (let on = can.phase in omega (arith, on))).objects at.address (IsMarkable.object name refs nums is)))
-      (cond-false (bit_at got (mark_bit config at.address) == 1) _ _ white ∙ ap (λ n. next_object config at.walk (at.address + n)) piece.2))
-      (cases_Bool (bit_at got (mark_bit config at.address) == 1))
+      ((shared.evacuated.kept (let on = can.phase in omega (arith, on))).objects visit.address (IsMarkable.object name refs nums is)))
+      (cond-false (bit_at got (mark_bit config visit.address) == 1) _ _ white ∙ ap (λ n. next_object config visit.walk (visit.address + n)) piece.2))
+      (cases_Bool (bit_at got (mark_bit config visit.address) == 1))
 
   -- the load of a reference
-  at_load_field : (at : Visit) (field : ℕ) → Shared config world → CanUpdate config world seat cset (LoadField at field) → UpdateStep config world seat cset (LoadField at field)
-  at_load_field at field shared can =
-      let got : ℕ = world.memory (Heap (at.address + 3 + field)) in
-      let base = loads_at (LoadField at field) (Heap (at.address + 3 + field)) refl shared in
+  at_load_field : (visit : Visit) (field : ℕ) → Shared config world → CanUpdate config world seat cset (LoadField visit field) → UpdateStep config world seat cset (LoadField visit field)
+  at_load_field visit field shared can =
+      let got : ℕ = world.memory (Heap (visit.address + 3 + field)) in
+      let base = loads_at (LoadField visit field) (Heap (visit.address + 3 + field)) refl shared in
       ⊎_elim
       (λ (current : IsCurrent world.block got).
-      goes_past (LoadField at field) world at field base can can.facts refl current
+      goes_past (LoadField visit field) world visit field base can can.facts refl current
       (cond-false (names_set config cset got) _ _ (subst (λ set. names_set config set got ≡ false) (sym can.set_is) (current_names_none config world shared can.phase got current))))
-      (λ (finds : (to : ℕ) × HasFound world at field got to).
+      (λ (finds : (to : ℕ) × HasFound world visit field got to).
       let old = old_names_set config world shared can.phase got finds.1.refs finds.1.nums finds.0 finds.1.name finds.1.old in
-      stays_there (LoadField at field) (LoadHeader at field got) world base can (cond-true (names_set config cset got) _ _ (subst (λ set. names_set config set got ≡ true) (sym can.set_is) old)) refl
+      stays_there (LoadField visit field) (LoadHeader visit field got) world base can (cond-true (names_set config cset got) _ _ (subst (λ set. names_set config set got ≡ true) (sym can.set_is) old)) refl
       (can.facts, finds))
-      (field_word config world shared can.phase at field can.facts)
+      (field_word config world shared can.phase visit field can.facts)
 
   -- the load of the header of an old copy, which leads to the current one
-  at_load_header : (at : Visit) (field found : ℕ) → Shared config world → CanUpdate config world seat cset (LoadHeader at field found) → UpdateStep config world seat cset (LoadHeader at field found)
-  at_load_header at field found shared can =
+  at_load_header : (visit : Visit) (field found : ℕ) → Shared config world → CanUpdate config world seat cset (LoadHeader visit field found) → UpdateStep config world seat cset (LoadHeader visit field found)
+  at_load_header visit field found shared can =
       let got : ℕ = world.memory (Heap found) in
       let to = can.facts.1.0 in
       let finds = can.facts.1.1 in
       let header : got ≡ header_word to = (shared.evacuated.moved.moveds found finds.refs finds.nums to finds.name finds.old).header in
-      stays_there (LoadHeader at field found) (ExchangeField at field found (forwardee_in got)) world (loads_at (LoadHeader at field found) (Heap found) refl shared) can
+      stays_there (LoadHeader visit field found) (ExchangeField visit field found (forwardee_in got)) world (loads_at (LoadHeader visit field found) (Heap found) refl shared) can
       (cond-true (is_forwarded got) _ _ (leads_is_forwarded got to header)) refl
-      (can.facts.0, subst (HasFound world at field found) (sym (ap forwardee_in header ∙ header_leads to)) finds)
+      (can.facts.0, subst (HasFound world visit field found) (sym (ap forwardee_in header ∙ header_leads to)) finds)
 
   -- the reference is exchanged for one to the current copy, if it is still the one that was found; else it is current
-  at_exchange_field : (at : Visit) (field found copy : ℕ) → Shared config world → CanUpdate config world seat cset (ExchangeField at field found copy) → UpdateStep config world seat cset (ExchangeField at field found copy)
-  at_exchange_field at field found copy shared can =
-      let got : ℕ = world.memory (Heap (at.address + 3 + field)) in
-      let spot : UpdateSpot = ExchangeField at field found copy in
+  at_exchange_field : (visit : Visit) (field found copy : ℕ) → Shared config world → CanUpdate config world seat cset (ExchangeField visit field found copy) → UpdateStep config world seat cset (ExchangeField visit field found copy)
+  at_exchange_field visit field found copy shared can =
+      let got : ℕ = world.memory (Heap (visit.address + 3 + field)) in
+      let spot : UpdateSpot = ExchangeField visit field found copy in
       let has = can.facts.0 in
       let finds = can.facts.1 in
       let holder = finds.holder in
       ⊎_elim
       (λ (won : (got == found) ≡ true).
-      let all = shape_refs config world shared can.phase at.address at.shape holder.1 holder.2 holder.0 holder.3 (inl (has.alive, has.shape_is)) in
+      let all = shape_refs config world shared can.phase visit.address visit.shape holder.1 holder.2 holder.0 holder.3 (inl (has.alive, has.shape_is)) in
       let below : field < holder.1 = (let less = has.below in omega (arith, all, less)) in
-      let w : World = renewed_world config world shared can.phase at.address holder.1 holder.2 field found finds.refs finds.nums copy holder.0 finds.name holder.3 below (eqb-true _ _ won) finds.old in
-      let rely : (k : ℕ) → Rely config k world w = rely_renewed config world shared can.phase at.address holder.1 holder.2 field found finds.refs finds.nums copy holder.0 finds.name holder.3 below (eqb-true _ _ won) finds.old in
-      let keeps = keeps_of config seat world w (rely seat) in
-      goes_past spot w at field (record {
-        memory = ap (λ v. write world.memory (Heap (at.address + 3 + field)) v) (sym (cond-true (got == found) copy got won));
+      let next_world : World = renewed_world config world shared can.phase visit.address holder.1 holder.2 field found finds.refs finds.nums copy holder.0 finds.name holder.3 below (eqb-true _ _ won) finds.old in
+      let rely : (k : ℕ) → Rely config k world next_world = rely_renewed config world shared can.phase visit.address holder.1 holder.2 field found finds.refs finds.nums copy holder.0 finds.name holder.3 below (eqb-true _ _ won) finds.old in
+      let keeps = keeps_of config seat world next_world (rely seat) in
+      goes_past spot next_world visit field (record {
+        memory = ap (λ v. write world.memory (Heap (visit.address + 3 + field)) v) (sym (cond-true (got == found) copy got won));
         graph = refl;
-        shared = shared_renewed config world shared can.phase at.address holder.1 holder.2 field found finds.refs finds.nums copy holder.0 finds.name holder.3 below (eqb-true _ _ won) finds.old;
+        shared = shared_renewed config world shared can.phase visit.address holder.1 holder.2 field found finds.refs finds.nums copy holder.0 finds.name holder.3 below (eqb-true _ _ won) finds.old;
         rely = rely;
-      }) (can_update_stays config world w seat cset spot shared keeps (rely seat) can) (field_stays config world w seat shared can.phase keeps (rely seat).fields at field has) refl
-      (subst (IsCurrent world.block) (sym (updated_there (λ b. world.memory (Heap b)) (at.address + 3 + field) copy))
+      }) (can_update_stays config world next_world seat cset spot shared keeps (rely seat) can) (field_stays config world next_world seat shared can.phase keeps (rely seat).fields visit field has) refl
+      (subst (IsCurrent world.block) (sym (updated_there (λ address. world.memory (Heap address)) (visit.address + 3 + field) copy))
       (IsCurrent.names finds.refs finds.nums finds.name (shared.evacuated.moved.moveds found finds.refs finds.nums copy finds.name finds.old).copy))
       refl)
       (λ (lost : (got == found) ≡ false).
-      goes_past spot world at field
-      (loads_at spot (Heap (at.address + 3 + field)) (ap (λ v. write world.memory (Heap (at.address + 3 + field)) v) (cond-false (got == found) copy got lost)) shared) can has refl
+      goes_past spot world visit field
+      (loads_at spot (Heap (visit.address + 3 + field)) (ap (λ v. write world.memory (Heap (visit.address + 3 + field)) v) (cond-false (got == found) copy got lost)) shared) can has refl
       (⊎_elim
       (λ (same : got ≡ found). absurd (eqb-false _ _ lost same))
       (λ (current : IsCurrent world.block got). current)
@@ -403,7 +403,7 @@ module _ (config : Config) (world : World) (seat cset : ℕ) where
       (cases_Bool (got == found))
 
   -- each step
-  pub each_updates : (at : UpdateSpot) → is_ended at ≡ false → Shared config world → CanUpdate config world seat cset at → UpdateStep config world seat cset at
+  pub each_updates : (spot : UpdateSpot) → is_ended spot ≡ false → Shared config world → CanUpdate config world seat cset spot → UpdateStep config world seat cset spot
   each_updates LoadClaim going shared can = at_load_claim shared can
   each_updates (ClaimUnit unit) going shared can = at_claim_unit unit shared can
   each_updates (LoadLimit region) going shared can = at_load_limit region shared can

@@ -19,7 +19,7 @@ working_of config (LoadTop region) = Some region
 working_of config (LoadFirst address end) = Some (region_with config address)
 working_of config (LoadShape address end) = Some (region_with config address)
 working_of config (LoadMark address end next) = Some (region_with config address)
-working_of config (Resolving address end next at) = Some (region_with config address)
+working_of config (Resolving address end next spot) = Some (region_with config address)
 working_of config _ = None
 
 -- a region of the set is swept as a whole: no object has its current copy there; or there was no room
@@ -63,13 +63,13 @@ WorkFacts config world seat (LoadTop region) = HasNothing world seat × IsIn (wo
 WorkFacts config world seat (LoadFirst address end) = HasNothing world seat × IsWalkedTo config world address end
 WorkFacts config world seat (LoadShape address end) = HasNothing world seat × IsAtObject config world address end
 WorkFacts config world seat (LoadMark address end next) = HasNothing world seat × IsMeasured config world address end next
-WorkFacts config world seat (Resolving address end next at) = (is_ended at ≡ false) × CanResolve config world seat address at × IsMeasured config world address end next
+WorkFacts config world seat (Resolving address end next spot) = (is_ended spot ≡ false) × CanResolve config world seat address spot × IsMeasured config world address end next
 WorkFacts config world seat (Ended unit) = HasNothing world seat
 
 -- Objects are evacuated, the machine knows the collection set, and works on the region of which its spot tells.
-pub record CanEvacuate (config : Config) (world : World) (seat cset : ℕ) (at : EvacSpot) : Type 0 where
+pub record CanEvacuate (config : Config) (world : World) (seat cset : ℕ) (spot : EvacSpot) : Type 0 where
   pub seated : seat < seat_count config.mutators config.helpers
   pub phase : world.memory Phase ≡ evacuation_phase
   pub set_is : cset ≡ world.memory Cset
-  pub working : world.ghost.working seat ≡ working_of config at
-  pub facts : WorkFacts config world seat at
+  pub working : world.ghost.working seat ≡ working_of config spot
+  pub facts : WorkFacts config world seat spot

@@ -21,7 +21,7 @@ use Rattle.cycle_steps.specs.Evacuation.Facts.{working_of, IsSwept, HasNothing, 
 
 -- where a machine stands after a step
 abbrev pub spot_then : Config → World → ℕ → ℕ → EvacSpot → EvacSpot
-spot_then config world seat cset at = next_at config cset at (world.memory (touch_at config seat at).word)
+spot_then config world seat cset spot = next_at config cset spot (world.memory (touch_at config seat spot).word)
 
 -- a machine that evacuates
 abbrev pub evacuating_part : Config → (seat cset : ℕ) → Part
@@ -31,14 +31,14 @@ evacuating_part config seat cset = record {
   touch = touch_at config seat;
   next = next_at config cset;
   IsFit = IsFit config seat cset;
-  Can = λ w at. CanEvacuate config w seat cset at;
-  Then = λ u w at. CanEvacuate config w seat cset at;
+  Can = λ world at. CanEvacuate config world seat cset at;
+  Then = λ world next_world at. CanEvacuate config next_world seat cset at;
 }
 
 -- once it ends a unit, the region on which it worked is swept
 abbrev pub SweptStep : Config → World → ℕ → ℕ → EvacSpot → Type 0
-SweptStep config world seat cset at = PartStep config world seat (touch_at config seat at)
-    (λ w. (region : ℕ) → working_of config at ≡ Some region → is_ended (spot_then config world seat cset at) ≡ true → IsSwept config w region)
+SweptStep config world seat cset spot = PartStep config world seat (touch_at config seat spot)
+    (λ w. (region : ℕ) → working_of config spot ≡ Some region → is_ended (spot_then config world seat cset spot) ≡ true → IsSwept config w region)
 
 -- A machine that evacuates claims regions of the collection set, and sees to it that their objects are copied: a region on which it has
 -- worked is swept, and stays so. Of the words of copies only headers are accessed by more than loads.
@@ -46,18 +46,18 @@ pub record EvacuatingSteps : Type 0 where
   pub begins : (config : Config) (world : World) (seat : ℕ) → seat < seat_count config.mutators config.helpers → world.memory Phase ≡ evacuation_phase → world.ghost.working seat ≡ None → HasNothing world seat
       → CanEvacuate config world seat (world.memory Cset) LoadClaim
   pub steps : (config : Config) (seat cset : ℕ) → PartSteps config seat (evacuating_part config seat cset) (Shared config)
-  pub sweeps : (config : Config) (world : World) (seat cset : ℕ) (at : EvacSpot) → is_ended at ≡ false → Shared config world → CanEvacuate config world seat cset at → SweptStep config world seat cset at
+  pub sweeps : (config : Config) (world : World) (seat cset : ℕ) (spot : EvacSpot) → is_ended spot ≡ false → Shared config world → CanEvacuate config world seat cset spot → SweptStep config world seat cset spot
   pub stays_swept : (config : Config) (world after : World) (region : ℕ) → KeepsCopies config world after → IsIn (world.memory Cset) region → IsSwept config world region → IsSwept config after region
-  pub spares : (config : Config) (world : World) (seat cset : ℕ) (at : EvacSpot) (address k : ℕ) (body : Body) → Shared config world → CanEvacuate config world seat cset at → body_at (world.block address) ≡ Some body → k < body_words body
-      → (touch_at config seat at).word ≡ Heap (address + k) → ((touch_at config seat at).form ≡ loads) ⊎ (k ≡ 0)
+  pub spares : (config : Config) (world : World) (seat cset : ℕ) (spot : EvacSpot) (address k : ℕ) (body : Body) → Shared config world → CanEvacuate config world seat cset spot → body_at (world.block address) ≡ Some body → k < body_words body
+      → (touch_at config seat spot).word ≡ Heap (address + k) → ((touch_at config seat spot).form ≡ loads) ⊎ (k ≡ 0)
 
 -- In a region that is swept each marked object is forwarded, if there was always room.
 abbrev pub SweptIsForwarded : Type 0
 SweptIsForwarded = (config : Config) (world : World) (address : ℕ) → Shared config world → world.memory Phase ≡ evacuation_phase → IsSwept config world (region_with config address) → is_out_of_room (world.memory Evac) ≡ false
-    → config.region_words ≤ address → IsCollected config (world.memory Cset) address → HasMark config (λ n. world.memory (Black n)) address → is_forwarded (world.memory (Heap address)) ≡ true
+    → config.region_words ≤ address → IsCollected config (world.memory Cset) address → HasMark config (λ number. world.memory (Black number)) address → is_forwarded (world.memory (Heap address)) ≡ true
 
 -- Where all units are claimed, nobody works on one, and there was always room, each marked object of the collection set is forwarded.
 abbrev pub AllIsForwarded : Type 0
 AllIsForwarded = (config : Config) (world : World) → Shared config world → world.memory Phase ≡ evacuation_phase → ((seat : ℕ) → seat < seat_count config.mutators config.helpers → world.ghost.working seat ≡ None)
     → config.regions ≤ world.memory Claim → is_out_of_room (world.memory Evac) ≡ false
-    → (address : ℕ) → config.region_words ≤ address → IsCollected config (world.memory Cset) address → HasMark config (λ n. world.memory (Black n)) address → is_forwarded (world.memory (Heap address)) ≡ true
+    → (address : ℕ) → config.region_words ≤ address → IsCollected config (world.memory Cset) address → HasMark config (λ number. world.memory (Black number)) address → is_forwarded (world.memory (Heap address)) ≡ true

@@ -51,37 +51,37 @@ StopFacts word Wait = is_out_of_room word ≡ true
 StopFacts word _ = ⊤
 
 -- what holds of the object, current copy or old, by where the machine stands
-abbrev pub BodyFacts : Config → World → (seat a : ℕ) → Body → ResolveSpot → Type 0
-BodyFacts config world seat a body (Taking words at) = (words ≡ body_words body) × CanTake config world seat words at
-BodyFacts config world seat a body (Copying copy end at) = CopyFacts config world seat a copy end body at
-BodyFacts config world seat a body (Leaving answer) = HasMovedTo world a body answer
-BodyFacts config world seat a body (Stopping at) = StopFacts (world.memory Evac) at
-BodyFacts config world seat a body LoadAgain = IsQuiet (world.memory Evac)
-BodyFacts config world seat a body _ = ⊤
+abbrev pub BodyFacts : Config → World → (seat address : ℕ) → Body → ResolveSpot → Type 0
+BodyFacts config world seat address body (Taking words spot) = (words ≡ body_words body) × CanTake config world seat words spot
+BodyFacts config world seat address body (Copying copy end spot) = CopyFacts config world seat address copy end body spot
+BodyFacts config world seat address body (Leaving answer) = HasMovedTo world address body answer
+BodyFacts config world seat address body (Stopping spot) = StopFacts (world.memory Evac) spot
+BodyFacts config world seat address body LoadAgain = IsQuiet (world.memory Evac)
+BodyFacts config world seat address body _ = ⊤
 
 -- what holds by where it stands: beyond the first load of the header the address is a copy of an object of the graph, and in the end
 -- there is the answer
 abbrev pub ResolveFacts : Config → World → (seat address : ℕ) → ResolveSpot → Type 0
 ResolveFacts config world seat address LoadHeader = ⊤
 ResolveFacts config world seat address (Resolved answer) = IsAnswer config world address answer
-ResolveFacts config world seat address at = (body : Body) × (body_at (world.block address) ≡ Some body) × BodyFacts config world seat address body at
+ResolveFacts config world seat address spot = (body : Body) × (body_at (world.block address) ≡ Some body) × BodyFacts config world seat address body spot
 
 -- What room the machine has: free words of its buffer; besides, what a taking says, and the room for its copy.
 abbrev pub IsResolvingRoom : ℕ → ResolveSpot → ℕ → Block → Type 0
-IsResolvingRoom seat (Taking words at) a piece = takes.IsRoomAt seat words at a piece
-IsResolvingRoom seat (Copying copy end at) a piece = IsSpare seat piece ⊎ (a ≡ copy)
+IsResolvingRoom seat (Taking words spot) a piece = takes.IsRoomAt seat words spot a piece
+IsResolvingRoom seat (Copying copy end spot) a piece = IsSpare seat piece ⊎ (a ≡ copy)
 IsResolvingRoom seat _ a piece = IsSpare seat piece
 
 -- Objects are evacuated, and the address lies in the collection set and is that of a copy, current or old. The counter counts the
 -- machine where it copies; all its room is what the spot says, and it neither records nor scans.
-pub record CanResolve (config : Config) (world : World) (seat address : ℕ) (at : ResolveSpot) : Type 0 where
+pub record CanResolve (config : Config) (world : World) (seat address : ℕ) (spot : ResolveSpot) : Type 0 where
   pub seated : seat < seat_count config.mutators config.helpers
   pub phase : world.memory Phase ≡ evacuation_phase
   pub inside : IsCollected config (world.memory Cset) address
   pub there : HasCopy world.block address
-  pub copying : world.ghost.copying seat ≡ is_copier at
+  pub copying : world.ghost.copying seat ≡ is_copier spot
   pub records_none : world.ghost.recording seat ≡ None
   pub scans_none : world.ghost.scanning seat ≡ None
-  pub rooms : (other_address : ℕ) (piece : Block) → world.block other_address ≡ Some piece → room_of piece ≡ Some seat → IsResolvingRoom seat at other_address piece
-  pub ready : is_ready config seat address at ≡ true
-  pub facts : ResolveFacts config world seat address at
+  pub rooms : (other_address : ℕ) (piece : Block) → world.block other_address ≡ Some piece → room_of piece ≡ Some seat → IsResolvingRoom seat spot other_address piece
+  pub ready : is_ready config seat address spot ≡ true
+  pub facts : ResolveFacts config world seat address spot

@@ -18,15 +18,15 @@ use Rattle.cycle_steps.specs.Resolving.Facts.{IsAnswer, CanResolve}
 use Rattle.alloc_buffers.specs.Facts.{OnlySpares}
 
 -- A machine that resolves an address. A step leaves the unit on which it works as it is.
-abbrev pub resolving_part : Config → (seat a : ℕ) → Part
-resolving_part config seat a = record {
+abbrev pub resolving_part : Config → (seat address : ℕ) → Part
+resolving_part config seat address = record {
   Spot = ResolveSpot;
   is_ended = is_resolved;
-  touch = touch_at config seat a;
-  next = next_at config a evacuation_phase;
-  IsFit = IsFit config seat a evacuation_phase;
-  Can = λ w at. CanResolve config w seat a at;
-  Then = λ u w at. CanResolve config w seat a at × (w.ghost.working seat ≡ u.ghost.working seat);
+  touch = touch_at config seat address;
+  next = next_at config address evacuation_phase;
+  IsFit = IsFit config seat address evacuation_phase;
+  Can = λ world at. CanResolve config world seat address at;
+  Then = λ world next_world at. CanResolve config next_world seat address at × (next_world.ghost.working seat ≡ world.ghost.working seat);
 }
 
 -- A machine that resolves an address finds the object's current copy, or makes it. Its accesses to words of copies are loads, but for the
@@ -35,8 +35,8 @@ pub record ResolvingSteps : Type 0 where
   pub begins : (config : Config) (world : World) (seat address : ℕ) → seat < seat_count config.mutators config.helpers → world.memory Phase ≡ evacuation_phase → IsCollected config (world.memory Cset) address → HasCopy world.block address
       → world.ghost.copying seat ≡ false → world.ghost.recording seat ≡ None → world.ghost.scanning seat ≡ None → OnlySpares world seat → CanResolve config world seat address LoadHeader
   pub steps : (config : Config) (seat address : ℕ) → PartSteps config seat (resolving_part config seat address) (Shared config)
-  pub spares : (config : Config) (world : World) (seat address : ℕ) (at : ResolveSpot) (other_address k : ℕ) (body : Body) → Shared config world → CanResolve config world seat address at → body_at (world.block other_address) ≡ Some body → k < body_words body
-      → (touch_at config seat address at).word ≡ Heap (other_address + k) → ((touch_at config seat address at).form ≡ loads) ⊎ ((copy : ℕ) × (end : ℕ) × (at ≡ Copying copy end Publish) × (other_address ≡ address) × (k ≡ 0))
+  pub spares : (config : Config) (world : World) (seat address : ℕ) (spot : ResolveSpot) (other_address k : ℕ) (body : Body) → Shared config world → CanResolve config world seat address spot → body_at (world.block other_address) ≡ Some body → k < body_words body
+      → (touch_at config seat address spot).word ≡ Heap (other_address + k) → ((touch_at config seat address spot).form ≡ loads) ⊎ ((copy : ℕ) × (end : ℕ) × (spot ≡ Copying copy end Publish) × (other_address ≡ address) × (k ≡ 0))
   pub answers : (config : Config) (world : World) (seat address answer : ℕ) → CanResolve config world seat address (Resolved answer) → IsAnswer config world address answer
 
 -- A header that is forwarded leads to the object's current copy, which is not. Where a step keeps copies, the header of each copy stays, or it

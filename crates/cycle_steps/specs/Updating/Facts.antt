@@ -55,11 +55,11 @@ HasShape world address shape =
     (IsMarkable world.block address × (shape ≡ world.memory (Heap (address + 1)))) ⊎ ((words : ℕ) × (world.block address ≡ Some (dead words)) × (object_words shape ≡ words))
 
 -- the object that it visits is not dead, and has a reference of this number
-pub record HasField (config : Config) (world : World) (at : Visit) (field : ℕ) : Type 0 where
-  pub walked : HasComeTo config world at.walk at.address
-  pub alive : IsMarkable world.block at.address
-  pub shape_is : at.shape ≡ world.memory (Heap (at.address + 1))
-  pub below : field < refs_in at.shape
+pub record HasField (config : Config) (world : World) (visit : Visit) (field : ℕ) : Type 0 where
+  pub walked : HasComeTo config world visit.walk visit.address
+  pub alive : IsMarkable world.block visit.address
+  pub shape_is : visit.shape ≡ world.memory (Heap (visit.address + 1))
+  pub below : field < refs_in visit.shape
 
 -- an object of the graph has its current copy there
 abbrev pub HasThing : World → ℕ → Type 0
@@ -67,13 +67,13 @@ HasThing world address = (name : Name) × (refs : ℕ) × (nums : ℕ) × (world
 
 -- The reference, of an object of the graph, was found to be that of an old copy, whose current copy is at an address, and still is, or is
 -- current by now.
-pub record HasFound (world : World) (at : Visit) (field found to : ℕ) : Type 0 where
-  pub holder : HasThing world at.address
+pub record HasFound (world : World) (visit : Visit) (field found to : ℕ) : Type 0 where
+  pub holder : HasThing world visit.address
   pub refs : ℕ
   pub nums : ℕ
   pub name : Name
   pub old : world.block found ≡ Some (moved name refs nums to)
-  pub still : (world.memory (Heap (at.address + 3 + field)) ≡ found) ⊎ IsCurrent world.block (world.memory (Heap (at.address + 3 + field)))
+  pub still : (world.memory (Heap (visit.address + 3 + field)) ≡ found) ⊎ IsCurrent world.block (world.memory (Heap (visit.address + 3 + field)))
 
 -- what holds by where it stands
 abbrev pub UpdateFacts : Config → World → UpdateSpot → Type 0
@@ -90,13 +90,13 @@ UpdateFacts config world _ = ⊤
 
 -- References are updated, the machine knows the collection set, and stands in its unit where its spot says. It copies and records nothing,
 -- and all its room is free words of its buffer.
-pub record CanUpdate (config : Config) (world : World) (seat cset : ℕ) (at : UpdateSpot) : Type 0 where
+pub record CanUpdate (config : Config) (world : World) (seat cset : ℕ) (spot : UpdateSpot) : Type 0 where
   pub seated : seat < seat_count config.mutators config.helpers
   pub phase : world.memory Phase ≡ updating_phase
   pub set_is : cset ≡ world.memory Cset
   pub copying : world.ghost.copying seat ≡ false
   pub working : world.ghost.working seat ≡ None
   pub records_none : world.ghost.recording seat ≡ None
-  pub scanning : world.ghost.scanning seat ≡ pass_of config at
+  pub scanning : world.ghost.scanning seat ≡ pass_of config spot
   pub rooms : OnlySpares world seat
-  pub facts : UpdateFacts config world at
+  pub facts : UpdateFacts config world spot

@@ -14,12 +14,12 @@ use Rattle.cycle_steps.specs.Evacuation.Facts.{HasNothing}
 -- it is about to load the header, or has the answer
 abbrev pub FollowFacts : Config → World → ℕ → ResolveSpot → Type 0
 FollowFacts config world a LoadHeader = ⊤
-FollowFacts config world a (Resolved answer) = IsAnswer config world a answer
+FollowFacts config world address (Resolved answer) = IsAnswer config world address answer
 FollowFacts config world a _ = ⊥
 
 -- References are updated, and the address lies in the collection set and is that of a copy of an object of the graph. The machine works on
 -- no unit, neither copies nor records nor scans, and has no room in hand.
-pub record CanFollow (config : Config) (world : World) (seat address : ℕ) (at : ResolveSpot) : Type 0 where
+pub record CanFollow (config : Config) (world : World) (seat address : ℕ) (spot : ResolveSpot) : Type 0 where
   pub seated : seat < seat_count config.mutators config.helpers
   pub phase : world.memory Phase ≡ updating_phase
   pub inside : IsCollected config (world.memory Cset) address
@@ -27,4 +27,4 @@ pub record CanFollow (config : Config) (world : World) (seat address : ℕ) (at 
   pub there : body_at (world.block address) ≡ Some body
   pub working : world.ghost.working seat ≡ None
   pub nothing : HasNothing world seat
-  pub facts : FollowFacts config world address at
+  pub facts : FollowFacts config world address spot

@@ -31,8 +31,8 @@ updating_part config seat cset = record {
   touch = touch_at config;
   next = next_at config cset;
   IsFit = IsFit config cset;
-  Can = λ w at. CanUpdate config w seat cset at;
-  Then = λ u w at. CanUpdate config w seat cset at;
+  Can = λ world at. CanUpdate config world seat cset at;
+  Then = λ world next_world at. CanUpdate config next_world seat cset at;
 }
 
 -- A machine that updates claims regions outside of the collection set, and sees to it that their fields become current. Of the words of
@@ -41,20 +41,20 @@ pub record UpdatingSteps : Type 0 where
   pub begins : (config : Config) (world : World) (seat : ℕ) → seat < seat_count config.mutators config.helpers → world.memory Phase ≡ updating_phase → world.ghost.working seat ≡ None → HasNothing world seat
       → CanUpdate config world seat (world.memory Cset) LoadClaim
   pub steps : (config : Config) (seat cset : ℕ) → PartSteps config seat (updating_part config seat cset) (Shared config)
-  pub ready : (config : Config) (world : World) (seat cset : ℕ) (at : UpdateSpot) → Shared config world → CanUpdate config world seat cset at → is_ready config at ≡ true
-  pub spares : (config : Config) (world : World) (seat cset : ℕ) (at : UpdateSpot) (address k : ℕ) (body : Body) → Shared config world → CanUpdate config world seat cset at → body_at (world.block address) ≡ Some body
-      → IsCollected config (world.memory Cset) address → k < body_words body → (touch_at config at).word ≡ Heap (address + k) → (touch_at config at).form ≡ loads
+  pub ready : (config : Config) (world : World) (seat cset : ℕ) (spot : UpdateSpot) → Shared config world → CanUpdate config world seat cset spot → is_ready config spot ≡ true
+  pub spares : (config : Config) (world : World) (seat cset : ℕ) (spot : UpdateSpot) (address k : ℕ) (body : Body) → Shared config world → CanUpdate config world seat cset spot → body_at (world.block address) ≡ Some body
+      → IsCollected config (world.memory Cset) address → k < body_words body → (touch_at config spot).word ≡ Heap (address + k) → (touch_at config spot).form ≡ loads
 
 -- a machine that resolves an address then
-abbrev pub following_part : Config → (seat a : ℕ) → Part
-following_part config seat a = record {
+abbrev pub following_part : Config → (seat address : ℕ) → Part
+following_part config seat address = record {
   Spot = ResolveSpot;
   is_ended = resolves.is_ended;
-  touch = resolves.touch_at config seat a;
-  next = resolves.next_at config a updating_phase;
-  IsFit = resolve.IsFit config seat a updating_phase;
-  Can = λ w at. CanFollow config w seat a at;
-  Then = λ u w at. CanFollow config w seat a at;
+  touch = resolves.touch_at config seat address;
+  next = resolves.next_at config address updating_phase;
+  IsFit = resolve.IsFit config seat address updating_phase;
+  Can = λ world at. CanFollow config world seat address at;
+  Then = λ world next_world at. CanFollow config next_world seat address at;
 }
 
 -- A machine that resolves an address while references are updated finds the object's current copy by one load of the header, and makes no
@@ -63,9 +63,9 @@ pub record FollowingSteps : Type 0 where
   pub begins : (config : Config) (world : World) (seat address : ℕ) (body : Body) → seat < seat_count config.mutators config.helpers → world.memory Phase ≡ updating_phase → IsCollected config (world.memory Cset) address → body_at (world.block address) ≡ Some body
       → world.ghost.working seat ≡ None → HasNothing world seat → CanFollow config world seat address LoadHeader
   pub steps : (config : Config) (seat address : ℕ) → PartSteps config seat (following_part config seat address) (Shared config)
-  pub ready : (config : Config) (world : World) (seat address : ℕ) (at : ResolveSpot) → Shared config world → CanFollow config world seat address at → resolve.is_ready config seat address at ≡ true
-  pub copies_none : (config : Config) (world : World) (seat address : ℕ) (at : ResolveSpot) → CanFollow config world seat address at → is_copier at ≡ false
-  pub only_loads : (config : Config) (world : World) (seat address : ℕ) (at : ResolveSpot) → CanFollow config world seat address at → (resolves.touch_at config seat address at).form ≡ loads
+  pub ready : (config : Config) (world : World) (seat address : ℕ) (spot : ResolveSpot) → Shared config world → CanFollow config world seat address spot → resolve.is_ready config seat address spot ≡ true
+  pub copies_none : (config : Config) (world : World) (seat address : ℕ) (spot : ResolveSpot) → CanFollow config world seat address spot → is_copier spot ≡ false
+  pub only_loads : (config : Config) (world : World) (seat address : ℕ) (spot : ResolveSpot) → CanFollow config world seat address spot → (resolves.touch_at config seat address spot).form ≡ loads
   pub answers : (config : Config) (world : World) (seat address answer : ℕ) → CanFollow config world seat address (Resolved answer) → IsAnswer config world address answer
 
 -- nobody stands in the unit of a region
@@ -77,7 +77,7 @@ NobodyUpdates config world region = (seat : ℕ) (at : Scan) → seat < seat_cou
 pub record UnitsAreUpdated : Type 0 where
   pub done : (config : Config) (world : World) (address refs nums k : ℕ) (name : Name) → Shared config world → world.memory Phase ≡ updating_phase → region_with config address < world.memory Claim → NobodyUpdates config world (region_with config address)
       → world.block address ≡ Some (thing name refs nums) → k < refs → IsCurrent world.block (world.memory (Heap (address + 3 + k)))
-  pub above : (config : Config) (world : World) (address refs nums k : ℕ) (name : Name) → Shared config world → world.memory Phase ≡ updating_phase → IsYoung config (λ r. world.memory (Limit r)) address
+  pub above : (config : Config) (world : World) (address refs nums k : ℕ) (name : Name) → Shared config world → world.memory Phase ≡ updating_phase → IsYoung config (λ region. world.memory (Limit region)) address
       → world.block address ≡ Some (thing name refs nums) → k < refs → IsCurrent world.block (world.memory (Heap (address + 3 + k)))
   pub outside : (config : Config) (world : World) (value : ℕ) → Shared config world → world.memory Phase ≡ updating_phase → IsCurrent world.block value → value ≢ 0 → IsCollected config (world.memory Cset) value → ⊥
 

@@ -17,7 +17,7 @@ use Rattle.heap_world.specs.World.{Plot, thing}
 use Rattle.image_graph.specs.Held.{IsAmong}
 use Rattle.image_graph.specs.Full.{held_words}
 use Rattle.image_graph.specs.Promised.{Promises}
-use Rattle.image_graph.proofs.Roots.{root_among, answer_among}
+use Rattle.image_graph.proofs.HeldRoots.{root_among, answer_among}
 use Rattle.image_graph.proofs.Reached.{words_read}
 use Rattle.image_graph.specs.Holds.{HoldsBy}
 use Rattle.cycle_words.specs.Marking.Marks.{is_black, IsNew}
@@ -139,8 +139,8 @@ module _ (config : Config) (memory : Word → ℕ) (left : Plot) (owner : ℕ �
   }
 
 module _ (config : Config) (memory : Word → ℕ) (block : Plot) (owner : ℕ → Option ℕ) (promises : Promises) (graph : Graph) (holds : HoldsBy config memory block owner promises graph) (marking : IsMarking config memory block) (seats : HasNoMoreSeats config memory) where
-  abbrev n : Word → ℕ
-  n = final_marked config memory
+  abbrev now : Word → ℕ
+  now = final_marked config memory
 
   abbrev out : ℕ → Bool
   out = dead_in config memory
@@ -148,23 +148,23 @@ module _ (config : Config) (memory : Word → ℕ) (block : Plot) (owner : ℕ �
   abbrev left : Plot
   left = freed_block config out block
 
-  after : HoldsBy config n left (freed_owner out owner) promises graph
+  after : HoldsBy config now left (freed_owner out owner) promises graph
   after = ended_holds config memory block owner promises graph holds marking seats
 
-  through : IsMarkedThrough config n left
+  through : IsMarkedThrough config now left
   through = ended_through config memory block owner promises graph holds marking seats
 
   -- what is marked is an object, which is left
-  marked_was : (address : ℕ) → is_black config n address ≡ true → IsObjectAt memory block address
+  marked_was : (address : ℕ) → is_black config now address ≡ true → IsObjectAt memory block address
   marked_was address black = ⊎_elim
       (λ (before : is_black config memory address ≡ true). markable_object config memory block owner promises graph holds marking address (black_markable config memory block owner promises graph holds marking address before))
       (λ (traced : IsTraced config memory address). markable_object config memory block owner promises graph holds marking address (traced_markable config memory block owner promises graph holds marking address traced))
       (((are_closed config memory block owner promises graph holds marking).black address).0 black)
 
-  marked_alive : (address : ℕ) → is_black config n address ≡ true → out (region_with config address) ≡ false
+  marked_alive : (address : ℕ) → is_black config now address ≡ true → out (region_with config address) ≡ false
   marked_alive address black = object_alive config memory block owner promises graph holds marking address (marked_was address black)
 
-  pub marked_object : (address : ℕ) → is_black config n address ≡ true → IsObjectAt n left address
+  pub marked_object : (address : ℕ) → is_black config now address ≡ true → IsObjectAt now left address
   marked_object address black =
       let is = marked_was address black in
       record {
@@ -177,8 +177,8 @@ module _ (config : Config) (memory : Word → ℕ) (block : Plot) (owner : ℕ �
         few_nums = is.few_nums;
       }
 
-  pub can_begin : CanBegin config n
-  can_begin = ended_can_begin config n left (freed_owner out owner) promises graph after marking.uncollected through marked_object
+  pub can_begin : CanBegin config now
+  can_begin = ended_can_begin config now left (freed_owner out owner) promises graph after marking.uncollected through marked_object
 
 pub evacuation_can_begin : EvacuationCanBegin
 evacuation_can_begin c m block owner p g holds marking seats = can_begin c m block owner p g holds marking seats

@@ -33,9 +33,9 @@ object_can_be_copied c m block owner p g holds sized a object inside =
     let b = object.0 in
     let here = object.1 in
     let size = sized.objects a b here object.2 in
-    let at = below_top c (λ r. m (Top r)) block holds.objects.plotted a b here (holds.pieces.some a b here) in
+    let at = below_top c (λ region. m (Top region)) block holds.objects.plotted a b here (holds.pieces.some a b here) in
     let most = holds.objects.plotted.tops (region_with c a) at.0 in
-    let lies = piece_inside c (λ r. m (Top r)) block holds.objects.plotted a b here in
+    let lies = piece_inside c (λ region. m (Top region)) block holds.objects.plotted a b here in
     let again = from_base c.region_words a (some_words c) lies.0 in
     record {
       above = lies.0;
@@ -64,7 +64,7 @@ module _ (config : Config) (memory : Word → ℕ) (address : ℕ) (above : conf
     collecting = copy.collecting_still config memory block owner promises graph holds address piece here fixed inside plain unpinned size out;
   }
 
-  by_room : (o : Option ℕ) → copy_room config memory address ≡ o → HoldsCopied config memory (copied_out config memory address) block owner promises graph
+  by_room : (found : Option ℕ) → copy_room config memory address ≡ found → HoldsCopied config memory (copied_out config memory address) block owner promises graph
   by_room None none =
       let same : memory ≡ copied_out config memory address = sym (ap (copied_in config memory address) none) in
       subst (λ n. HoldsCopied config memory n block owner promises graph) same
@@ -77,8 +77,8 @@ module _ (config : Config) (memory : Word → ℕ) (address : ℕ) (above : conf
   pub still_holds : HoldsCopied config memory (copied_out config memory address) block owner promises graph
   still_holds = by_room (copy_room config memory address) refl
 
-pub copying_holds : (config : Config) (memory : Word → ℕ) (a : ℕ) → CanCopyOut config memory a → CopyingHolds config memory (copied_out config memory a) a
-copying_holds config memory a can block owner p g holds sized object plain unpinned = still_holds config memory a can.above can.in_set block owner p g holds sized object.0 object.1 object.2 plain unpinned
+pub copying_holds : (config : Config) (memory : Word → ℕ) (address : ℕ) → CanCopyOut config memory address → CopyingHolds config memory (copied_out config memory address) address
+copying_holds config memory address can block owner p g holds sized object plain unpinned = still_holds config memory address can.above can.in_set block owner p g holds sized object.0 object.1 object.2 plain unpinned
 
 pub live_is_marked : LiveIsMarked
 live_is_marked c m r block sized marked = sum_same (λ k. marked_words c m (base_of c r + k)) (λ k. marked_in c m block (base_of c r + k)) c.region_words (λ k below. each (base_of c r + k))
@@ -95,8 +95,8 @@ pub chosen_are_live : ChosenAreLive
 chosen_are_live c m block owner p g holds through a reached inside = ⊎_elim
     (λ (black : is_black c m a ≡ true). black)
     (λ (fresh : IsNew c m a).
-    let at = held_is_reached c (λ r. m (Top r)) (λ y. m (Heap y)) block (now_in m) (IsAmong (held_words c m)) (with_promised g p) holds.objects a reached in
-    let below = below_top c (λ r. m (Top r)) block holds.objects.plotted a (thing at.0 at.1 at.2) at.3 (omega arith) in
+    let at = held_is_reached c (λ region. m (Top region)) (λ address. m (Heap address)) block (now_in m) (IsAmong (held_words c m)) (with_promised g p) holds.objects a reached in
+    let below = below_top c (λ region. m (Top region)) block holds.objects.plotted a (thing at.0 at.1 at.2) at.3 (omega arith) in
     let front = member_is c.regions (copy_limit c m) (live_words c m) (is_candidate c m) (region_with c a) inside in
     let no_new = ((candidate_is_candidate c m (region_with c a)).0 front.1).no_new in
     let from = below.1 in

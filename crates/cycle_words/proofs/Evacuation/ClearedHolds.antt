@@ -19,7 +19,7 @@ use Rattle.image_graph.specs.Full.{now_in, held_words}
 use Rattle.image_graph.specs.Promised.{Promises, with_promised}
 use Rattle.image_graph.specs.Serving.{AreAsking}
 use Rattle.image_graph.proofs.Reached.{words_read}
-use Rattle.image_graph.proofs.Roots.{root_among, answer_among, answer_names}
+use Rattle.image_graph.proofs.HeldRoots.{root_among, answer_among, answer_names}
 use Rattle.image_graph.specs.Holds.{HoldsBy, AreSized}
 use Rattle.cycle_words.proofs.Marking.Alike.{sized_alike, same_held_words, holds_alike}
 use Rattle.cycle_words.proofs.Marking.Dead.{seated}
@@ -132,12 +132,12 @@ module _ (config : Config) (memory : Word → ℕ) (block : Plot) (owner : ℕ �
 
   -- a root is cleared
   root_cleared : (mutator index : ℕ) → mutator < config.mutators → index < 16 → CanClear config memory (memory (Root mutator index)) → is_collected config memory (memory (Root mutator index)) ≡ true → StillSo config memory (cleared_at config memory (Root mutator index)) block owner promises graph
-  root_cleared mutator index within few can collected =
+  root_cleared mutator index within below can collected =
       let least = leb-true config.region_words (memory (Root mutator index)) (and_parts (nat_le config.region_words (memory (Root mutator index))) (bit_at (memory Cset) (region_with config (memory (Root mutator index))) == 1) collected).0 in
       let some : memory (Root mutator index) ≢ 0 = λ none. (let long = config.in_range.least_words in omega (arith, none, least, long)) in
-      let named = named_if_not_0 config top block holds.objects.plotted (memory (Root mutator index)) (graph.root (mutator + 1) index) (holds.rooted.roots mutator index within few) some in
+      let named = named_if_not_0 config top block holds.objects.plotted (memory (Root mutator index)) (graph.root (mutator + 1) index) (holds.rooted.roots mutator index within below) some in
       let at = holds.pieces.named (memory (Root mutator index)) named.0 named.2 in
-      let led : IsLed (now_in memory (memory (Root mutator index))) = from_root (memory (Root mutator index)) (root_among config top memory block graph promises holds.objects.plotted holds.rooted mutator index within few) some in
+      let led : IsLed (now_in memory (memory (Root mutator index))) = from_root (memory (Root mutator index)) (root_among config top memory block graph promises holds.objects.plotted holds.rooted mutator index within below) some in
       let out = moved (memory (Root mutator index)) at.0 at.1 named.0 at.2 led collected can in
       subst (λ n. StillSo config memory n block owner promises graph) (sym (cleared_is config memory (Root mutator index) collected))
       (record {
@@ -198,15 +198,15 @@ module _ (config : Config) (memory : Word → ℕ) (block : Plot) (owner : ℕ �
   spared place outside = subst (λ n. StillSo config memory n block owner promises graph) (sym (spared_is config memory place outside)) as_it_is
 
   place_cleared : (place : Word) → IsPlace config place → CanClear config memory (memory place) → StillSo config memory (cleared_at config memory place) block owner promises graph
-  place_cleared (Root t i) at can = ⊎_elim
-      (λ (collected : is_collected config memory (memory (Root t i)) ≡ true). root_cleared t i at.0 at.1 can collected)
-      (λ (outside : is_collected config memory (memory (Root t i)) ≡ false). spared (Root t i) outside)
-      (cases_Bool (is_collected config memory (memory (Root t i))))
-  place_cleared (Answer t) at can = ⊎_elim
-      (λ (collected : is_collected config memory (memory (Answer t)) ≡ true). answer_cleared t at can collected)
-      (λ (outside : is_collected config memory (memory (Answer t)) ≡ false). spared (Answer t) outside)
-      (cases_Bool (is_collected config memory (memory (Answer t))))
-  place_cleared _ at can = absurd at
+  place_cleared (Root mutator index) place can = ⊎_elim
+      (λ (collected : is_collected config memory (memory (Root mutator index)) ≡ true). root_cleared mutator index place.0 place.1 can collected)
+      (λ (outside : is_collected config memory (memory (Root mutator index)) ≡ false). spared (Root mutator index) outside)
+      (cases_Bool (is_collected config memory (memory (Root mutator index))))
+  place_cleared (Answer mutator) place can = ⊎_elim
+      (λ (collected : is_collected config memory (memory (Answer mutator)) ≡ true). answer_cleared mutator place can collected)
+      (λ (outside : is_collected config memory (memory (Answer mutator)) ≡ false). spared (Answer mutator) outside)
+      (cases_Bool (is_collected config memory (memory (Answer mutator))))
+  place_cleared _ place can = absurd place
 
 -- All places are cleared, one after the other.
 all_cleared : (config : Config) (owner : ℕ → Option ℕ) (promises : Promises) (graph : Graph) (places : List Word) (memory : Word → ℕ) (block : Plot)
@@ -216,7 +216,7 @@ unfolding cleared_in_turn CanClearInTurn
 all_cleared config owner promises graph [] memory block are holds apart can = record { pieces = block; stay = λ a b is. is; set = refl; holds = holds; sized = λ sized. sized; order = λ order. order; pins = λ t i. refl }
 all_cleared config owner promises graph (place ∷ places) memory block are holds apart can =
     let next = place_cleared config memory block owner promises graph holds apart place (are place (is_first place places)) can.0 in
-    let rest = all_cleared config owner promises graph places (cleared_at config memory place) next.pieces (λ q has. are q (is_later place places q has)) next.holds
+    let rest = all_cleared config owner promises graph places (cleared_at config memory place) next.pieces (λ other_place has. are other_place (is_later place places other_place has)) next.holds
     (still_outside config memory (cleared_at config memory place) next.pins next.set apart) can.1 in
     record { pieces = rest.pieces; stay = λ a b is. rest.stay a b (next.stay a b is); set = rest.set ∙ next.set; holds = rest.holds; sized = λ sized. rest.sized (next.sized sized); order = λ order. rest.order (next.order order); pins = λ t i. rest.pins t i ∙ next.pins t i }
 
@@ -231,7 +231,7 @@ module _ (config : Config) (memory : Word → ℕ) (block : Plot) (owner : ℕ �
 
   pub set_stored_holds : HoldsBy config (with_set memory set) block owner promises graph
   set_stored_holds = record {
-    objects = subst (λ xs. HoldsGraph config (λ r. memory (Top r)) (λ a. memory (Heap a)) block (now_in memory) (IsAmong xs) (with_promised graph promises))
+    objects = subst (λ xs. HoldsGraph config (λ region. memory (Top region)) (λ address. memory (Heap address)) block (now_in memory) (IsAmong xs) (with_promised graph promises))
         (sym (same_held_words memory (with_set memory set) (λ t i. refl) (λ t. refl) (λ t i. refl) config)) holds.objects;
     rooted = record { roots = holds.rooted.roots; answers = holds.rooted.answers; no_more_roots = holds.rooted.no_more_roots; pins = holds.rooted.pins; no_more_pins = holds.rooted.no_more_pins; no_more_promised = holds.rooted.no_more_promised };
     moved = λ a refs nums name is forwarded. absurd (true≢false (sym forwarded ∙ plain a refs nums name is));
@@ -301,7 +301,7 @@ module _ (config : Config) (m : Word → ℕ) (block : Plot) (owner : ℕ → Op
   none_is none = fun_ext (λ word. sym (cond-true (set == 0) (evac_spared m word) (evac_started cleared word) (eq-eqb set 0 none)))
 
   some_is : set ≢ 0 → evac_started cleared ≡ evac_begun config m set
-  some_is some = fun_ext (λ word. sym (cond-false (set == 0) (evac_spared m word) (evac_started cleared word) (ne_eqb set 0 some)))
+  some_is positive = fun_ext (λ word. sym (cond-false (set == 0) (evac_spared m word) (evac_started cleared word) (ne_eqb set 0 positive)))
 
   pub begun_holds : HoldsStill config m (evac_begun config m set) block owner promises graph
   begun_holds = ⊎_elim
@@ -315,16 +315,16 @@ module _ (config : Config) (m : Word → ℕ) (block : Plot) (owner : ℕ → Op
     -- reaching goes by roots, answers and the heap
     reached_same : (memory other_memory : Word → ℕ) → held_words config memory ≡ held_words config other_memory → ((address : ℕ) → memory (Heap address) ≡ other_memory (Heap address)) → (address : ℕ) → CanBeReached config memory address → CanBeReached config other_memory address
     reached_same memory other_memory roots heap address =
-        subst (λ xs. IsLedTo (now_in memory) (λ y. memory (Heap y)) (IsAmong xs) address → CanBeReached config other_memory address) (sym roots)
+        subst (λ xs. IsLedTo (now_in memory) (λ address. memory (Heap address)) (IsAmong xs) address → CanBeReached config other_memory address) (sym roots)
         (subst (λ (f : ℕ → ℕ). IsLedTo (λ y. if is_forwarded (f y) then forwardee_in (f y) else y) f (IsAmong (held_words config other_memory)) address → CanBeReached config other_memory address) (sym (fun_ext heap)) (λ reached. reached))
 
     order_first : IsInOrder config with block
     order_first = record {
       marked = λ a collected black. let is = marked a black in (thing is.name is.refs is.nums, is.here, refl);
-      reachable = λ a reached. through.reachable a (reached_same with m (same_held_words m with (λ t i. refl) (λ t. refl) (λ t i. refl) config) (λ y. refl) a reached);
+      reachable = λ address reached. through.reachable address (reached_same with m (same_held_words m with (λ t i. refl) (λ t. refl) (λ t i. refl) config) (λ y. refl) address reached);
       no_new = λ r member. (chosen_is r member).no_new;
       floors = floors;
-      unseated = λ seat r is member. (chosen_is r member).nobodys (seated config m seats seat r is);
+      unseated = λ seat region is member. (chosen_is region member).nobodys (seated config m seats seat region is);
       young = young;
     }
 
@@ -338,8 +338,8 @@ module _ (config : Config) (m : Word → ℕ) (block : Plot) (owner : ℕ → Op
           sized = begun_some.sized sized;
           collecting = record {
             marked = order.marked;
-            reachable = λ some a reached. order.reachable a
-                (reached_same (evac_started cleared) cleared (same_held_words cleared (evac_started cleared) (λ t i. refl) (λ t. refl) (λ t i. refl) config) (λ y. refl) a reached);
+            reachable = λ some address reached. order.reachable address
+                (reached_same (evac_started cleared) cleared (same_held_words cleared (evac_started cleared) (λ t i. refl) (λ t. refl) (λ t i. refl) config) (λ y. refl) address reached);
             no_new = order.no_new;
             floors = λ some. order.floors;
             unseated = order.unseated;
@@ -360,7 +360,7 @@ module _ (config : Config) (m : Word → ℕ) (block : Plot) (owner : ℕ → Op
         reachable = λ some. absurd (some refl);
         no_new = λ r member. absurd (let none = bit_at-zero r in omega (arith, member, none));
         floors = λ some. absurd (some refl);
-        unseated = λ seat r is member. (let none = bit_at-zero r in omega (arith, member, none));
+        unseated = λ seat region is member. (let none = bit_at-zero region in omega (arith, member, none));
         young = λ some. absurd (some refl);
         outside = λ off a reached member. absurd (let none = bit_at-zero (region_with config a) in omega (arith, member, none));
       };
@@ -369,6 +369,6 @@ module _ (config : Config) (m : Word → ℕ) (block : Plot) (owner : ℕ → Op
 
     pub begun_collecting : HoldsCollecting config (evac_begun config m set) owner promises graph
     begun_collecting = ⊎_elim
-        (λ (none : set ≡ 0). subst (λ n. HoldsCollecting config n owner promises graph) (none_is none) collecting_none)
-        (λ (some : set ≢ 0). subst (λ n. HoldsCollecting config n owner promises graph) (some_is some) collecting_some)
+        (λ (none : set ≡ 0). subst (λ memory. HoldsCollecting config memory owner promises graph) (none_is none) collecting_none)
+        (λ (some : set ≢ 0). subst (λ memory. HoldsCollecting config memory owner promises graph) (some_is some) collecting_some)
         (cases_eq set 0)

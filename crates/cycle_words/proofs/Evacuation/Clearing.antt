@@ -111,9 +111,9 @@ module _ (config : Config) (before : Word → ℕ) (empty : FreeAreEmpty config 
     copied : IsCopiedOut config by (copied_out config by a) a
     copied =
         let one : suc (length objects) ≡ length objects + 1 = omega arith in
-        let raw = each_is_copied config before more empty lie set_is (subst (λ s. AreToCopy config before s more) set_is more_to_copy) (length objects) (omega (arith, longer)) in
+        let raw = each_is_copied config before more empty lie set_is (subst (λ set. AreToCopy config before set more) set_is more_to_copy) (length objects) (omega (arith, longer)) in
         let first = subst (λ n. IsCopiedOut config n (copied_by config before more (length objects + 1)) (get_or more (length objects) 0)) (copied_front config before objects (a ∷ []) (length objects) (omega arith)) raw in
-        let second = subst (λ x. IsCopiedOut config by (copied_by config before more (length objects + 1)) x) (get_or_push objects a 0 (length objects) refl) first in
+        let second = subst (λ address. IsCopiedOut config by (copied_by config before more (length objects + 1)) address) (get_or_push objects a 0 (length objects) refl) first in
         subst (λ n. IsCopiedOut config by n a) (ap (copied_by config before more) (sym one) ∙ by_next) second
 
     -- words that name nothing are as copying leaves them
@@ -122,22 +122,22 @@ module _ (config : Config) (before : Word → ℕ) (empty : FreeAreEmpty config 
 
     -- words of the regions of the set stay, but for the header of the object that is copied
     stays_in_set : (address k : ℕ) → config.region_words ≤ address → IsIn (before Cset) (region_with config address) → address % config.region_words + k < config.region_words → address + k ≢ a → now (Heap (address + k)) ≡ memory (Heap (address + k))
-    stays_in_set address k from in_set inside other =
+    stays_in_set address k at_most in_set inside other =
         let differ : region_with config address ≢ copied.region = λ same_region.
         (let member_there : bit_at (before Cset) copied.region ≡ 1 = subst (IsIn (before Cset)) same_region in_set in
         let set_now : by Cset ≡ before Cset = sym (so_far.same Cset (λ never. never)) ∙ so_far.same_set in
         let outside : bit_at (before Cset) copied.region ≡ 0 = ap (λ s. bit_at s copied.region) (sym set_now) ∙ copied.outside in
         omega (arith, member_there, outside)) in
         let apart = regions_apart config (region_with config address) copied.region (address + k) (top_address config by copied.region) (words_at by a) differ
-        (of_its_region config address k from inside) (omega arith) (omega (arith, copied.room)) in
+        (of_its_region config address k at_most inside) (omega arith) (omega (arith, copied.room)) in
         now_by (Heap (address + k)) (λ never. never) ∙ copied.copied.elsewhere (address + k) other apart ∙ sym (so_far.same (Heap (address + k)) (λ never. never))
 
     -- headers of other objects of the set stay
     header_stays : (address : ℕ) → config.region_words ≤ address → IsIn (before Cset) (region_with config address) → address ≢ a → now (Heap address) ≡ memory (Heap address)
-    header_stays address from in_set other =
+    header_stays address at_most in_set other =
         let plain_sum : address + 0 ≡ address = omega arith in
-        subst (λ y. now (Heap y) ≡ memory (Heap y)) plain_sum
-        (stays_in_set address 0 from in_set (omega (arith, mod_below address config.region_words (some_words config))) (λ same. other (sym plain_sum ∙ same)))
+        subst (λ address. now (Heap address) ≡ memory (Heap address)) plain_sum
+        (stays_in_set address 0 at_most in_set (omega (arith, mod_below address config.region_words (some_words config))) (λ same. other (sym plain_sum ∙ same)))
 
     -- and so do the shapes of all marked ones
     shape_stays : (address : ℕ) → is_black config before address ≡ true → IsIn (before Cset) (region_with config address) → now (Heap (address + 1)) ≡ memory (Heap (address + 1))
@@ -153,7 +153,7 @@ module _ (config : Config) (before : Word → ℕ) (empty : FreeAreEmpty config 
     within_after q below = ⊎_elim
         (λ (here : q ≡ copied.region).
         let grown = now_by (Top copied.region) (λ never. never) ∙ copied.copied.top in
-        let there : now (Top q) ≡ now (Top copied.region) = ap (λ r. now (Top r)) here in
+        let there : now (Top q) ≡ now (Top copied.region) = ap (λ region. now (Top region)) here in
         omega (arith, grown, there, copied.room))
         (λ (other : q ≢ copied.region).
         let same = now_by (Top q) (λ never. never) ∙ copied.copied.other_tops q other ∙ sym (so_far.same (Top q) (λ never. never)) in
@@ -186,19 +186,19 @@ module _ (config : Config) (before : Word → ℕ) (empty : FreeAreEmpty config 
       only = each_more (λ x. (p : Word) × Contains (naming_places config) p × (before p ≡ x)) so_far.only (place, there, is);
       same_set = now_by Cset (λ never. never) ∙ copied.copied.others Cset (λ never. never) ∙ sym (so_far.same Cset (λ never. never)) ∙ so_far.same_set;
       within_now = within_after;
-      sized = λ x black in_set. ap object_words (shape_stays x black in_set) ∙ so_far.sized x black in_set;
-      same = λ word other. now_by word other ∙ ap (λ (memory : Word → ℕ). memory word) (sym by_next) ∙ ap (λ k. copied_by config before more k word) (sym longer);
-      named = λ p naming. ⊎_elim
-          (λ (old : memory p ≡ before p). inl (naming_same p naming ∙ old))
-          (λ (new : Contains objects (before p) × (memory p ≡ now_in memory (before p))).
-          inr (Contains-append_left objects (a ∷ []) (before p) new.0, naming_same p naming ∙ new.1 ∙ sym (now_same now memory (before p) (object_stays (before p) new.0))))
-          (so_far.named p naming);
-      moved = each_more (λ x. is_forwarded (now (Heap x)) ≡ true) (λ x has. ap is_forwarded (object_stays x has) ∙ so_far.moved x has) (ap is_forwarded new_header ∙ header_forwarded (top_address config by copied.region));
-      away = each_more (λ x. is_collected config before (now_in now x) ≡ false) (λ x has. ap (is_collected config before) (now_same now memory x (object_stays x has)) ∙ so_far.away x has) new_away;
-      left = λ x black in_set forwarded. ⊎_elim
-          (λ (here : x ≡ a). subst (Contains more) (sym here) (Contains-push objects a))
-          (λ (other : x ≢ a). Contains-append_left objects (a ∷ []) x (so_far.left x black in_set (ap is_forwarded (sym (header_stays x (black_above x black) in_set other)) ∙ forwarded)))
-          (cases_eq x a);
+      sized = λ address black in_set. ap object_words (shape_stays address black in_set) ∙ so_far.sized address black in_set;
+      same = λ word other. now_by word other ∙ ap (λ (memory : Word → ℕ). memory word) (sym by_next) ∙ ap (λ turns. copied_by config before more turns word) (sym longer);
+      named = λ word naming. ⊎_elim
+          (λ (old : memory word ≡ before word). inl (naming_same word naming ∙ old))
+          (λ (new : Contains objects (before word) × (memory word ≡ now_in memory (before word))).
+          inr (Contains-append_left objects (a ∷ []) (before word) new.0, naming_same word naming ∙ new.1 ∙ sym (now_same now memory (before word) (object_stays (before word) new.0))))
+          (so_far.named word naming);
+      moved = each_more (λ address. is_forwarded (now (Heap address)) ≡ true) (λ address has. ap is_forwarded (object_stays address has) ∙ so_far.moved address has) (ap is_forwarded new_header ∙ header_forwarded (top_address config by copied.region));
+      away = each_more (λ x. is_collected config before (now_in now x) ≡ false) (λ address has. ap (is_collected config before) (now_same now memory address (object_stays address has)) ∙ so_far.away address has) new_away;
+      left = λ address black in_set forwarded. ⊎_elim
+          (λ (here : address ≡ a). subst (Contains more) (sym here) (Contains-push objects a))
+          (λ (other : address ≢ a). Contains-append_left objects (a ∷ []) address (so_far.left address black in_set (ap is_forwarded (sym (header_stays address (black_above address black) in_set other)) ∙ forwarded)))
+          (cases_eq address a);
     }
 
   -- A place that named an object of the set names the copy.
@@ -220,7 +220,7 @@ module _ (config : Config) (before : Word → ℕ) (empty : FreeAreEmpty config 
       to_copy = so_far.to_copy;
       only = so_far.only;
       same_set = renamed_other Cset (λ never. never) ∙ so_far.same_set;
-      within_now = λ q below. (let same = renamed_other (Top q) (λ never. never) in omega (arith, same, so_far.within_now q below));
+      within_now = λ region below. (let same = renamed_other (Top region) (λ never. never) in omega (arith, same, so_far.within_now region below));
       sized = λ x black in_set. ap object_words (renamed_other (Heap (x + 1)) (λ never. never)) ∙ so_far.sized x black in_set;
       same = λ word other. renamed_other word other ∙ so_far.same word other;
       named = λ p names. ⊎_elim
@@ -234,9 +234,9 @@ module _ (config : Config) (before : Word → ℕ) (empty : FreeAreEmpty config 
           (λ (new : Contains objects (before p) × (memory p ≡ now_in memory (before p))). inr (new.0, stays ∙ new.1 ∙ sym (renamed_now (before p))))
           (so_far.named p names))
           (cases_Bool (same_word place p));
-      moved = λ x in_list. ap is_forwarded (renamed_other (Heap x) (λ never. never)) ∙ so_far.moved x in_list;
-      away = λ x in_list. ap (is_collected config before) (renamed_now x) ∙ so_far.away x in_list;
-      left = λ x black in_set forwarded. so_far.left x black in_set (ap is_forwarded (sym (renamed_other (Heap x) (λ never. never))) ∙ forwarded);
+      moved = λ address in_list. ap is_forwarded (renamed_other (Heap address) (λ never. never)) ∙ so_far.moved address in_list;
+      away = λ address in_list. ap (is_collected config before) (renamed_now address) ∙ so_far.away address in_list;
+      left = λ address black in_set forwarded. so_far.left address black in_set (ap is_forwarded (sym (renamed_other (Heap address) (λ never. never))) ∙ forwarded);
     }
 
   -- One place is cleared.
@@ -428,7 +428,7 @@ module _ (config : Config) (before : Word → ℕ) (empty : FreeAreEmpty config 
     named = λ p names. inl refl;
     moved = λ x has. absurd (nothing_in_none x has);
     away = λ x has. absurd (nothing_in_none x has);
-    left = λ x black in_set forwarded. absurd (both_ways (is_forwarded (before (Heap x))) (unmoved x black) forwarded);
+    left = λ address black in_set forwarded. absurd (both_ways (is_forwarded (before (Heap address))) (unmoved address black) forwarded);
   }
 
   are_cleared : (objects : List ℕ) × AreCleared config before (cleared_in_turn config before (naming_places config)) objects
@@ -441,12 +441,12 @@ module _ (config : Config) (before : Word → ℕ) (empty : FreeAreEmpty config 
           to_copy = so_far.to_copy;
           named = so_far.only;
           copied = so_far.same;
-          renewed = λ p there. ⊎_elim
-              (λ (old : after p ≡ before p).
-              old ∙ sym (cond-false (is_collected config before (before p)) (now_in after (before p)) (before p) (ap (is_collected config before) (sym old) ∙ end.1.here p there)))
-              (λ (new : Contains end.0 (before p) × (after p ≡ now_in after (before p))).
-              new.1 ∙ sym (cond-true (is_collected config before (before p)) (now_in after (before p)) (before p) (in_set end.0 so_far.to_copy (before p) new.0)))
-              (so_far.named p (places_name config p there));
+          renewed = λ place there. ⊎_elim
+              (λ (old : after place ≡ before place).
+              old ∙ sym (cond-false (is_collected config before (before place)) (now_in after (before place)) (before place) (ap (is_collected config before) (sym old) ∙ end.1.here place there)))
+              (λ (new : Contains end.0 (before place) × (after place ≡ now_in after (before place))).
+              new.1 ∙ sym (cond-true (is_collected config before (before place)) (now_in after (before place)) (before place) (in_set end.0 so_far.to_copy (before place) new.0)))
+              (so_far.named place (places_name config place there));
           cleared = end.1.here;
         },
       )

@@ -25,8 +25,8 @@ use Rattle.cycle_words.proofs.Evacuation.CopiedOut.{own_top, copying_copies}
 
 module _ (config : Config) (memory : Word → ℕ) (objects : List ℕ) (empty : FreeAreEmpty config memory) (lie : LieApart config.region_words (marked_words config memory))
     (set_is : memory Cset ≡ chosen config memory) (to_copy : AreToCopy config memory (chosen config memory) objects) where
-  abbrev w : ℕ
-  w = config.region_words
+  abbrev region_words : ℕ
+  region_words = config.region_words
 
   abbrev set : ℕ
   set = chosen config memory
@@ -38,7 +38,7 @@ module _ (config : Config) (memory : Word → ℕ) (objects : List ℕ) (empty :
   asked = words_by_turn memory objects
 
   abbrev start : ℕ → ℕ
-  start = tops_outside w set (λ r. memory (Top r))
+  start = tops_outside region_words set (λ region. memory (Top region))
 
   now_next : (index : ℕ) → now (suc index) ≡ copied_out config (now index) (get_or objects index 0)
   unfolding copied_by
@@ -52,14 +52,14 @@ module _ (config : Config) (memory : Word → ℕ) (objects : List ℕ) (empty :
   -- are as before.
   record AreAt (index : ℕ) (other_memory : Word → ℕ) : Type 0 where
     same_set : other_memory Cset ≡ set
-    tops : (r : ℕ) → tops_outside w set (λ q. other_memory (Top q)) r ≡ tops_after_copies config memory set objects index r
+    tops : (r : ℕ) → tops_outside region_words set (λ region. other_memory (Top region)) r ≡ tops_after_copies config memory set objects index r
     words : (address i : ℕ) → Contains objects address → 0 < i → i < words_at memory address → other_memory (Heap (address + i)) ≡ memory (Heap (address + i))
 
   at_first : AreAt 0 (now 0)
-  at_first = subst (AreAt 0) (sym now_first) (record { same_set = set_is; tops = λ r. sym (served_none w config.regions asked start r); words = λ a i _ _ _. refl })
+  at_first = subst (AreAt 0) (sym now_first) (record { same_set = set_is; tops = λ r. sym (served_none region_words config.regions asked start r); words = λ a i _ _ _. refl })
 
   -- what is known of each object
-  first_is : (a : ℕ) → Contains objects a → w ≤ a
+  first_is : (a : ℕ) → Contains objects a → region_words ≤ a
   first_is a has = above_first config memory set objects to_copy a (to_copy.marked a has)
 
   all_marked : (a : ℕ) → Contains objects a → marked_words config memory a ≡ words_at memory a
@@ -67,12 +67,12 @@ module _ (config : Config) (memory : Word → ℕ) (objects : List ℕ) (empty :
 
   -- no word of an object but its first is where another object begins
   never_begins : (a b i : ℕ) → Contains objects a → Contains objects b → 0 < i → i < words_at memory a → a + i ≢ b
-  never_begins a b i has_a has_b some inside same =
+  never_begins a b i has_a has_b positive inside same =
       let size = all_marked a has_a in
       let other_size = all_marked b has_b in
       let here : 0 < marked_words config memory a = omega (arith, size) in
       let there : 0 < marked_words config memory b = omega (arith, other_size) in
-      let apart = lie.apart a b here there (omega (arith, same, some)) in
+      let apart = lie.apart a b here there (omega (arith, same, positive)) in
       omega (arith, apart, size, same, inside)
 
   module _ (index : ℕ) (other_memory : Word → ℕ) (inside : index < length objects) (at : AreAt index other_memory) where
@@ -89,16 +89,16 @@ module _ (config : Config) (memory : Word → ℕ) (objects : List ℕ) (empty :
     same_size = ap object_words (at.words o 1 has (omega arith) (omega arith))
 
     -- the region by words is the region by numbers
-    same_region : copy_room config other_memory o ≡ room_at_turn w config.regions asked start index
+    same_region : copy_room config other_memory o ≡ room_at_turn region_words config.regions asked start index
     same_region =
-        ap (λ s. lowest_room w (tops_outside w s (λ q. other_memory (Top q))) (words_at other_memory o) config.regions) at.same_set
-        ∙ ap (λ n. lowest_room w (tops_outside w set (λ q. other_memory (Top q))) n config.regions) same_size
-        ∙ same_room w (tops_outside w set (λ q. other_memory (Top q))) (tops_after_copies config memory set objects index) (asked index) config.regions (λ r _. at.tops r)
+        ap (λ set. lowest_room region_words (tops_outside region_words set (λ region. other_memory (Top region))) (words_at other_memory o) config.regions) at.same_set
+        ∙ ap (λ words. lowest_room region_words (tops_outside region_words set (λ region. other_memory (Top region))) words config.regions) same_size
+        ∙ same_room region_words (tops_outside region_words set (λ region. other_memory (Top region))) (tops_after_copies config memory set objects index) (asked index) config.regions (λ r _. at.tops r)
 
     copied : IsCopiedOut config other_memory (copied_out config other_memory o) o
     copied = copying_copies config other_memory o turn.region (first_is o has) (subst (λ s. IsIn s (region_with config o)) (sym at.same_set) (to_copy.in_set o has)) (same_region ∙ turn.found)
 
-    found_here : room_at_turn w config.regions asked start index ≡ Some copied.region
+    found_here : room_at_turn region_words config.regions asked start index ≡ Some copied.region
     found_here = sym same_region ∙ copied.found
 
     outside : IsOutside set copied.region
@@ -106,20 +106,20 @@ module _ (config : Config) (memory : Word → ℕ) (objects : List ℕ) (empty :
 
     -- the tops in numbers at the next turn
     next_top : (q : ℕ) → tops_after_copies config memory set objects (suc index) q ≡ taken_in (tops_after_copies config memory set objects index) (asked index) (Some copied.region) q
-    next_top q = served_next w config.regions asked start index q ∙ ap (λ found. taken_in (tops_after_copies config memory set objects index) (asked index) found q) found_here
+    next_top q = served_next region_words config.regions asked start index q ∙ ap (λ found. taken_in (tops_after_copies config memory set objects index) (asked index) found q) found_here
 
-    top_here : tops_outside w set (λ q. copied_out config other_memory o (Top q)) copied.region ≡ tops_after_copies config memory set objects (suc index) copied.region
+    top_here : tops_outside region_words set (λ region. copied_out config other_memory o (Top region)) copied.region ≡ tops_after_copies config memory set objects (suc index) copied.region
     top_here =
-        own_top w set (λ q. copied_out config other_memory o (Top q)) copied.region outside
+        own_top region_words set (λ region. copied_out config other_memory o (Top region)) copied.region outside
         ∙ copied.copied.top
-        ∙ ap (λ t. t + words_at other_memory o) (sym (own_top w set (λ q. other_memory (Top q)) copied.region outside) ∙ at.tops copied.region)
+        ∙ ap (λ t. t + words_at other_memory o) (sym (own_top region_words set (λ region. other_memory (Top region)) copied.region outside) ∙ at.tops copied.region)
         ∙ ap (λ n. tops_after_copies config memory set objects index copied.region + n) same_size
         ∙ sym (taken_here (tops_after_copies config memory set objects index) (asked index) copied.region)
         ∙ sym (next_top copied.region)
 
-    top_elsewhere : (q : ℕ) → q ≢ copied.region → tops_outside w set (λ r. copied_out config other_memory o (Top r)) q ≡ tops_after_copies config memory set objects (suc index) q
+    top_elsewhere : (q : ℕ) → q ≢ copied.region → tops_outside region_words set (λ region. copied_out config other_memory o (Top region)) q ≡ tops_after_copies config memory set objects (suc index) q
     top_elsewhere q other =
-        ap (λ t. if bit_at set q == 1 then w else t) (copied.copied.other_tops q other)
+        ap (λ t. if bit_at set q == 1 then region_words else t) (copied.copied.other_tops q other)
         ∙ at.tops q
         ∙ sym (taken_elsewhere (tops_after_copies config memory set objects index) (asked index) copied.region q other)
         ∙ sym (next_top q)
@@ -138,7 +138,7 @@ module _ (config : Config) (memory : Word → ℕ) (objects : List ℕ) (empty :
     at_next = record {
       same_set = copied.copied.others Cset (λ never. never) ∙ at.same_set;
       tops = λ q. ⊎_elim
-          (λ (here : q ≡ copied.region). subst (λ r. tops_outside w set (λ p. copied_out config other_memory o (Top p)) r ≡ tops_after_copies config memory set objects (suc index) r) (sym here) top_here)
+          (λ (here : q ≡ copied.region). subst (λ r. tops_outside region_words set (λ region. copied_out config other_memory o (Top region)) r ≡ tops_after_copies config memory set objects (suc index) r) (sym here) top_here)
           (λ (other : q ≢ copied.region). top_elsewhere q other)
           (cases_eq q copied.region);
       words = λ a i has_a some less.

@@ -17,89 +17,89 @@ use Rattle.cycle_words.specs.Evacuation.Copied.{copy_room, top_address, copied_w
 use Rattle.cycle_words.proofs.Evacuation.RegionAddresses.{some_words, of_its_region, regions_apart}
 
 -- a region with room is outside the set, since one of the set counts as full
-pub outside_with_room : (w set : ℕ) (top : ℕ → ℕ) (r n : ℕ) → 0 < n → tops_outside w set top r + n ≤ w → IsOutside set r
-outside_with_room w set top r n some room = ⊎_elim
+pub outside_with_room : (region_words set : ℕ) (top : ℕ → ℕ) (r n : ℕ) → 0 < n → tops_outside region_words set top r + n ≤ region_words → IsOutside set r
+outside_with_room region_words set top r n positive room = ⊎_elim
     (λ (member : bit_at set r ≡ 1).
-    let full : tops_outside w set top r ≡ w = cond-true (bit_at set r == 1) w (top r) (eq-eqb (bit_at set r) 1 member) in
-    absurd (omega (arith, full, room, some)))
+    let full : tops_outside region_words set top r ≡ region_words = cond-true (bit_at set r == 1) region_words (top r) (eq-eqb (bit_at set r) 1 member) in
+    absurd (omega (arith, full, room, positive)))
     (λ (other : bit_at set r ≢ 1). omega (arith, other, bit_at-lt set r))
     (cases_eq (bit_at set r) 1)
 
 -- the top of a region outside is the region's own
-pub own_top : (w set : ℕ) (top : ℕ → ℕ) (r : ℕ) → IsOutside set r → tops_outside w set top r ≡ top r
-own_top w set top r outside = cond-false (bit_at set r == 1) w (top r) (ne_eqb (bit_at set r) 1 (λ member. omega (arith, member, outside)))
+pub own_top : (region_words set : ℕ) (top : ℕ → ℕ) (r : ℕ) → IsOutside set r → tops_outside region_words set top r ≡ top r
+own_top region_words set top r outside = cond-false (bit_at set r == 1) region_words (top r) (ne_eqb (bit_at set r) 1 (λ member. omega (arith, member, outside)))
 
 -- the words of the copy, and those before and behind it
-module _ (heap : ℕ → ℕ) (from to n : ℕ) where
-  word_of_copy : (k : ℕ) → 0 < k → k < n → copied_word heap from to n (to + k) ≡ heap (from + k)
-  word_of_copy k some below =
+module _ (heap : ℕ → ℕ) (from to words : ℕ) where
+  word_of_copy : (k : ℕ) → 0 < k → k < words → copied_word heap from to words (to + k) ≡ heap (from + k)
+  word_of_copy k positive below =
       let back : to + k - to ≡ k = omega arith in
-      cond-false (to == to + k) plain_header _ (ne_eqb to (to + k) (λ same. omega (arith, same, some)))
-      ∙ cond-true (nat_lt to (to + k) && nat_lt (to + k) (to + n)) (heap (from + (to + k - to))) (heap (to + k))
-      (and_from (nat_lt to (to + k)) (nat_lt (to + k) (to + n)) (lt-ltb to (to + k) (omega (arith, some))) (lt-ltb (to + k) (to + n) (omega (arith, below))))
+      cond-false (to == to + k) plain_header _ (ne_eqb to (to + k) (λ same. omega (arith, same, positive)))
+      ∙ cond-true (nat_lt to (to + k) && nat_lt (to + k) (to + words)) (heap (from + (to + k - to))) (heap (to + k))
+      (and_from (nat_lt to (to + k)) (nat_lt (to + k) (to + words)) (lt-ltb to (to + k) (omega (arith, positive))) (lt-ltb (to + k) (to + words) (omega (arith, below))))
       ∙ ap (λ i. heap (from + i)) back
 
-  word_elsewhere : (address : ℕ) → 0 < n → (address < to) ⊎ (to + n ≤ address) → copied_word heap from to n address ≡ heap address
-  word_elsewhere address some apart = ⊎_elim
+  word_elsewhere : (address : ℕ) → 0 < words → (address < to) ⊎ (to + words ≤ address) → copied_word heap from to words address ≡ heap address
+  word_elsewhere address positive apart = ⊎_elim
       (λ (before : address < to).
       cond-false (to == address) plain_header _ (ne_eqb to address (λ same. omega (arith, same, before)))
-      ∙ cond-false (nat_lt to address && nat_lt address (to + n)) (heap (from + (address - to))) (heap address) (and_left (nat_lt to address) (nat_lt address (to + n)) (le-ltb to address (omega (arith, before)))))
-      (λ (behind : to + n ≤ address).
-      cond-false (to == address) plain_header _ (ne_eqb to address (λ same. omega (arith, same, behind, some)))
-      ∙ cond-false (nat_lt to address && nat_lt address (to + n)) (heap (from + (address - to))) (heap address) (and_right (nat_lt to address) (nat_lt address (to + n)) (le-ltb address (to + n) behind)))
+      ∙ cond-false (nat_lt to address && nat_lt address (to + words)) (heap (from + (address - to))) (heap address) (and_left (nat_lt to address) (nat_lt address (to + words)) (le-ltb to address (omega (arith, before)))))
+      (λ (behind : to + words ≤ address).
+      cond-false (to == address) plain_header _ (ne_eqb to address (λ same. omega (arith, same, behind, positive)))
+      ∙ cond-false (nat_lt to address && nat_lt address (to + words)) (heap (from + (address - to))) (heap address) (and_right (nat_lt to address) (nat_lt address (to + words)) (le-ltb address (to + words) behind)))
       apart
 
-module _ (config : Config) (memory : Word → ℕ) (a region : ℕ) where
+module _ (config : Config) (memory : Word → ℕ) (other_address region : ℕ) where
   abbrev to : ℕ
   to = top_address config memory region
 
-  abbrev n : ℕ
-  n = words_at memory a
+  abbrev words : ℕ
+  words = words_at memory other_address
 
-  heap_after : (address : ℕ) → address ≢ a → copied_to config memory a region (Heap address) ≡ copied_word (λ y. memory (Heap y)) a to n address
+  heap_after : (address : ℕ) → address ≢ other_address → copied_to config memory other_address region (Heap address) ≡ copied_word (λ address. memory (Heap address)) other_address to words address
   unfolding copied_to
-  heap_after address other = cond-false (a == address) (header_word to) _ (ne_eqb a address (λ same. other (sym same)))
+  heap_after address other = cond-false (other_address == address) (header_word to) _ (ne_eqb other_address address (λ same. other (sym same)))
 
-  pub others_stay : (word : Word) → (MayChange word → ⊥) → copied_to config memory a region word ≡ memory word
+  pub others_stay : (word : Word) → (MayChange word → ⊥) → copied_to config memory other_address region word ≡ memory word
   unfolding copied_to
-  others_stay (Heap x) stays = absurd (stays tt)
+  others_stay (Heap address) stays = absurd (stays tt)
   others_stay (Top q) stays = absurd (stays tt)
   others_stay Free stays = absurd (stays tt)
   others_stay word stays = refl
 
-  module _ (apart : (a < to) ⊎ (to + n ≤ a)) (inside : region < config.regions) where
-    pub is_copied_to : IsCopiedTo config memory (copied_to config memory a region) a region
+  module _ (apart : (other_address < to) ⊎ (to + words ≤ other_address)) (inside : region < config.regions) where
+    pub is_copied_to : IsCopiedTo config memory (copied_to config memory other_address region) other_address region
     unfolding copied_to
     is_copied_to =
-        let some : 0 < n = omega arith in
+        let some : 0 < words = omega arith in
         let small : region < 64 = (let range = config.in_range in omega (arith, range.most_regions, inside)) in
-        let never_old : (k : ℕ) → k < n → to + k ≢ a = λ k below same. ⊎_elim (λ (before : a < to). omega (arith, same, before)) (λ (behind : to + n ≤ a). omega (arith, same, behind, below)) apart in
+        let never_old : (k : ℕ) → k < words → to + k ≢ other_address = λ k below same. ⊎_elim (λ (before : other_address < to). omega (arith, same, before)) (λ (behind : to + words ≤ other_address). omega (arith, same, behind, below)) apart in
         record {
           header = (let plain : to + 0 ≡ to = omega arith in heap_after to (λ same. never_old 0 some (plain ∙ same)) ∙ cond-true (to == to) plain_header _ (eq-eqb to to refl));
-          words = λ k positive below. heap_after (to + k) (never_old k below) ∙ word_of_copy (λ y. memory (Heap y)) a to n k positive below;
-          forwarded = cond-true (a == a) (header_word to) _ (eq-eqb a a refl);
-          elsewhere = λ x other outside. heap_after x other ∙ word_elsewhere (λ y. memory (Heap y)) a to n x some outside;
-          top = cond-true (region == region) (memory (Top region) + n) (memory (Top region)) (eq-eqb region region refl);
-          other_tops = λ q other. cond-false (region == q) (memory (Top region) + n) (memory (Top q)) (ne_eqb region q (λ same. other (sym same)));
+          words = λ k positive below. heap_after (to + k) (never_old k below) ∙ word_of_copy (λ address. memory (Heap address)) other_address to words k positive below;
+          forwarded = cond-true (other_address == other_address) (header_word to) _ (eq-eqb other_address other_address refl);
+          elsewhere = λ address other outside. heap_after address other ∙ word_elsewhere (λ address. memory (Heap address)) other_address to words address some outside;
+          top = cond-true (region == region) (memory (Top region) + words) (memory (Top region)) (eq-eqb region region refl);
+          other_tops = λ other_region other. cond-false (region == other_region) (memory (Top region) + words) (memory (Top other_region)) (ne_eqb region other_region (λ same. other (sym same)));
           in_use = bit_at_clear_same w64 (memory Free) region small;
-          others_free = λ q below other. bit_at_clear_other w64 (memory Free) region small q (let range = config.in_range in omega (arith, range.most_regions, below)) other;
+          others_free = λ other_region below other. bit_at_clear_other w64 (memory Free) region small other_region (let range = config.in_range in omega (arith, range.most_regions, below)) other;
           others = others_stay;
         }
 
 -- copying by the region that was found
-pub copied_as : (config : Config) (memory : Word → ℕ) (a r : ℕ) → copy_room config memory a ≡ Some r → copied_out config memory a ≡ copied_to config memory a r
-copied_as config memory a r found = ap (copied_in config memory a) found
+pub copied_as : (config : Config) (memory : Word → ℕ) (address region : ℕ) → copy_room config memory address ≡ Some region → copied_out config memory address ≡ copied_to config memory address region
+copied_as config memory address region found = ap (copied_in config memory address) found
 
 pub copying_copies : (config : Config) (memory : Word → ℕ) (address region : ℕ) → config.region_words ≤ address → IsIn (memory Cset) (region_with config address) → copy_room config memory address ≡ Some region
     → IsCopiedOut config memory (copied_out config memory address) address
 copying_copies config memory address region above member found =
-    let w = config.region_words in
+    let region_words = config.region_words in
     let here : address + 0 ≡ address = omega arith in
-    let below : address % w + 0 < w = omega (arith, mod_below address w (some_words config)) in
-    let lowest = has_room w (tops_outside w (memory Cset) (λ q. memory (Top q))) (words_at memory address) config.regions region found in
-    let outside : IsOutside (memory Cset) region = outside_with_room w (memory Cset) (λ q. memory (Top q)) region (words_at memory address) (omega arith) lowest.room in
-    let own = own_top w (memory Cset) (λ q. memory (Top q)) region outside in
-    let room : memory (Top region) + words_at memory address ≤ w = omega (arith, lowest.room, own) in
+    let below : address % region_words + 0 < region_words = omega (arith, mod_below address region_words (some_words config)) in
+    let lowest = has_room region_words (tops_outside region_words (memory Cset) (λ region. memory (Top region))) (words_at memory address) config.regions region found in
+    let outside : IsOutside (memory Cset) region = outside_with_room region_words (memory Cset) (λ region. memory (Top region)) region (words_at memory address) (omega arith) lowest.room in
+    let own = own_top region_words (memory Cset) (λ region. memory (Top region)) region outside in
+    let room : memory (Top region) + words_at memory address ≤ region_words = omega (arith, lowest.room, own) in
     let differ : region_with config address ≢ region = λ same. (let here : bit_at (memory Cset) region ≡ 1 = subst (IsIn (memory Cset)) same member in omega (arith, here, outside)) in
     let apart = regions_apart config (region_with config address) region address (top_address config memory region) (words_at memory address) differ (subst (IsOf config (region_with config address)) here (of_its_region config address 0 above below)) (omega arith) (omega (arith, room)) in
     record {

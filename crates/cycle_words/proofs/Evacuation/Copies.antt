@@ -49,30 +49,30 @@ module _ (config : Config) (memory other_memory : Word → ℕ) (address : ℕ) 
   same_words_at = ap object_words (same (Heap (address + 1)) (λ never. never))
 
   same_heap : heap_of memory ≡ heap_of other_memory
-  same_heap = fun_ext (λ y. same (Heap y) (λ never. never))
+  same_heap = fun_ext (λ address. same (Heap address) (λ never. never))
 
   pub same_copy_room : copy_room config memory address ≡ copy_room config other_memory address
   same_copy_room =
-      ap (λ s. lowest_room config.region_words (tops_outside config.region_words s (λ r. memory (Top r))) (words_at memory address) config.regions) (same Cset (λ never. never))
-      ∙ ap (λ (top : ℕ → ℕ). lowest_room config.region_words (tops_outside config.region_words (other_memory Cset) top) (words_at memory address) config.regions) (fun_ext (λ r. same (Top r) (λ never. never)))
-      ∙ ap (λ k. lowest_room config.region_words (tops_outside config.region_words (other_memory Cset) (λ r. other_memory (Top r))) k config.regions) same_words_at
+      ap (λ set. lowest_room config.region_words (tops_outside config.region_words set (λ region. memory (Top region))) (words_at memory address) config.regions) (same Cset (λ never. never))
+      ∙ ap (λ (top : ℕ → ℕ). lowest_room config.region_words (tops_outside config.region_words (other_memory Cset) top) (words_at memory address) config.regions) (fun_ext (λ region. same (Top region) (λ never. never)))
+      ∙ ap (λ words. lowest_room config.region_words (tops_outside config.region_words (other_memory Cset) (λ region. other_memory (Top region))) words config.regions) same_words_at
 
   same_copied_to : (region : ℕ) (word : Word) → (IsNaming word → ⊥) → copied_to config memory address region word ≡ copied_to config other_memory address region word
   unfolding copied_to
-  same_copied_to region (Heap x) other =
-      ap (λ t. if address == x then header_word (base_of config region + t) else copied_word (λ y. memory (Heap y)) address (base_of config region + t) (words_at memory address) x) (same (Top region) (λ never. never))
-      ∙ ap (λ (heap : ℕ → ℕ). if address == x then header_word (top_address config other_memory region) else copied_word heap address (top_address config other_memory region) (words_at memory address) x) same_heap
-      ∙ ap (λ k. if address == x then header_word (top_address config other_memory region) else copied_word (λ y. other_memory (Heap y)) address (top_address config other_memory region) k x) same_words_at
-  same_copied_to region (Top q) other =
-      ap (λ t. if region == q then t + words_at memory address else memory (Top q)) (same (Top region) (λ never. never))
-      ∙ ap (λ k. if region == q then other_memory (Top region) + k else memory (Top q)) same_words_at
-      ∙ ap (λ t. if region == q then other_memory (Top region) + words_at other_memory address else t) (same (Top q) (λ never. never))
+  same_copied_to region (Heap other_address) other =
+      ap (λ t. if address == other_address then header_word (base_of config region + t) else copied_word (λ address. memory (Heap address)) address (base_of config region + t) (words_at memory address) other_address) (same (Top region) (λ never. never))
+      ∙ ap (λ (heap : ℕ → ℕ). if address == other_address then header_word (top_address config other_memory region) else copied_word heap address (top_address config other_memory region) (words_at memory address) other_address) same_heap
+      ∙ ap (λ words. if address == other_address then header_word (top_address config other_memory region) else copied_word (λ address. other_memory (Heap address)) address (top_address config other_memory region) words other_address) same_words_at
+  same_copied_to region (Top other_region) other =
+      ap (λ t. if region == other_region then t + words_at memory address else memory (Top other_region)) (same (Top region) (λ never. never))
+      ∙ ap (λ k. if region == other_region then other_memory (Top region) + k else memory (Top other_region)) same_words_at
+      ∙ ap (λ t. if region == other_region then other_memory (Top region) + words_at other_memory address else t) (same (Top other_region) (λ never. never))
   same_copied_to region Free other = ap (λ free. bit_and free (all_but region)) (same Free (λ never. never))
   same_copied_to region word other = same word other
 
   same_copied_in : (found : Option ℕ) (word : Word) → (IsNaming word → ⊥) → copied_in config memory address found word ≡ copied_in config other_memory address found word
   same_copied_in None word other = same word other
-  same_copied_in (Some r) word other = same_copied_to r word other
+  same_copied_in (Some region) word other = same_copied_to region word other
 
   pub same_copied_out : (word : Word) → (IsNaming word → ⊥) → copied_out config memory address word ≡ copied_out config other_memory address word
   same_copied_out word other = same_copied_in (copy_room config memory address) word other ∙ ap (λ o. copied_in config other_memory address o word) same_copy_room

@@ -18,7 +18,7 @@ use Rattle.regions.proofs.PlaceLemmas.{regions_tile}
 use Rattle.shen_graph.specs.declared.name.Name.{Name}
 use Rattle.shen_graph.specs.Graph.{Graph}
 use Rattle.heap_world.specs.World.{Block, thing, hand, promised, filler, carved, words_of, room_of, is_loose, Plot, name_at, IsCollected, IsPlotted, IsFilled, IsFreeWord, ShareIsOpen, AreBuffers, AreYoungRooms}
-use Rattle.heap_world.proofs.Updates.{updated, updated_same, updated_there, updated_else}
+use Rattle.heap_world.proofs.FunctionUpdates.{updated, updated_same, updated_there, updated_else}
 use Rattle.heap_world.proofs.Pieces.{beside, piece_cases}
 use Rattle.heap_world.proofs.Pointing.{named_piece}
 use Rattle.heap_world.proofs.Apart.{far}
@@ -57,13 +57,13 @@ pub record IsInOrder (config : Config) (memory : Word → ℕ) (block : Plot) : 
   pub young : AreYoungRooms config (λ region. memory (Tams region)) block
 
 pub in_order : (config : Config) (memory : Word → ℕ) (block : Plot) → WhileCollecting config memory block → memory Cset ≢ 0 → IsInOrder config memory block
-in_order config memory block while some = record { marked = while.marked; reachable = while.reachable some; no_new = while.no_new; floors = while.floors some; unseated = while.unseated; young = while.young some }
+in_order config memory block while positive = record { marked = while.marked; reachable = while.reachable positive; no_new = while.no_new; floors = while.floors positive; unseated = while.unseated; young = while.young positive }
 
 module _ (config : Config) (memory : Word → ℕ) (block : Plot) (owner : ℕ → Option ℕ) (promises : Promises) (graph : Graph) (holds : HoldsBy config memory block owner promises graph)
     (address : ℕ) (other_piece : Block) (here : block address ≡ Some other_piece) (fixed : is_loose other_piece ≡ false) (inside : IsCollected config (memory Cset) address) (plain : is_forwarded (memory (Heap address)) ≡ false) (unpinned : IsUnpinned config memory address)
     (size : words_at memory address ≡ words_of other_piece) (out : IsCopiedOut config memory (copied_out config memory address) address) where
-  abbrev n : Word → ℕ
-  n = copied_out config memory address
+  abbrev memory_then : Word → ℕ
+  memory_then = copied_out config memory address
 
   abbrev r : ℕ
   r = out.region
@@ -79,7 +79,7 @@ module _ (config : Config) (memory : Word → ℕ) (block : Plot) (owner : ℕ �
   heap address = memory (Heap address)
 
   abbrev after : ℕ → ℕ
-  after address = n (Heap address)
+  after address = memory_then (Heap address)
 
   -- the pieces with the copy
   abbrev pub plot : Plot
@@ -158,23 +158,23 @@ module _ (config : Config) (memory : Word → ℕ) (block : Plot) (owner : ℕ �
       sym (ap after first) ∙ kept q 0 piece other is (long q piece is) ∙ ap heap first
 
   shape_stays : (q : ℕ) (piece : Block) → block q ≡ Some piece → 2 ≤ words_of piece → after (q + 1) ≡ heap (q + 1)
-  shape_stays q piece is some = ⊎_elim
-      (λ (same : q ≡ address). word_stays q 1 piece is (omega (arith, some)) (λ e. omega (arith, e, same)))
-      (λ (other : q ≢ address). kept q 1 piece other is (omega (arith, some)))
+  shape_stays q piece is at_most = ⊎_elim
+      (λ (same : q ≡ address). word_stays q 1 piece is (omega (arith, at_most)) (λ e. omega (arith, e, same)))
+      (λ (other : q ≢ address). kept q 1 piece other is (omega (arith, at_most)))
       (cases_eq q address)
 
   -- current copies
-  now_there : now_in n address ≡ to
-  now_there = now_is n address to out.copied.forwarded
+  now_there : now_in memory_then address ≡ to
+  now_there = now_is memory_then address to out.copied.forwarded
 
-  now_new : now_in n to ≡ to
+  now_new : now_in memory_then to ≡ to
   now_new = cond-false (is_forwarded (after to)) (forwardee_in (after to)) to (ap is_forwarded out.copied.header)
 
   now_here : now_in memory address ≡ address
   now_here = cond-false (is_forwarded (heap address)) (forwardee_in (heap address)) address plain
 
-  now_else : (q : ℕ) (piece : Block) → q ≢ address → block q ≡ Some piece → now_in n q ≡ now_in memory q
-  now_else q piece other is = now_same n memory q (header_stays q piece other is)
+  now_else : (q : ℕ) (piece : Block) → q ≢ address → block q ≡ Some piece → now_in memory_then q ≡ now_in memory q
+  now_else q piece other is = now_same memory_then memory q (header_stays q piece other is)
 
   now_not_old : (q more less : ℕ) (named : Name) → q ≢ address → block q ≡ Some (thing named more less) → now_in memory q ≢ address
   now_not_old q more less named other is same = ⊎_elim
@@ -189,21 +189,21 @@ module _ (config : Config) (memory : Word → ℕ) (block : Plot) (owner : ℕ �
   now_not_new address named is same = let copy = holds.objects.current address named is in none_there (thing named copy.0 copy.1) (ap block (sym same) ∙ copy.2)
 
   -- other words stay
-  word_same : (word : Word) → (MayChange word → ⊥) → n word ≡ memory word
+  word_same : (word : Word) → (MayChange word → ⊥) → memory_then word ≡ memory word
   word_same word = out.copied.others word
 
-  pub set_same : n Cset ≡ memory Cset
+  pub set_same : memory_then Cset ≡ memory Cset
   set_same = word_same Cset (λ never. never)
 
-  top_same : (region : ℕ) → region ≢ r → n (Top region) ≡ memory (Top region)
+  top_same : (region : ℕ) → region ≢ r → memory_then (Top region) ≡ memory (Top region)
   top_same = out.copied.other_tops
 
-  tops_are : (λ q. n (Top q)) ≡ updated top r (memory (Top r) + words_of other_piece)
-  tops_are = fun_ext (λ q. ⊎_elim
-      (λ (same : r ≡ q).
-      ap (λ k. n (Top k)) (sym same) ∙ out.copied.top ∙ ap (λ w. memory (Top r) + w) size ∙ sym (updated_same top r (memory (Top r) + words_of other_piece) q same))
-      (λ (other : r ≢ q). top_same q (λ e. other (sym e)) ∙ sym (updated_else top r (memory (Top r) + words_of other_piece) q other))
-      (cases_eq r q))
+  tops_are : (λ region. memory_then (Top region)) ≡ updated top r (memory (Top r) + words_of other_piece)
+  tops_are = fun_ext (λ region. ⊎_elim
+      (λ (same : r ≡ region).
+      ap (λ region. memory_then (Top region)) (sym same) ∙ out.copied.top ∙ ap (λ w. memory (Top r) + w) size ∙ sym (updated_same top r (memory (Top r) + words_of other_piece) region same))
+      (λ (other : r ≢ region). top_same region (λ e. other (sym e)) ∙ sym (updated_else top r (memory (Top r) + words_of other_piece) region other))
+      (cases_eq r region))
 
   -- the copy lies outside the set
   region_is : region_with config to ≡ r
@@ -232,26 +232,26 @@ module _ (config : Config) (memory : Word → ℕ) (block : Plot) (owner : ℕ �
   pieces_again : NamedAreThings plot
   pieces_again = record {
     named = named_again;
-    unpromised = λ q seat words is. ⊎_elim
-        (λ (new : (q ≡ to) × (other_piece ≡ promised seat words)). holds.pieces.unpromised address seat words (here ∙ ap Some new.1))
-        (λ (old : (q ≢ to) × (block q ≡ Some (promised seat words))). holds.pieces.unpromised q seat words old.1)
-        (cases q (promised seat words) is);
-    unheld = λ q seat words is. holds.pieces.unheld q seat words (room_was q seat (hand seat words) refl is);
-    uncarved = λ q seat words is. holds.pieces.uncarved q seat words (room_was q seat (carved seat words) refl is);
-    some = λ q z is. ⊎_elim
-        (λ (new : (q ≡ to) × (other_piece ≡ z)). subst (λ b. 1 ≤ words_of b) new.1 own)
-        (λ (old : (q ≢ to) × (block q ≡ Some z)). long q z old.1)
-        (cases q z is);
+    unpromised = λ other_address seat words is. ⊎_elim
+        (λ (new : (other_address ≡ to) × (other_piece ≡ promised seat words)). holds.pieces.unpromised address seat words (here ∙ ap Some new.1))
+        (λ (old : (other_address ≢ to) × (block other_address ≡ Some (promised seat words))). holds.pieces.unpromised other_address seat words old.1)
+        (cases other_address (promised seat words) is);
+    unheld = λ address seat words is. holds.pieces.unheld address seat words (room_was address seat (hand seat words) refl is);
+    uncarved = λ address seat words is. holds.pieces.uncarved address seat words (room_was address seat (carved seat words) refl is);
+    some = λ address piece is. ⊎_elim
+        (λ (new : (address ≡ to) × (other_piece ≡ piece)). subst (λ b. 1 ≤ words_of b) new.1 own)
+        (λ (old : (address ≢ to) × (block address ≡ Some piece)). long address piece old.1)
+        (cases address piece is);
   }
 
-  current_again : (q : ℕ) (named : Name) → name_at (plot q) ≡ Some named → IsCopy plot (now_in n q) named
+  current_again : (q : ℕ) (named : Name) → name_at (plot q) ≡ Some named → IsCopy plot (now_in memory_then q) named
   current_again q named is =
       let at = named_again q named is in
       ⊎_elim
-      (λ (new : (q ≡ to) × (other_piece ≡ thing named at.0 at.1)). (at.0, at.1, ap (λ k. plot (now_in n k)) new.0 ∙ ap plot now_new ∙ new_there ∙ ap Some new.1))
+      (λ (new : (q ≡ to) × (other_piece ≡ thing named at.0 at.1)). (at.0, at.1, ap (λ k. plot (now_in memory_then k)) new.0 ∙ ap plot now_new ∙ new_there ∙ ap Some new.1))
       (λ (old : (q ≢ to) × (block q ≡ Some (thing named at.0 at.1))). ⊎_elim
       (λ (same : q ≡ address).
-      (at.0, at.1, ap (λ k. plot (now_in n k)) same ∙ ap plot now_there ∙ new_there ∙ sym here ∙ ap block (sym same) ∙ old.1))
+      (at.0, at.1, ap (λ k. plot (now_in memory_then k)) same ∙ ap plot now_there ∙ new_there ∙ sym here ∙ ap block (sym same) ∙ old.1))
       (λ (other : q ≢ address).
       let copy = holds.objects.current q named (ap name_at old.1) in
       (copy.0, copy.1, ap plot (now_else q (thing named at.0 at.1) other old.1) ∙ stays (now_in memory q) (thing named copy.0 copy.1) copy.2))
@@ -259,13 +259,13 @@ module _ (config : Config) (memory : Word → ℕ) (block : Plot) (owner : ℕ �
       (cases q (thing named at.0 at.1) at.2)
 
   -- where an address leads comes from where it led
-  now_from : (q : ℕ) (named : Name) → name_at (block q) ≡ Some named → (origin (now_in n q) ≡ now_in memory q) × (now_in n q ≢ address)
+  now_from : (q : ℕ) (named : Name) → name_at (block q) ≡ Some named → (origin (now_in memory_then q) ≡ now_in memory q) × (now_in memory_then q ≢ address)
   now_from q named is =
       let at = holds.pieces.named q named is in
       ⊎_elim
       (λ (same : q ≡ address). (
-        ap (λ k. origin (now_in n k)) same ∙ ap origin now_there ∙ origin_there ∙ sym now_here ∙ ap (now_in memory) (sym same),
-        λ back. elsewhere (sym (ap (now_in n) same ∙ now_there) ∙ back),
+        ap (λ k. origin (now_in memory_then k)) same ∙ ap origin now_there ∙ origin_there ∙ sym now_here ∙ ap (now_in memory) (sym same),
+        λ back. elsewhere (sym (ap (now_in memory_then) same ∙ now_there) ∙ back),
       ))
       (λ (other : q ≢ address).
       let now = now_else q (thing named at.0 at.1) other at.2 in (
@@ -274,16 +274,16 @@ module _ (config : Config) (memory : Word → ℕ) (block : Plot) (owner : ℕ �
       ))
       (cases_eq q address)
 
-  pub pin_same : (mutator index : ℕ) → n (Pin mutator index) ≡ memory (Pin mutator index)
+  pub pin_same : (mutator index : ℕ) → memory_then (Pin mutator index) ≡ memory (Pin mutator index)
   pin_same mutator index = word_same (Pin mutator index) (λ never. never)
 
-  carried : IsCarried config memory n block plot origin Lands
+  carried : IsCarried config memory memory_then block plot origin Lands
   carried = record {
-    plotted = subst (λ t. IsPlotted config t plot) (sym tops_are) (joined.plotted_more config top block r (memory (Top r)) other_piece joins);
+    plotted = subst (λ top. IsPlotted config top plot) (sym tops_are) (joined.plotted_more config top block r (memory (Top r)) other_piece joins);
     names = joined.names_stay config top block r (memory (Top r)) other_piece joins;
     current = current_again;
     now = λ q named is. (now_from q named is).0;
-    lands = λ q named is. (now_from q named is).1;
+    lands = λ address named is. (now_from address named is).1;
     one = λ y z out_y out_z same. ⊎_elim
         (λ (new_y : y ≡ to). ⊎_elim
         (λ (new_z : z ≡ to). new_y ∙ sym new_z)
@@ -294,26 +294,26 @@ module _ (config : Config) (memory : Word → ℕ) (block : Plot) (owner : ℕ �
         (λ (old_z : z ≢ to). sym (origin_else y old_y) ∙ same ∙ origin_else z old_z)
         (cases_eq z to))
         (cases_eq y to);
-    pieces = λ q more less named is. ⊎_elim
-        (λ (new : (q ≡ to) × (other_piece ≡ thing named more less)). ap (λ k. block (origin k)) new.0 ∙ ap block origin_there ∙ here ∙ ap Some new.1)
-        (λ (old : (q ≢ to) × (block q ≡ Some (thing named more less))). ap block (origin_else q old.0) ∙ old.1)
-        (cases q (thing named more less) is);
-    header = λ q more less named is away was. ⊎_elim
-        (λ (new : (q ≡ to) × (other_piece ≡ thing named more less)). ap after new.0 ∙ out.copied.header)
-        (λ (old : (q ≢ to) × (block q ≡ Some (thing named more less))).
-        header_stays q (thing named more less) away old.1 ∙ ap heap (sym (origin_else q old.0)) ∙ was)
-        (cases q (thing named more less) is);
+    pieces = λ address more less named is. ⊎_elim
+        (λ (new : (address ≡ to) × (other_piece ≡ thing named more less)). ap (λ k. block (origin k)) new.0 ∙ ap block origin_there ∙ here ∙ ap Some new.1)
+        (λ (old : (address ≢ to) × (block address ≡ Some (thing named more less))). ap block (origin_else address old.0) ∙ old.1)
+        (cases address (thing named more less) is);
+    header = λ address more less named is away was. ⊎_elim
+        (λ (new : (address ≡ to) × (other_piece ≡ thing named more less)). ap after new.0 ∙ out.copied.header)
+        (λ (old : (address ≢ to) × (block address ≡ Some (thing named more less))).
+        header_stays address (thing named more less) away old.1 ∙ ap heap (sym (origin_else address old.0)) ∙ was)
+        (cases address (thing named more less) is);
     words = λ q k more less named is away reads some below other. all_words q k more less named is away some below;
     fields = λ q i more less named is away few.
         let place : q + (3 + i) ≡ q + 3 + i = omega arith in
         let back : origin q + (3 + i) ≡ origin q + 3 + i = omega arith in
         not_renamed memory (heap (origin q + 3 + i)) (after (q + 3 + i))
         (sym (ap after place) ∙ all_words q (3 + i) more less named is away (omega arith) (omega (arith, few)) ∙ ap heap back);
-    roots = λ t i below few. not_renamed memory (memory (Root t i)) (n (Root t i)) (word_same (Root t i) (λ never. never));
-    pins = λ t i below few. pin_same t i;
-    pinned = λ t i below few named copy was. ap is_forwarded (header_stays (memory (Pin t i)) (thing named copy.0 copy.1) (unpinned t i below few) copy.2) ∙ was;
-    answers = λ t below. not_renamed memory (memory (Answer t)) (n (Answer t)) (word_same (Answer t) (λ never. never));
-    waits = λ t. word_same (Wait t) (λ never. never);
+    roots = λ mutator index below few. not_renamed memory (memory (Root mutator index)) (memory_then (Root mutator index)) (word_same (Root mutator index) (λ never. never));
+    pins = λ mutator index below few. pin_same mutator index;
+    pinned = λ mutator slot below few named copy was. ap is_forwarded (header_stays (memory (Pin mutator slot)) (thing named copy.0 copy.1) (unpinned mutator slot below few) copy.2) ∙ was;
+    answers = λ mutator below. not_renamed memory (memory (Answer mutator)) (memory_then (Answer mutator)) (word_same (Answer mutator) (λ never. never));
+    waits = λ mutator. word_same (Wait mutator) (λ never. never);
   }
     where
       all_words : (q k more less : ℕ) (named : Name) → plot q ≡ Some (thing named more less) → q ≢ address → 0 < k → k < 3 + more + less → after (q + k) ≡ heap (origin q + k)
@@ -325,27 +325,27 @@ module _ (config : Config) (memory : Word → ℕ) (block : Plot) (owner : ℕ �
           kept q k (thing named more less) away old.1 below ∙ ap (λ y. heap (y + k)) (sym (origin_else q old.0)))
           (cases q (thing named more less) is)
 
-  moved_again : (q more less : ℕ) (named : Name) → plot q ≡ Some (thing named more less) → is_forwarded (after q) ≡ true → HasMoved config n plot q more less named
+  moved_again : (q more less : ℕ) (named : Name) → plot q ≡ Some (thing named more less) → is_forwarded (after q) ≡ true → HasMoved config memory_then plot q more less named
   moved_again q more less named is forwarded = ⊎_elim
       (λ (new : (q ≡ to) × (other_piece ≡ thing named more less)).
       absurd (true≢false (sym forwarded ∙ ap (λ k. is_forwarded (after k)) new.0 ∙ ap is_forwarded out.copied.header)))
       (λ (old : (q ≢ to) × (block q ≡ Some (thing named more less))). ⊎_elim
       (λ (same : q ≡ address).
-      let now : now_in n q ≡ to = ap (now_in n) same ∙ now_there in
+      let now : now_in memory_then q ≡ to = ap (now_in memory_then) same ∙ now_there in
       record {
         in_set = subst (λ s. IsIn s (region_with config q)) (sym set_same) (subst (IsCollected config (memory Cset)) (sym same) inside);
         copy = ap plot now ∙ new_there ∙ sym here ∙ ap block (sym same) ∙ old.1;
-        outside = subst (λ k. IsOutside (n Cset) (region_with config k)) (sym now)
-            (subst (IsOutside (n Cset)) (sym region_is) (subst (λ s. IsOutside s r) (sym set_same) out.outside));
+        outside = subst (λ k. IsOutside (memory_then Cset) (region_with config k)) (sym now)
+            (subst (IsOutside (memory_then Cset)) (sym region_is) (subst (λ s. IsOutside s r) (sym set_same) out.outside));
         current = ap (λ k. is_forwarded (after k)) now ∙ ap is_forwarded out.copied.header;
       })
       (λ (other : q ≢ address).
       let was = holds.moved q more less named old.1 (ap is_forwarded (sym (header_stays q (thing named more less) other old.1)) ∙ forwarded) in
-      let now : now_in n q ≡ now_in memory q = now_else q (thing named more less) other old.1 in
+      let now : now_in memory_then q ≡ now_in memory q = now_else q (thing named more less) other old.1 in
       record {
         in_set = subst (λ s. IsIn s (region_with config q)) (sym set_same) was.in_set;
         copy = ap plot now ∙ stays (now_in memory q) (thing named more less) was.copy;
-        outside = subst (λ k. IsOutside (n Cset) (region_with config k)) (sym now) (subst (λ s. IsOutside s (region_with config (now_in memory q))) (sym set_same) was.outside);
+        outside = subst (λ k. IsOutside (memory_then Cset) (region_with config k)) (sym now) (subst (λ s. IsOutside s (region_with config (now_in memory q))) (sym set_same) was.outside);
         current = ap (λ k. is_forwarded (after k)) now
             ∙ ap is_forwarded (header_stays (now_in memory q) (thing named more less) (now_not_old q more less named other old.1) was.copy) ∙ was.current;
       })
@@ -353,141 +353,141 @@ module _ (config : Config) (memory : Word → ℕ) (block : Plot) (owner : ℕ �
       (cases q (thing named more less) is)
 
   -- a region that is free was, and is another
-  free_was : (region : ℕ) → region < config.regions → IsIn (n Free) region → (region ≢ r) × IsIn (memory Free) region
+  free_was : (region : ℕ) → region < config.regions → IsIn (memory_then Free) region → (region ≢ r) × IsIn (memory Free) region
   free_was region below is =
-      let differs : region ≢ r = λ same. (let member : bit_at (n Free) r ≡ 1 = subst (IsIn (n Free)) same is in let used = out.copied.in_use in omega (arith, member, used)) in
+      let differs : region ≢ r = λ same. (let member : bit_at (memory_then Free) r ≡ 1 = subst (IsIn (memory_then Free)) same is in let used = out.copied.in_use in omega (arith, member, used)) in
       (differs, sym (out.copied.others_free region below differs) ∙ is)
 
-  free_is : n Free ≡ bit_and (memory Free) (all_but r)
+  free_is : memory_then Free ≡ bit_and (memory Free) (all_but r)
   unfolding copied_to
   free_is = ap (λ (memory : Word → ℕ). memory Free) (copied_as config memory address r out.found)
 
-  free_again : IsFreeWord config (n Free) (λ q. n (Top q)) owner
+  free_again : IsFreeWord config (memory_then Free) (λ region. memory_then (Top region)) owner
   free_again = record {
     no_more = (let was = holds.free_word.no_more in let less = and_le_l (memory Free) (all_but r) in let is = free_is in omega (arith, was, less, is));
-    empty = λ q below is. let was = free_was q below is in top_same q was.0 ∙ holds.free_word.empty q below was.1;
+    empty = λ region below is. let was = free_was region below is in top_same region was.0 ∙ holds.free_word.empty region below was.1;
     nobodys = λ q below is. holds.free_word.nobodys q below (free_was q below is).1;
   }
 
   -- the shared region may be carved still, and buffers are as their words tell
-  share_again : ShareIsOpen config (n Share) (n Free) (n Cset) owner
+  share_again : ShareIsOpen config (memory_then Share) (memory_then Free) (memory_then Cset) owner
   share_again =
-      subst (λ s. ShareIsOpen config s (n Free) (n Cset) owner) (sym (word_same Share (λ never. never)))
-      (subst (λ f. ShareIsOpen config (memory Share) f (n Cset) owner) (sym free_is)
-      (subst (λ s. ShareIsOpen config (memory Share) (bit_and (memory Free) (all_but r)) s owner) (sym set_same) (share_stays config (memory Share) (memory Free) (memory Cset) r owner out.below holds.shared_one)))
+      subst (λ share. ShareIsOpen config share (memory_then Free) (memory_then Cset) owner) (sym (word_same Share (λ never. never)))
+      (subst (λ free. ShareIsOpen config (memory Share) free (memory_then Cset) owner) (sym free_is)
+      (subst (λ cset. ShareIsOpen config (memory Share) (bit_and (memory Free) (all_but r)) cset owner) (sym set_same) (share_stays config (memory Share) (memory Free) (memory Cset) r owner out.below holds.shared_one)))
 
-  rises : (region : ℕ) → top region ≤ n (Top region)
+  rises : (region : ℕ) → top region ≤ memory_then (Top region)
   rises region = ⊎_elim
-      (λ (same : region ≡ r). (let grown = out.copied.top in let at : n (Top region) ≡ n (Top r) = ap (λ k. n (Top k)) same in let was : memory (Top region) ≡ memory (Top r) = ap (λ k. memory (Top k)) same in omega (arith, grown, at, was)))
+      (λ (same : region ≡ r). (let grown = out.copied.top in let at : memory_then (Top region) ≡ memory_then (Top r) = ap (λ region. memory_then (Top region)) same in let was : memory (Top region) ≡ memory (Top r) = ap (λ region. memory (Top region)) same in omega (arith, grown, at, was)))
       (λ (other : region ≢ r). (let stays = top_same region other in omega (arith, stays)))
       (cases_eq region r)
 
-  buffers_again : AreBuffers config (λ q. n (Top q)) (λ s. n (Current s)) plot
-  buffers_again = subst (λ s. AreBuffers config (λ q. n (Top q)) s plot) (sym (fun_ext (λ s. word_same (Current s) (λ never. never))))
-      (buffers_stay config top (λ q. n (Top q)) (λ s. memory (Current s)) block plot (record { stays = λ q seat y room is. stays q y is; came = λ q seat y room is. room_was q seat y room is }) holds.buffers
+  buffers_again : AreBuffers config (λ region. memory_then (Top region)) (λ seat. memory_then (Current seat)) plot
+  buffers_again = subst (λ current. AreBuffers config (λ region. memory_then (Top region)) current plot) (sym (fun_ext (λ seat. word_same (Current seat) (λ never. never))))
+      (buffers_stay config top (λ region. memory_then (Top region)) (λ seat. memory (Current seat)) block plot (record { stays = λ address seat piece room is. stays address piece is; came = λ address seat piece room is. room_was address seat piece room is }) holds.buffers
       (λ seat some. rises (holds.buffers.each seat some).region))
 
-  pub copied_holds : HoldsBy config n plot owner promises graph
+  pub copied_holds : HoldsBy config memory_then plot owner promises graph
   copied_holds =
-      carried_holds config memory n block plot owner promises graph holds origin Lands carried moved_again
-      (subst (λ t. IsFilled config t plot) (sym tops_are) (joined.filled_more config top block r (memory (Top r)) other_piece joins holds.filled))
+      carried_holds config memory memory_then block plot owner promises graph holds origin Lands carried moved_again
+      (subst (λ top. IsFilled config top plot) (sym tops_are) (joined.filled_more config top block r (memory (Top r)) other_piece joins holds.filled))
       pieces_again free_again share_again buffers_again
 
-  pub copied_sized : AreSized memory block → AreSized n plot
+  pub copied_sized : AreSized memory block → AreSized memory_then plot
   copied_sized sized = record {
-    objects = λ q z is stands. ⊎_elim
-        (λ (new : (q ≡ to) × (other_piece ≡ z)).
+    objects = λ address piece is stands. ⊎_elim
+        (λ (new : (address ≡ to) × (other_piece ≡ piece)).
         ap (λ k. object_words (after (k + 1))) new.0 ∙ ap object_words (out.copied.words 1 (omega arith) (omega arith)) ∙ size ∙ ap words_of new.1)
-        (λ (old : (q ≢ to) × (block q ≡ Some z)).
-        let words = sized.objects q z old.1 stands in
-        ap object_words (shape_stays q z old.1 (omega (arith, words))) ∙ words)
-        (cases q z is);
-    headers = λ q z is stands. ⊎_elim
-        (λ (new : (q ≡ to) × (other_piece ≡ z)). ap (λ k. is_filler (after k)) new.0 ∙ ap is_filler out.copied.header)
-        (λ (old : (q ≢ to) × (block q ≡ Some z)). ⊎_elim
-        (λ (same : q ≡ address). ap (λ k. is_filler (after k)) same ∙ ap is_filler out.copied.forwarded ∙ forwarded_fills to)
-        (λ (other : q ≢ address). ap is_filler (header_stays q z other old.1) ∙ sized.headers q z old.1 stands)
-        (cases_eq q address))
-        (cases q z is);
-    fillers = λ q words is. ⊎_elim
-        (λ (new : (q ≡ to) × (other_piece ≡ filler words)). absurd (true≢false (sym (ap is_loose new.1) ∙ fixed)))
-        (λ (old : (q ≢ to) × (block q ≡ Some (filler words))).
-        header_stays q (filler words) (λ same. true≢false (ap is_loose (same_Some (filler words) other_piece (sym old.1 ∙ ap block same ∙ here)) ∙ fixed)) old.1 ∙ sized.fillers q words old.1)
-        (cases q (filler words) is);
+        (λ (old : (address ≢ to) × (block address ≡ Some piece)).
+        let words = sized.objects address piece old.1 stands in
+        ap object_words (shape_stays address piece old.1 (omega (arith, words))) ∙ words)
+        (cases address piece is);
+    headers = λ other_address piece is stands. ⊎_elim
+        (λ (new : (other_address ≡ to) × (other_piece ≡ piece)). ap (λ k. is_filler (after k)) new.0 ∙ ap is_filler out.copied.header)
+        (λ (old : (other_address ≢ to) × (block other_address ≡ Some piece)). ⊎_elim
+        (λ (same : other_address ≡ address). ap (λ k. is_filler (after k)) same ∙ ap is_filler out.copied.forwarded ∙ forwarded_fills to)
+        (λ (other : other_address ≢ address). ap is_filler (header_stays other_address piece other old.1) ∙ sized.headers other_address piece old.1 stands)
+        (cases_eq other_address address))
+        (cases other_address piece is);
+    fillers = λ address words is. ⊎_elim
+        (λ (new : (address ≡ to) × (other_piece ≡ filler words)). absurd (true≢false (sym (ap is_loose new.1) ∙ fixed)))
+        (λ (old : (address ≢ to) × (block address ≡ Some (filler words))).
+        header_stays address (filler words) (λ same. true≢false (ap is_loose (same_Some (filler words) other_piece (sym old.1 ∙ ap block same ∙ here)) ∙ fixed)) old.1 ∙ sized.fillers address words old.1)
+        (cases address (filler words) is);
   }
 
   -- what can be reached is the copy, or could be reached
-  reached_was : (y : ℕ) → CanBeReached config n y → (y ≡ to) ⊎ CanBeReached config memory y
+  reached_was : (y : ℕ) → CanBeReached config memory_then y → (y ≡ to) ⊎ CanBeReached config memory y
   reached_was y reached = ⊎_elim
       (λ (new : y ≡ to). inl new)
       (λ (old : y ≢ to).
-      let from = led_comes config memory n block plot owner promises graph holds origin Lands carried y reached in
+      let from = led_comes config memory memory_then block plot owner promises graph holds origin Lands carried y reached in
       inr (subst (CanBeReached config memory) (origin_else y old) from.led))
       (cases_eq y to)
 
-  pub black_same : (y : ℕ) → is_black config n y ≡ is_black config memory y
+  pub black_same : (y : ℕ) → is_black config memory_then y ≡ is_black config memory y
   black_same y = ap (λ k. nat_le config.region_words y && (bit_at k (mark_bit config y) == 1)) (word_same (Black (mark_word config y)) (λ never. never))
 
   -- and is kept still, for the copy is new
-  kept_still : ((region : ℕ) → region < config.regions → memory (Tams region) ≤ memory (Top region)) → (address : ℕ) → (address ≡ to) ⊎ IsKept config memory address → IsKept config n address
+  kept_still : ((region : ℕ) → region < config.regions → memory (Tams region) ≤ memory (Top region)) → (address : ℕ) → (address ≡ to) ⊎ IsKept config memory address → IsKept config memory_then address
   kept_still floors address is = ⊎_elim
       (λ (new : address ≡ to).
       let floor = floors r out.below in
-      let same : n (Tams r) ≡ memory (Tams r) = word_same (Tams r) (λ never. never) in
-      inr (subst (IsNew config n) (sym new) (subst (λ region. base_of config region + n (Tams region) ≤ to) (sym region_is) (omega (arith, floor, same)))))
+      let same : memory_then (Tams r) ≡ memory (Tams r) = word_same (Tams r) (λ never. never) in
+      inr (subst (IsNew config memory_then) (sym new) (subst (λ region. base_of config region + memory_then (Tams region) ≤ to) (sym region_is) (omega (arith, floor, same)))))
       (λ (old : IsKept config memory address). ⊎_elim
       (λ (black : is_black config memory address ≡ true). inl (black_same address ∙ black))
       (λ (fresh : IsNew config memory address).
-      inr (let same : n (Tams (region_with config address)) ≡ memory (Tams (region_with config address)) = word_same (Tams (region_with config address)) (λ never. never) in omega (arith, fresh, same)))
+      inr (let same : memory_then (Tams (region_with config address)) ≡ memory (Tams (region_with config address)) = word_same (Tams (region_with config address)) (λ never. never) in omega (arith, fresh, same)))
       old)
       is
 
   -- tops grow outside of the set alone
-  floors_still : ((region : ℕ) → region < config.regions → memory (Tams region) ≤ memory (Top region)) → (region : ℕ) → region < config.regions → n (Tams region) ≤ n (Top region)
+  floors_still : ((region : ℕ) → region < config.regions → memory (Tams region) ≤ memory (Top region)) → (region : ℕ) → region < config.regions → memory_then (Tams region) ≤ memory_then (Top region)
   floors_still floors region below =
-      let tams : n (Tams region) ≡ memory (Tams region) = word_same (Tams region) (λ never. never) in
+      let tams : memory_then (Tams region) ≡ memory (Tams region) = word_same (Tams region) (λ never. never) in
       let floor = floors region below in
       ⊎_elim
-      (λ (same : region ≡ r). (let grown = out.copied.top in let at : n (Top region) ≡ n (Top r) = ap (λ k. n (Top k)) same in let was : memory (Top region) ≡ memory (Top r) = ap (λ k. memory (Top k)) same in omega (arith, floor, grown, tams, at, was)))
+      (λ (same : region ≡ r). (let grown = out.copied.top in let at : memory_then (Top region) ≡ memory_then (Top r) = ap (λ region. memory_then (Top region)) same in let was : memory (Top region) ≡ memory (Top r) = ap (λ region. memory (Top region)) same in omega (arith, floor, grown, tams, at, was)))
       (λ (other : region ≢ r). (let stays = top_same region other in omega (arith, floor, stays, tams)))
       (cases_eq region r)
 
-  no_new_still : ((region : ℕ) → IsIn (memory Cset) region → memory (Top region) ≡ memory (Tams region)) → (region : ℕ) → IsIn (n Cset) region → n (Top region) ≡ n (Tams region)
+  no_new_still : ((region : ℕ) → IsIn (memory Cset) region → memory (Top region) ≡ memory (Tams region)) → (region : ℕ) → IsIn (memory_then Cset) region → memory_then (Top region) ≡ memory_then (Tams region)
   no_new_still no_new region is =
       let was : IsIn (memory Cset) region = subst (λ s. IsIn s region) set_same is in
       let other : region ≢ r = λ same. (let there : bit_at (memory Cset) r ≡ 1 = subst (IsIn (memory Cset)) same was in let away = out.outside in omega (arith, there, away)) in
       top_same region other ∙ no_new region was ∙ sym (word_same (Tams region) (λ never. never))
 
-  unseated_still : ((seat region : ℕ) → EndsIn config memory seat region → IsIn (memory Cset) region → ⊥) → (seat region : ℕ) → EndsIn config n seat region → IsIn (n Cset) region → ⊥
+  unseated_still : ((seat region : ℕ) → EndsIn config memory seat region → IsIn (memory Cset) region → ⊥) → (seat region : ℕ) → EndsIn config memory_then seat region → IsIn (memory_then Cset) region → ⊥
   unseated_still unseated seat region is member =
       unseated seat region (subst (λ k. (k ≢ 0) × IsOf config region (end_in k - 1)) (word_same (Current seat) (λ never. never)) is) (subst (λ s. IsIn s region) set_same member)
 
   -- room is young still
-  young_still : AreYoungRooms config (λ q. memory (Tams q)) block → AreYoungRooms config (λ q. n (Tams q)) plot
+  young_still : AreYoungRooms config (λ region. memory (Tams region)) block → AreYoungRooms config (λ region. memory_then (Tams region)) plot
   young_still young q seat y is room =
-      let same : n (Tams (region_with config q)) ≡ memory (Tams (region_with config q)) = word_same (Tams (region_with config q)) (λ never. never) in
+      let same : memory_then (Tams (region_with config q)) ≡ memory (Tams (region_with config q)) = word_same (Tams (region_with config q)) (λ never. never) in
       let was = young q seat y (room_was q seat y room is) room in
       omega (arith, was, same)
 
   -- the header of another piece stays, and the object's own leads on
-  pub header_same : (q : ℕ) (piece : Block) → q ≢ address → block q ≡ Some piece → n (Heap q) ≡ memory (Heap q)
+  pub header_same : (q : ℕ) (piece : Block) → q ≢ address → block q ≡ Some piece → memory_then (Heap q) ≡ memory (Heap q)
   header_same = header_stays
 
-  pub moved_now : is_forwarded (n (Heap address)) ≡ true
+  pub moved_now : is_forwarded (memory_then (Heap address)) ≡ true
   moved_now = ap is_forwarded out.copied.forwarded ∙ header_forwarded to
 
-  pub collected_same : (address : ℕ) → is_collected config n address ≡ is_collected config memory address
+  pub collected_same : (address : ℕ) → is_collected config memory_then address ≡ is_collected config memory address
   collected_same address = ap (λ k. nat_le config.region_words address && (bit_at k (region_with config address) == 1)) set_same
 
-  pub marked_still : AreMarkedObjects config memory block → AreMarkedObjects config n plot
+  pub marked_still : AreMarkedObjects config memory block → AreMarkedObjects config memory_then plot
   marked_still marked y collected black =
       let was = marked y (sym (collected_same y) ∙ collected) (sym (black_same y) ∙ black) in
       (was.0, stays y was.0 was.1, was.2)
 
-  pub order_still : IsInOrder config memory block → IsInOrder config n plot
+  pub order_still : IsInOrder config memory block → IsInOrder config memory_then plot
   order_still order = record {
     marked = marked_still order.marked;
-    reachable = λ y reached. kept_still order.floors y (⊎_elim (λ new. inl new) (λ old. inr (order.reachable y old)) (reached_was y reached));
+    reachable = λ address reached. kept_still order.floors address (⊎_elim (λ new. inl new) (λ old. inr (order.reachable address old)) (reached_was address reached));
     no_new = no_new_still order.no_new;
     floors = floors_still order.floors;
     unseated = unseated_still order.unseated;
@@ -495,7 +495,7 @@ module _ (config : Config) (memory : Word → ℕ) (block : Plot) (owner : ℕ �
   }
 
   -- so finishing the cycle still keeps the graph: the copy lies outside of the set
-  pub collecting_still : WhileCollecting config memory block → WhileCollecting config n plot
+  pub collecting_still : WhileCollecting config memory block → WhileCollecting config memory_then plot
   collecting_still while =
       let order = order_still (in_order config memory block while (some_set config (memory Cset) address inside)) in
       record {
@@ -506,13 +506,13 @@ module _ (config : Config) (memory : Word → ℕ) (block : Plot) (owner : ℕ �
         unseated = order.unseated;
         young = λ set. order.young;
         outside = λ off y reached member.
-            let was : IsCollected config (memory Cset) y = subst (λ s. IsCollected config s y) set_same member in
+            let was : IsCollected config (memory Cset) y = subst (λ cset. IsCollected config cset y) set_same member in
             ⊎_elim
             (λ (new : y ≡ to).
             let there : bit_at (memory Cset) r ≡ 1 = subst (IsIn (memory Cset)) (ap (region_with config) new ∙ region_is) was in
             let away = out.outside in
             absurd (omega (arith, there, away)))
             (λ (old : CanBeReached config memory y).
-            same_pinned config memory n pin_same (region_with config y) ∙ while.outside (λ two. off (word_same Phase (λ never. never) ∙ two)) y old was)
+            same_pinned config memory memory_then pin_same (region_with config y) ∙ while.outside (λ two. off (word_same Phase (λ never. never) ∙ two)) y old was)
             (reached_was y reached);
       }

@@ -27,10 +27,10 @@ evacuation_collects c m block owner p g holds sized marking seats =
     (can_begin c m block owner p g holds marking seats)
     (sized_alike m (final_marked c m) (freed_block c (dead_in c m) block) (λ a. refl) (freed_sized c (dead_in c m) m block sized))
     (ended_through c m block owner p g holds marking seats) (marked_object c m block owner p g holds marking seats)
-    (λ r below. floor_left (dead_in c m r) (m (Tams r)) (m (Top r)) (let same = (marking.marked.marking refl).tams_are r below in let low = marking.marked.floors r below in omega (arith, same, low)))
+    (λ region below. floor_left (dead_in c m region) (m (Tams region)) (m (Top region)) (let same = (marking.marked.marking refl).tams_are region below in let low = marking.marked.floors region below in omega (arith, same, low)))
     (λ a seat x is room.
     let was = piece_was c (dead_in c m) block a x is in
-    let at = below_top c (λ q. m (Top q)) block holds.objects.plotted a x was.1 (holds.pieces.some a x was.1) in
+    let at = below_top c (λ region. m (Top region)) block holds.objects.plotted a x was.1 (holds.pieces.some a x was.1) in
     let young = (marking.marked.marking refl).young a seat x was.1 room in
     let same = (marking.marked.marking refl).tams_are (region_with c a) at.0 in
     let low = lower (dead_in c m (region_with c a)) (m (Tams (region_with c a))) in

@@ -30,8 +30,8 @@ use Rattle.cycle_words.proofs.Evacuation.RegionAddresses.{some_words, from_base,
 use Rattle.cycle_words.proofs.Evacuation.Room.{served_least, some_room}
 
 module _ (config : Config) (memory : Word → ℕ) (set : ℕ) (objects : List ℕ) (to_copy : AreToCopy config memory set objects) where
-  abbrev w : ℕ
-  w = config.region_words
+  abbrev region_words : ℕ
+  region_words = config.region_words
 
   abbrev asked : ℕ → ℕ
   asked = words_by_turn memory objects
@@ -42,47 +42,47 @@ module _ (config : Config) (memory : Word → ℕ) (set : ℕ) (objects : List �
 
   -- the same by how far an address is from the first one
   abbrev by_address : ℕ → ℕ
-  by_address x = at_offset (x / w) (x % w)
+  by_address x = at_offset (x / region_words) (x % region_words)
 
   -- over all addresses these are what lives in the set
-  all_addresses : sum_below by_address (config.regions * w) ≡ live_in config.regions (live_words config memory) set
+  all_addresses : sum_below by_address (config.regions * region_words) ≡ live_in config.regions (live_words config memory) set
   all_addresses =
-      sum_in_rows by_address w config.regions
-      ∙ sum_same (λ r. sum_below (λ k. by_address (r * w + k)) w) (λ r. if bit_at set r == 1 then live_words config memory r else 0) config.regions
+      sum_in_rows by_address region_words config.regions
+      ∙ sum_same (λ r. sum_below (λ k. by_address (r * region_words + k)) region_words) (λ r. if bit_at set r == 1 then live_words config memory r else 0) config.regions
       (λ r _.
-      sum_same (λ k. by_address (r * w + k)) (at_offset r) w
-      (λ k inside. ap (λ q. at_offset q ((r * w + k) % w)) (div-mul-add r w k inside) ∙ ap (at_offset r) (mod-mul-add r w k inside))
-      ∙ sum_picked (bit_at set r == 1) (λ k. marked_words config memory (base_of config r + k)) w)
+      sum_same (λ k. by_address (r * region_words + k)) (at_offset r) region_words
+      (λ k inside. ap (λ q. at_offset q ((r * region_words + k) % region_words)) (div-mul-add r region_words k inside) ∙ ap (at_offset r) (mod-mul-add r region_words k inside))
+      ∙ sum_picked (bit_at set r == 1) (λ k. marked_words config memory (base_of config r + k)) region_words)
 
   object_is : (index : ℕ) → index < length objects → Contains objects (get_or objects index 0)
   object_is index below = Contains-get_or objects index 0 below
 
-  pub above_first : (a : ℕ) → is_black config memory a ≡ true → w ≤ a
-  above_first a is = leb-true w a (and_parts (nat_le w a) (bit_at (memory (Black (mark_word config a))) (mark_bit config a) == 1) is).0
+  pub above_first : (a : ℕ) → is_black config memory a ≡ true → region_words ≤ a
+  above_first a is = leb-true region_words a (and_parts (nat_le region_words a) (bit_at (memory (Black (mark_word config a))) (mark_bit config a) == 1) is).0
 
   -- the place of an object
-  placed : (index : ℕ) → index < length objects → IsPlace w config.regions (get_or objects index 0)
+  placed : (index : ℕ) → index < length objects → IsPlace region_words config.regions (get_or objects index 0)
   placed index below =
       let a = get_or objects index 0 in
-      place_of w config.regions a (some_words config) (above_first a (to_copy.marked a (object_is index below))) (to_copy.of_region a (object_is index below))
+      place_of region_words config.regions a (some_words config) (above_first a (to_copy.marked a (object_is index below))) (to_copy.of_region a (object_is index below))
 
   -- there its words are counted
-  counted_there : (index : ℕ) → index < length objects → asked index ≤ by_address (get_or objects index 0 - w)
+  counted_there : (index : ℕ) → index < length objects → asked index ≤ by_address (get_or objects index 0 - region_words)
   counted_there index below =
       let a = get_or objects index 0 in
       let place = placed index below in
-      let there : by_address (a - w) ≡ at_offset (region_with config a) (a % w) = ap (λ q. at_offset q ((a - w) % w)) place.row ∙ ap (at_offset (region_with config a)) place.offset in
-      let inside : at_offset (region_with config a) (a % w) ≡ marked_words config memory (base_of config (region_with config a) + a % w) =
-      cond-true (bit_at set (region_with config a) == 1) (marked_words config memory (base_of config (region_with config a) + a % w)) 0
+      let there : by_address (a - region_words) ≡ at_offset (region_with config a) (a % region_words) = ap (λ q. at_offset q ((a - region_words) % region_words)) place.row ∙ ap (at_offset (region_with config a)) place.offset in
+      let inside : at_offset (region_with config a) (a % region_words) ≡ marked_words config memory (base_of config (region_with config a) + a % region_words) =
+      cond-true (bit_at set (region_with config a) == 1) (marked_words config memory (base_of config (region_with config a) + a % region_words)) 0
       (eq-eqb (bit_at set (region_with config a)) 1 (to_copy.in_set a (object_is index below))) in
-      let here : marked_words config memory (base_of config (region_with config a) + a % w) ≡ marked_words config memory a = ap (marked_words config memory) (from_base w a (some_words config) (above_first a (to_copy.marked a (object_is index below)))) in
+      let here : marked_words config memory (base_of config (region_with config a) + a % region_words) ≡ marked_words config memory a = ap (marked_words config memory) (from_base region_words a (some_words config) (above_first a (to_copy.marked a (object_is index below)))) in
       let all : marked_words config memory a ≡ words_at memory a = cond-true (is_black config memory a) (words_at memory a) 0 (to_copy.marked a (object_is index below)) in
       omega (arith, there, inside, here, all)
 
   -- no object comes twice
-  once : (index k : ℕ) → index < length objects → k < length objects → get_or objects index 0 - w ≡ get_or objects k 0 - w → index ≡ k
+  once : (index other_index : ℕ) → index < length objects → other_index < length objects → get_or objects index 0 - region_words ≡ get_or objects other_index 0 - region_words → index ≡ other_index
   once other_index k inside below same =
-      let least : (index : ℕ) → index < length objects → w ≤ get_or objects index 0 = λ index less. above_first (get_or objects index 0) (to_copy.marked (get_or objects index 0) (object_is index less)) in
+      let least : (index : ℕ) → index < length objects → region_words ≤ get_or objects index 0 = λ index less. above_first (get_or objects index 0) (to_copy.marked (get_or objects index 0) (object_is index less)) in
       let one : get_or objects other_index 0 ≡ get_or objects k 0 = (let first = least other_index inside in let second = least k below in omega (arith, same, first, second)) in
       ⊎_elim
       (λ (is : other_index ≡ k). is)
@@ -95,41 +95,41 @@ module _ (config : Config) (memory : Word → ℕ) (set : ℕ) (objects : List �
   -- all objects have together at most what lives in the set
   pub objects_live : sum_below asked (length objects) ≤ live_in config.regions (live_words config memory) set
   objects_live =
-      let least = sum_of_things asked by_address (length objects) (config.regions * w)
-      (λ k below some. (get_or objects k 0 - w, (placed k below).below, counted_there k below))
-      (λ j k inside _ below _ same. once j k inside below same) in
+      let least = sum_of_things asked by_address (length objects) (config.regions * region_words)
+      (λ index below some. (get_or objects index 0 - region_words, (placed index below).below, counted_there index below))
+      (λ index k inside _ below _ same. once index k inside below same) in
       omega (arith, least, all_addresses)
 
   module _ (fits : live_in config.regions (live_words config memory) set ≤ copy_limit config memory)
       (apart : (r : ℕ) → IsIn (memory Free) r → IsIn set r → ⊥) (empty : FreeAreEmpty config memory) where
     abbrev start : ℕ → ℕ
-    start = tops_outside w set (λ r. memory (Top r))
+    start = tops_outside region_words set (λ region. memory (Top region))
 
     -- a free region is outside the set, and so empty
     free_start : (region : ℕ) → region < config.regions → IsIn (memory Free) region → start region ≡ 0
     free_start region below free =
-        cond-false (bit_at set region == 1) w (memory (Top region)) (ne_eqb (bit_at set region) 1 (λ member. apart region free member)) ∙ empty region below free
+        cond-false (bit_at set region == 1) region_words (memory (Top region)) (ne_eqb (bit_at set region) 1 (λ member. apart region free member)) ∙ empty region below free
 
     -- a region of the set has no room
-    outside_if_room : (turn region n : ℕ) → 0 < n → tops_after_copies config memory set objects turn region + n ≤ w → IsOutside set region
-    outside_if_room turn region n some room = ⊎_elim
+    outside_if_room : (turn region n : ℕ) → 0 < n → tops_after_copies config memory set objects turn region + n ≤ region_words → IsOutside set region
+    outside_if_room turn region n positive room = ⊎_elim
         (λ (member : bit_at set region ≡ 1).
-        let full : start region ≡ w = cond-true (bit_at set region == 1) w (memory (Top region)) (eq-eqb (bit_at set region) 1 member) in
-        let least = served_least w config.regions asked start turn region in
-        absurd (omega (arith, full, least, room, some)))
+        let full : start region ≡ region_words = cond-true (bit_at set region == 1) region_words (memory (Top region)) (eq-eqb (bit_at set region) 1 member) in
+        let least = served_least region_words config.regions asked start turn region in
+        absurd (omega (arith, full, least, room, positive)))
         (λ (other : bit_at set region ≢ 1). omega (arith, other, bit_at-lt set region))
         (cases_eq (bit_at set region) 1)
 
-    found_or_not : (turn : ℕ) (found : Option ℕ) → room_at_turn w config.regions asked start turn ≡ found
-        → (room_at_turn w config.regions asked start turn ≡ None → ⊥) → FindsRoom config memory set objects turn
+    found_or_not : (turn : ℕ) (found : Option ℕ) → room_at_turn region_words config.regions asked start turn ≡ found
+        → (room_at_turn region_words config.regions asked start turn ≡ None → ⊥) → FindsRoom config memory set objects turn
     found_or_not turn None is some = absurd (some is)
-    found_or_not turn (Some r) is some =
-        let lowest = has_room w (tops_after_copies config memory set objects turn) (asked turn) config.regions r is in
+    found_or_not turn (Some region) is some =
+        let lowest = has_room region_words (tops_after_copies config memory set objects turn) (asked turn) config.regions region is in
         record {
-          region = r;
+          region = region;
           found = is;
           below = lowest.below;
-          outside = outside_if_room turn r (asked turn) (omega arith) lowest.room;
+          outside = outside_if_room turn region (asked turn) (omega arith) lowest.room;
           room = lowest.room;
           none_lower = lowest.none_lower;
         }
@@ -139,8 +139,8 @@ module _ (config : Config) (memory : Word → ℕ) (set : ℕ) (objects : List �
         let range = config.in_range in
         let grown = sum_grows asked (suc turn) (length objects) (omega (arith, below)) in
         let within : sum_below asked turn + asked turn ≤ copy_limit config memory = omega (arith, grown, sum_next asked turn, objects_live, fits) in
-        found_or_not turn (room_at_turn w config.regions asked start turn) refl
-        (some_room w config.regions asked start (memory Free) free_start turn (omega arith) (to_copy.short (get_or objects turn 0) (object_is turn below)) (omega (arith, range.least_words)) within)
+        found_or_not turn (room_at_turn region_words config.regions asked start turn) refl
+        (some_room region_words config.regions asked start (memory Free) free_start turn (omega arith) (to_copy.short (get_or objects turn 0) (object_is turn below)) (omega (arith, range.least_words)) within)
 
 -- what is chosen fits, and has no free region
 pub room_is_found : RoomIsFound

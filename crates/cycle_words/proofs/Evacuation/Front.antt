@@ -49,9 +49,9 @@ module _ (regions limit : ℕ) (live : ℕ → ℕ) (candidate : ℕ → Bool) w
   up_to_grows : (q r : ℕ) → ComesBefore live q r → up_to q ≤ up_to r
   up_to_grows q r before =
       sum_at_most (λ k. if counts q k then live k else 0) (λ k. if counts r k then live k else 0) regions
-      (λ k _. picked_at_most (counts q k) (counts r k) (live k) (λ is.
-      let was = counted_is q k is in
-      counted r k was.0 (λ behind. was.1 (before_through live q r k before behind))))
+      (λ region _. picked_at_most (counts q region) (counts r region) (live region) (λ is.
+      let was = counted_is q region is in
+      counted r region was.0 (λ behind. was.1 (before_through live q r region before behind))))
 
   -- the members of the front
   pub put_in_front : (region : ℕ) → region < regions → in_front region ≡ true → IsIn front region
@@ -92,9 +92,9 @@ module _ (regions limit : ℕ) (live : ℕ → ℕ) (candidate : ℕ → Bool) w
       (λ (found : (m : ℕ) × IsLast live in_front regions m).
       let m = found.0 in
       let most = sum_at_most (λ k. if bit_at front k == 1 then live k else 0) (λ k. if counts m k then live k else 0) regions
-      (λ k below. picked_at_most (bit_at front k == 1) (counts m k) (live k) (λ is.
-      let there = from_front k (eqb-true (bit_at front k) 1 is) in
-      counted m k (and_parts (candidate k) (nat_le (up_to k) limit) there.1).0 (λ behind. found.1.last k below there.1 behind))) in
+      (λ region below. picked_at_most (bit_at front region == 1) (counts m region) (live region) (λ is.
+      let there = from_front region (eqb-true (bit_at front region) 1 is) in
+      counted m region (and_parts (candidate region) (nat_le (up_to region) limit) there.1).0 (λ behind. found.1.last region below there.1 behind))) in
       let within = leb-true (up_to m) limit (and_parts (candidate m) (nat_le (up_to m) limit) found.1.is).1 in
       omega (arith, most, within))
       (last_or_none live in_front regions)
@@ -102,7 +102,7 @@ module _ (regions limit : ℕ) (live : ℕ → ℕ) (candidate : ℕ → Bool) w
   pub front_is : IsFront regions limit live candidate front
   front_is = record {
     in_heap = bits_small in_front 0 regions;
-    candidates = λ r is. (member_is r is).1;
+    candidates = λ region is. (member_is region is).1;
     from_front = λ q r below is before member.
         member_from q below is (let grows = up_to_grows q r before in let fits = (member_is r member).2 in omega (arith, grows, fits));
     fits = front_fits;
@@ -113,15 +113,15 @@ module _ (regions limit : ℕ) (live : ℕ → ℕ) (candidate : ℕ → Bool) w
   longest other is region member = ⊎_elim
       (λ (below : region < regions).
       let least = sum_at_most (λ k. if counts region k then live k else 0) (λ k. if bit_at other k == 1 then live k else 0) regions
-      (λ k inside. picked_at_most (counts region k) (bit_at other k == 1) (live k) (λ counts_here.
-      let was = counted_is region k counts_here in
-      eq-eqb (bit_at other k) 1 (⊎_elim
-      (λ (same : region ≡ k). subst (IsIn other) same member)
-      (λ (order : ComesBefore live region k ⊎ ComesBefore live k region). ⊎_elim
-      (λ (behind : ComesBefore live region k). absurd (was.1 behind))
-      (λ (ahead : ComesBefore live k region). is.from_front k region inside was.0 ahead member)
+      (λ other_region inside. picked_at_most (counts region other_region) (bit_at other other_region == 1) (live other_region) (λ counts_here.
+      let was = counted_is region other_region counts_here in
+      eq-eqb (bit_at other other_region) 1 (⊎_elim
+      (λ (same : region ≡ other_region). subst (IsIn other) same member)
+      (λ (order : ComesBefore live region other_region ⊎ ComesBefore live other_region region). ⊎_elim
+      (λ (behind : ComesBefore live region other_region). absurd (was.1 behind))
+      (λ (ahead : ComesBefore live other_region region). is.from_front other_region region inside was.0 ahead member)
       order)
-      (one_before live region k)))) in
+      (one_before live region other_region)))) in
       member_from region below (is.candidates region member) (omega (arith, least, is.fits)))
       (λ (above : regions ≤ region). absurd (omega (arith, member, bit_at_above other regions region is.in_heap above)))
       (cases_lt region regions)

@@ -18,8 +18,8 @@ not_same place word naming other = false_from_ne_true (same_word place word) (λ
 pub copied_naming : (config : Config) (memory : Word → ℕ) (a : ℕ) (found : Option ℕ) (place : Word) → IsNaming place → copied_in config memory a found place ≡ memory place
 unfolding copied_to
 copied_naming config memory a None place naming = refl
-copied_naming config memory a (Some r) (Root t i) naming = refl
-copied_naming config memory a (Some r) (Answer t) naming = refl
+copied_naming config memory a (Some r) (Root mutator index) naming = refl
+copied_naming config memory a (Some r) (Answer mutator) naming = refl
 copied_naming config memory a (Some r) place naming = absurd naming
 
 -- the parts of a list, and what is in it
@@ -56,6 +56,6 @@ places_name config place has = ⊎_elim
 
 -- a collection set changes nothing else
 pub set_apart : (memory : Word → ℕ) (set : ℕ) (place : Word) → IsNaming place → with_set memory set place ≡ memory place
-set_apart memory set (Root t i) naming = refl
-set_apart memory set (Answer t) naming = refl
+set_apart memory set (Root mutator index) naming = refl
+set_apart memory set (Answer mutator) naming = refl
 set_apart memory set place naming = absurd naming

@@ -11,8 +11,8 @@ use Rattle.cycle_words.specs.Evacuation.Begun.{root_places, naming_places}
 
 -- a root or an answer of a mutator
 abbrev pub IsPlace : Config → Word → Type 0
-IsPlace config (Root t i) = (t < config.mutators) × (i < 16)
-IsPlace config (Answer t) = t < config.mutators
+IsPlace config (Root mutator index) = (mutator < config.mutators) × (index < 16)
+IsPlace config (Answer mutator) = mutator < config.mutators
 IsPlace config word = ⊥
 
 -- what is in a row, and that it is
@@ -32,12 +32,12 @@ in_rows (suc mutator) place has = ⊎_elim
     (Contains-append_cases (root_places mutator) (map (Root mutator) (range_with_len 0 16)) place has)
 
 rows_have : (mutators mutator index : ℕ) → mutator < mutators → index < 16 → Contains (root_places mutators) (Root mutator index)
-rows_have zero mutator index inside few = absurd (omega (arith, inside))
-rows_have (suc k) mutator index inside few = ⊎_elim
+rows_have zero mutator index inside below = absurd (omega (arith, inside))
+rows_have (suc k) mutator index inside below = ⊎_elim
     (λ (last : mutator ≡ k).
     Contains-append_right (root_places k) (map (Root k) (range_with_len 0 16)) (Root mutator index)
-    (subst (λ u. Contains (map (Root k) (range_with_len 0 16)) (Root u index)) (sym last) (row_has (Root k) 16 index few)))
-    (λ (earlier : mutator ≢ k). Contains-append_left (root_places k) (map (Root k) (range_with_len 0 16)) (Root mutator index) (rows_have k mutator index (omega (arith, inside, earlier)) few))
+    (subst (λ mutator. Contains (map (Root k) (range_with_len 0 16)) (Root mutator index)) (sym last) (row_has (Root k) 16 index below)))
+    (λ (earlier : mutator ≢ k). Contains-append_left (root_places k) (map (Root k) (range_with_len 0 16)) (Root mutator index) (rows_have k mutator index (omega (arith, inside, earlier)) below))
     (cases_eq mutator k)
 
 -- so the list has these and no others
@@ -48,6 +48,6 @@ are_places config place has = ⊎_elim
     (Contains-append_cases (root_places config.mutators) (map Answer (range_with_len 0 config.mutators)) place has)
 
 pub places_have : (config : Config) (place : Word) → IsPlace config place → Contains (naming_places config) place
-places_have config (Root t i) at = Contains-append_left (root_places config.mutators) (map Answer (range_with_len 0 config.mutators)) (Root t i) (rows_have config.mutators t i at.0 at.1)
-places_have config (Answer t) at = Contains-append_right (root_places config.mutators) (map Answer (range_with_len 0 config.mutators)) (Answer t) (row_has Answer config.mutators t at)
-places_have config _ at = absurd at
+places_have config (Root mutator index) place = Contains-append_left (root_places config.mutators) (map Answer (range_with_len 0 config.mutators)) (Root mutator index) (rows_have config.mutators mutator index place.0 place.1)
+places_have config (Answer mutator) place = Contains-append_right (root_places config.mutators) (map Answer (range_with_len 0 config.mutators)) (Answer mutator) (row_has Answer config.mutators mutator place)
+places_have config _ place = absurd place

@@ -8,11 +8,11 @@ use Rattle.regions.specs.Place.{base_of, region_with, IsOf}
 
 -- how far an address is from the base of its region
 pub from_base : (w a : ℕ) → 0 < w → w ≤ a → (a / w - 1 + 1) * w + a % w ≡ a
-from_base w a some above = ⊎_elim
+from_base w a positive above = ⊎_elim
     (λ (none : a / w < 1).
     let zero_row : a / w ≡ 0 = omega (arith, none) in
     let row : a / w * w ≡ 0 * w = ap (λ k. k * w) zero_row in
-    absurd (omega (arith, row, above, div-add-mod' a w, mod_below a w some)))
+    absurd (omega (arith, row, above, div-add-mod' a w, mod_below a w positive)))
     (λ (least : 1 ≤ a / w).
     let next : a / w - 1 + 1 ≡ a / w = omega (arith, least) in
     let row : (a / w - 1 + 1) * w ≡ a / w * w = ap (λ k. k * w) next in
@@ -26,15 +26,15 @@ pub record IsPlace (w regions a : ℕ) : Type 0 where
   pub below : a - w < regions * w
 
 pub place_of : (w regions a : ℕ) → 0 < w → w ≤ a → a / w - 1 < regions → IsPlace w regions a
-place_of w regions a some above inside =
+place_of w regions a positive above inside =
     let q = a / w - 1 in
-    let again = from_base w a some above in
+    let again = from_base w a positive above in
     let from_first : a - w ≡ q * w + a % w = omega (arith, again) in
     let rows = mul-le (q + 1) w regions w (omega (arith, inside)) (omega arith) in
     record {
-      row = ap (λ k. k / w) from_first ∙ div-mul-add q w (a % w) (mod_below a w some);
-      offset = ap (λ k. k % w) from_first ∙ mod-mul-add q w (a % w) (mod_below a w some);
-      below = omega (arith, from_first, rows, mod_below a w some);
+      row = ap (λ k. k / w) from_first ∙ div-mul-add q w (a % w) (mod_below a w positive);
+      offset = ap (λ k. k % w) from_first ∙ mod-mul-add q w (a % w) (mod_below a w positive);
+      below = omega (arith, from_first, rows, mod_below a w positive);
     }
 
 module _ (config : Config) where
@@ -48,12 +48,12 @@ module _ (config : Config) where
       record { from = omega (arith, again); before = omega (arith, again, inside) }
 
   -- addresses of two regions lie apart
-  pub regions_apart : (region other_region x from n : ℕ) → region ≢ other_region → IsOf config region x → base_of config other_region ≤ from → from + n ≤ base_of config other_region + config.region_words → (x < from) ⊎ (from + n ≤ x)
-  regions_apart region other_region x from n differ of low high =
+  pub regions_apart : (region other_region address from n : ℕ) → region ≢ other_region → IsOf config region address → base_of config other_region ≤ from → from + n ≤ base_of config other_region + config.region_words → (address < from) ⊎ (from + n ≤ address)
+  regions_apart region other_region address from n differ is_of low high =
       ⊎_elim
       (λ (same : region ≡ other_region). absurd (differ same))
       (λ (apart : (region * config.region_words + config.region_words ≤ other_region * config.region_words) ⊎ (other_region * config.region_words + config.region_words ≤ region * config.region_words)). ⊎_elim
-      (λ (lower : region * config.region_words + config.region_words ≤ other_region * config.region_words). inl (omega (arith, lower, of.before, low)))
-      (λ (higher : other_region * config.region_words + config.region_words ≤ region * config.region_words). inr (omega (arith, higher, of.from, high)))
+      (λ (lower : region * config.region_words + config.region_words ≤ other_region * config.region_words). inl (omega (arith, lower, is_of.before, low)))
+      (λ (higher : other_region * config.region_words + config.region_words ≤ region * config.region_words). inr (omega (arith, higher, is_of.from, high)))
       apart)
       (rows_apart config.region_words region other_region)

@@ -2,10 +2,10 @@
 use Rattle.std.proofs.Common.{◌≡◌, ℕ, ◌+◌, ◌<◌, ◌≤◌, ◌⊎◌, ◌==◌, ◌&&◌, true, false, Option, Some, refl, sym, ap, ◌∙◌, subst, ⊎_elim}
 use Rattle.std.proofs.Math.Path.{fun_ext}
 use Rattle.std.proofs.lemmas.Bool.{cases_Bool, cond-true, cond-false, eqb-true}
+use Rattle.heap_words.proofs.Bools.{both_equal}
 use Rattle.heap_words.specs.declared.config.Config.{Config}
 use Rattle.heap_words.specs.Words.{Word, Cset, Free, Top, Current, Root, Wait, Answer, Heap, Share, Pin, write}
 use Rattle.heap_words.specs.Encoding.{is_forwarded, refs_in}
-use Rattle.heap_words.proofs.Stores.{both_equal}
 use Rattle.regions.specs.Place.{region_with}
 use Rattle.regions.specs.Sets.{IsIn, IsOutside}
 use Rattle.shen_graph.specs.declared.name.Name.{Name}
@@ -33,12 +33,12 @@ pub record IsRenaming (config : Config) (memory other_memory : Word → ℕ) (bl
   pub share : other_memory Share ≡ memory Share
   pub pins : (mutator index : ℕ) → other_memory (Pin mutator index) ≡ memory (Pin mutator index)
 
-module _ (config : Config) (memory other_memory : Word → ℕ) (block : Plot) (owner : ℕ → Option ℕ) (promises : Promises) (graph : Graph) (holds : HoldsBy config memory block owner promises graph) (is : IsRenaming config memory other_memory block) where
-  tops_are : ◌≡◌ {A = ℕ → ℕ} (λ r. other_memory (Top r)) (λ r. memory (Top r))
+module _ (config : Config) (memory next_memory : Word → ℕ) (block : Plot) (owner : ℕ → Option ℕ) (promises : Promises) (graph : Graph) (holds : HoldsBy config memory block owner promises graph) (is : IsRenaming config memory next_memory block) where
+  tops_are : ◌≡◌ {A = ℕ → ℕ} (λ region. next_memory (Top region)) (λ region. memory (Top region))
   tops_are = fun_ext is.tops
 
-  now_again : (address : ℕ) (name : Name) → name_at (block address) ≡ Some name → now_in other_memory address ≡ now_in memory address
-  now_again address name named = let at = holds.pieces.named address name named in now_same other_memory memory address (is.headers address at.0 at.1 name at.2)
+  now_again : (address : ℕ) (name : Name) → name_at (block address) ≡ Some name → now_in next_memory address ≡ now_in memory address
+  now_again address name named = let at = holds.pieces.named address name named in now_same next_memory memory address (is.headers address at.0 at.1 name at.2)
 
   abbrev same_place : ℕ → ℕ
   same_place x = x
@@ -46,69 +46,69 @@ module _ (config : Config) (memory other_memory : Word → ℕ) (block : Plot) (
   abbrev Anywhere : ℕ → Type 0
   Anywhere x = Unit {0}
 
-  carried : IsCarried config memory other_memory block block same_place Anywhere
+  carried : IsCarried config memory next_memory block block same_place Anywhere
   carried = record {
-    plotted = subst (λ t. IsPlotted config t block) (sym tops_are) holds.objects.plotted;
+    plotted = subst (λ top. IsPlotted config top block) (sym tops_are) holds.objects.plotted;
     names = λ v name named. named;
-    current = λ v name named. let copy = holds.objects.current v name named in (copy.0, copy.1, ap block (now_again v name named) ∙ copy.2);
+    current = λ address name named. let copy = holds.objects.current address name named in (copy.0, copy.1, ap block (now_again address name named) ∙ copy.2);
     now = now_again;
-    lands = λ v name named. tt;
+    lands = λ address name named. tt;
     one = λ x y at_x at_y same. same;
     pieces = λ x refs nums name here. here;
-    header = λ x refs nums name here at was. is.headers x refs nums name here ∙ was;
+    header = λ address refs nums name here at was. is.headers address refs nums name here ∙ was;
     words = λ x k refs nums name here at reads some below other. is.words x k refs nums name here reads below other;
     fields = λ x i refs nums name here at few. is.fields x i refs nums name here few;
     roots = is.roots;
     answers = is.answers;
     pins = λ t i inside few. is.pins t i;
-    pinned = λ t i inside few name copy was. ap is_forwarded (is.headers (memory (Pin t i)) copy.0 copy.1 name copy.2) ∙ was;
+    pinned = λ mutator slot inside few name copy was. ap is_forwarded (is.headers (memory (Pin mutator slot)) copy.0 copy.1 name copy.2) ∙ was;
     waits = is.waits;
   }
 
-  moved_again : (address refs nums : ℕ) (name : Name) → block address ≡ Some (thing name refs nums) → is_forwarded (other_memory (Heap address)) ≡ true → HasMoved config other_memory block address refs nums name
+  moved_again : (address refs nums : ℕ) (name : Name) → block address ≡ Some (thing name refs nums) → is_forwarded (next_memory (Heap address)) ≡ true → HasMoved config next_memory block address refs nums name
   moved_again address refs nums name here forwarded =
       let was = holds.moved address refs nums name here (ap is_forwarded (sym (is.headers address refs nums name here)) ∙ forwarded) in
       let now = now_again address name (ap name_at here) in
       record {
         in_set = subst (λ s. IsIn s (region_with config address)) (sym is.cset) was.in_set;
         copy = ap block now ∙ was.copy;
-        outside = subst (λ k. IsOutside (other_memory Cset) (region_with config k)) (sym now) (subst (λ s. IsOutside s (region_with config (now_in memory address))) (sym is.cset) was.outside);
-        current = ap (λ k. is_forwarded (other_memory (Heap k))) now ∙ ap is_forwarded (is.headers (now_in memory address) refs nums name was.copy) ∙ was.current;
+        outside = subst (λ k. IsOutside (next_memory Cset) (region_with config k)) (sym now) (subst (λ s. IsOutside s (region_with config (now_in memory address))) (sym is.cset) was.outside);
+        current = ap (λ address. is_forwarded (next_memory (Heap address))) now ∙ ap is_forwarded (is.headers (now_in memory address) refs nums name was.copy) ∙ was.current;
       }
 
-  pub renamed_holds : HoldsBy config other_memory block owner promises graph
+  pub renamed_holds : HoldsBy config next_memory block owner promises graph
   renamed_holds =
-      carried_holds config memory other_memory block block owner promises graph holds same_place Anywhere carried moved_again
-      (subst (λ t. IsFilled config t block) (sym tops_are) holds.filled) holds.pieces
-      (subst (λ t. IsFreeWord config (other_memory Free) t owner) (sym tops_are) (subst (λ f. IsFreeWord config f (λ r. memory (Top r)) owner) (sym is.free) holds.free_word))
-      (subst (λ s. ShareIsOpen config s (other_memory Free) (other_memory Cset) owner) (sym is.share)
-      (subst (λ f. ShareIsOpen config (memory Share) f (other_memory Cset) owner) (sym is.free) (subst (λ s. ShareIsOpen config (memory Share) (memory Free) s owner) (sym is.cset) holds.shared_one)))
-      (subst (λ t. AreBuffers config t (λ s. other_memory (Current s)) block) (sym tops_are) (subst (λ s. AreBuffers config (λ r. memory (Top r)) s block) (sym (fun_ext is.currents)) holds.buffers))
+      carried_holds config memory next_memory block block owner promises graph holds same_place Anywhere carried moved_again
+      (subst (λ top. IsFilled config top block) (sym tops_are) holds.filled) holds.pieces
+      (subst (λ top. IsFreeWord config (next_memory Free) top owner) (sym tops_are) (subst (λ free. IsFreeWord config free (λ region. memory (Top region)) owner) (sym is.free) holds.free_word))
+      (subst (λ share. ShareIsOpen config share (next_memory Free) (next_memory Cset) owner) (sym is.share)
+      (subst (λ free. ShareIsOpen config (memory Share) free (next_memory Cset) owner) (sym is.free) (subst (λ cset. ShareIsOpen config (memory Share) (memory Free) cset owner) (sym is.cset) holds.shared_one)))
+      (subst (λ top. AreBuffers config top (λ seat. next_memory (Current seat)) block) (sym tops_are) (subst (λ current. AreBuffers config (λ region. memory (Top region)) current block) (sym (fun_ext is.currents)) holds.buffers))
 
   -- what can be reached could be
-  pub reached_was : (x : ℕ) → CanBeReached config other_memory x → CanBeReached config memory x
-  reached_was x reached = (led_comes config memory other_memory block block owner promises graph holds same_place Anywhere carried x reached).led
+  pub reached_was : (x : ℕ) → CanBeReached config next_memory x → CanBeReached config memory x
+  reached_was x reached = (led_comes config memory next_memory block block owner promises graph holds same_place Anywhere carried x reached).led
 
 -- A root is renamed, or an answer.
 module _ (config : Config) (memory : Word → ℕ) (block : Plot) (owner : ℕ → Option ℕ) (promises : Promises) (graph : Graph) (holds : HoldsBy config memory block owner promises graph) (v : ℕ) where
   root_renaming : (mutator index : ℕ) → IsRenamed memory (memory (Root mutator index)) v → IsRenaming config memory (write memory (Root mutator index) v) block
   root_renaming mutator index renamed = record {
-    headers = λ a refs nums name here. refl;
+    headers = λ address refs nums name here. refl;
     words = λ a k refs nums name here reads below other. refl;
     fields = λ a j refs nums name here few. not_renamed memory (memory (Heap (a + 3 + j))) (memory (Heap (a + 3 + j))) refl;
-    roots = λ u j inside few. ⊎_elim
-        (λ (same : ((mutator == u) && (index == j)) ≡ true).
-        let both = both_equal mutator u index j same in
-        let place : memory (Root mutator index) ≡ memory (Root u j) = ap (λ k. memory (Root k index)) both.0 ∙ ap (λ k. memory (Root u k)) both.1 in
-        subst (λ w. IsRenamed memory (memory (Root u j)) w) (sym (cond-true ((mutator == u) && (index == j)) v (memory (Root u j)) same)) (subst (λ k. IsRenamed memory k v) place renamed))
-        (λ (other : ((mutator == u) && (index == j)) ≡ false). not_renamed memory (memory (Root u j)) (write memory (Root mutator index) v (Root u j)) (cond-false ((mutator == u) && (index == j)) v (memory (Root u j)) other))
-        (cases_Bool ((mutator == u) && (index == j)));
-    answers = λ u inside. not_renamed memory (memory (Answer u)) (memory (Answer u)) refl;
+    roots = λ other_mutator other_index inside few. ⊎_elim
+        (λ (same : ((mutator == other_mutator) && (index == other_index)) ≡ true).
+        let both = both_equal mutator other_mutator index other_index same in
+        let place : memory (Root mutator index) ≡ memory (Root other_mutator other_index) = ap (λ mutator. memory (Root mutator index)) both.0 ∙ ap (λ index. memory (Root other_mutator index)) both.1 in
+        subst (λ w. IsRenamed memory (memory (Root other_mutator other_index)) w) (sym (cond-true ((mutator == other_mutator) && (index == other_index)) v (memory (Root other_mutator other_index)) same)) (subst (λ k. IsRenamed memory k v) place renamed))
+        (λ (other : ((mutator == other_mutator) && (index == other_index)) ≡ false). not_renamed memory (memory (Root other_mutator other_index)) (write memory (Root mutator index) v (Root other_mutator other_index)) (cond-false ((mutator == other_mutator) && (index == other_index)) v (memory (Root other_mutator other_index)) other))
+        (cases_Bool ((mutator == other_mutator) && (index == other_index)));
+    answers = λ mutator inside. not_renamed memory (memory (Answer mutator)) (memory (Answer mutator)) refl;
     waits = λ u. refl;
     tops = λ r. refl;
     free = refl;
     cset = refl;
-    currents = λ s. refl;
+    currents = λ seat. refl;
     share = refl;
     pins = λ mutator index. refl;
   }
@@ -121,21 +121,21 @@ module _ (config : Config) (memory : Word → ℕ) (block : Plot) (owner : ℕ �
 
   answer_renaming : (mutator : ℕ) → IsRenamed memory (memory (Answer mutator)) v → IsRenaming config memory (write memory (Answer mutator) v) block
   answer_renaming mutator renamed = record {
-    headers = λ a refs nums name here. refl;
+    headers = λ address refs nums name here. refl;
     words = λ a k refs nums name here reads below other. refl;
     fields = λ a j refs nums name here few. not_renamed memory (memory (Heap (a + 3 + j))) (memory (Heap (a + 3 + j))) refl;
-    roots = λ u j inside few. not_renamed memory (memory (Root u j)) (memory (Root u j)) refl;
-    answers = λ u inside. ⊎_elim
-        (λ (same : (mutator == u) ≡ true).
-        let place : memory (Answer mutator) ≡ memory (Answer u) = ap (λ k. memory (Answer k)) (eqb-true mutator u same) in
-        subst (λ w. IsRenamed memory (memory (Answer u)) w) (sym (cond-true (mutator == u) v (memory (Answer u)) same)) (subst (λ k. IsRenamed memory k v) place renamed))
-        (λ (other : (mutator == u) ≡ false). not_renamed memory (memory (Answer u)) (write memory (Answer mutator) v (Answer u)) (cond-false (mutator == u) v (memory (Answer u)) other))
-        (cases_Bool (mutator == u));
+    roots = λ mutator index inside few. not_renamed memory (memory (Root mutator index)) (memory (Root mutator index)) refl;
+    answers = λ other_mutator inside. ⊎_elim
+        (λ (same : (mutator == other_mutator) ≡ true).
+        let place : memory (Answer mutator) ≡ memory (Answer other_mutator) = ap (λ mutator. memory (Answer mutator)) (eqb-true mutator other_mutator same) in
+        subst (λ w. IsRenamed memory (memory (Answer other_mutator)) w) (sym (cond-true (mutator == other_mutator) v (memory (Answer other_mutator)) same)) (subst (λ k. IsRenamed memory k v) place renamed))
+        (λ (other : (mutator == other_mutator) ≡ false). not_renamed memory (memory (Answer other_mutator)) (write memory (Answer mutator) v (Answer other_mutator)) (cond-false (mutator == other_mutator) v (memory (Answer other_mutator)) other))
+        (cases_Bool (mutator == other_mutator));
     waits = λ u. refl;
     tops = λ r. refl;
     free = refl;
     cset = refl;
-    currents = λ s. refl;
+    currents = λ seat. refl;
     share = refl;
     pins = λ mutator i. refl;
   }

@@ -55,9 +55,9 @@ module _ (regions limit : ℕ) (live : ℕ → ℕ) (candidate : ℕ → Bool) w
   begins : Front 0
   begins = record {
     in_heap = omega (arith, pow_pos regions);
-    candidates = λ r member. absurd (nothing_in_none r member);
-    from_front = λ q r below is before member. absurd (nothing_in_none r member);
-    fits = (let none = sum_of_none (within 0) regions (λ r _. cond-false (bit_at 0 r == 1) (live r) 0 (ne_eqb (bit_at 0 r) 1 (nothing_in_none r))) in omega (arith, none));
+    candidates = λ region member. absurd (nothing_in_none region member);
+    from_front = λ region other_region below is before member. absurd (nothing_in_none other_region member);
+    fits = (let none = sum_of_none (within 0) regions (λ region _. cond-false (bit_at 0 region == 1) (live region) 0 (ne_eqb (bit_at 0 region) 1 (nothing_in_none region))) in omega (arith, none));
   }
 
   -- what lives in a set and in one region besides
@@ -85,21 +85,21 @@ module _ (regions limit : ℕ) (live : ℕ → ℕ) (candidate : ℕ → Bool) w
       omega (arith, none, rest other_one))
       (cases_eq q region)
 
-  live_in_more : (set r more : ℕ) → r < regions → HasOneMore set r more → live_in regions live more ≤ live_in regions live set + live r
-  live_in_more set r more below one_more =
-      let most = sum_at_most (within more) (and_one set r) regions (λ q _. ⊎_elim
-      (λ (here : q ≡ r).
-      let this : (if q == r then live r else 0) ≡ live r = cond-true (q == r) (live r) 0 (eq-eqb q r here) in
-      let same : live q ≡ live r = ap live here in
-      cond_both (bit_at more q == 1) (live q) 0 (λ k. k ≤ and_one set r q) (λ _. omega (arith, this, same)) (λ _. omega arith))
-      (λ (other : q ≢ r).
+  live_in_more : (set region more : ℕ) → region < regions → HasOneMore set region more → live_in regions live more ≤ live_in regions live set + live region
+  live_in_more set region more below one_more =
+      let most = sum_at_most (within more) (and_one set region) regions (λ q _. ⊎_elim
+      (λ (here : q ≡ region).
+      let this : (if q == region then live region else 0) ≡ live region = cond-true (q == region) (live region) 0 (eq-eqb q region here) in
+      let same : live q ≡ live region = ap live here in
+      cond_both (bit_at more q == 1) (live q) 0 (λ k. k ≤ and_one set region q) (λ _. omega (arith, this, same)) (λ _. omega arith))
+      (λ (other : q ≢ region).
       let same : within more q ≡ within set q = ap (λ digit. if digit == 1 then live q else 0) (one_more.others q other) in
       omega (arith, same))
-      (cases_eq q r)) in
-      omega (arith, most, sum_and_one set r below)
+      (cases_eq q region)) in
+      omega (arith, most, sum_and_one set region below)
 
-  goes_on : (set r more : ℕ) → Front set → IsNext regions live candidate set r → HasOneMore set r more
-      → live_in regions live set + live r ≤ limit → Front more
+  goes_on : (set region more : ℕ) → Front set → IsNext regions live candidate set region → HasOneMore set region more
+      → live_in regions live set + live region ≤ limit → Front more
   goes_on set r more front next one_more room =
       let was : (region : ℕ) → IsIn more region → region ≢ r → IsIn set region = λ region member other. sym (one_more.others region other) ∙ member in
       record {
@@ -111,28 +111,28 @@ module _ (regions limit : ℕ) (live : ℕ → ℕ) (candidate : ℕ → Bool) w
             (λ (here : region ≡ r). ap candidate here ∙ next.is)
             (λ (other : region ≢ r). front.candidates region (was region member other))
             (cases_eq region r);
-        from_front = λ p region below is before member. ⊎_elim
-            (λ (here : p ≡ r). subst (IsIn more) (sym here) one_more.member)
-            (λ (other : p ≢ r). one_more.others p other ∙ ⊎_elim
-            (λ (inside : IsIn set p). inside)
-            (λ (outside : IsOutside set p). ⊎_elim
-            (λ (here : region ≡ r). absurd (next.none_before p below is outside (subst (ComesBefore live p) here before)))
-            (λ (apart : region ≢ r). front.from_front p region below is before (was region member apart))
+        from_front = λ other_region region below is before member. ⊎_elim
+            (λ (here : other_region ≡ r). subst (IsIn more) (sym here) one_more.member)
+            (λ (other : other_region ≢ r). one_more.others other_region other ∙ ⊎_elim
+            (λ (inside : IsIn set other_region). inside)
+            (λ (outside : IsOutside set other_region). ⊎_elim
+            (λ (here : region ≡ r). absurd (next.none_before other_region below is outside (subst (ComesBefore live other_region) here before)))
+            (λ (apart : region ≢ r). front.from_front other_region region below is before (was region member apart))
             (cases_eq region r))
-            (in_or_outside set p))
-            (cases_eq p r);
+            (in_or_outside set other_region))
+            (cases_eq other_region r);
         fits = (let most = live_in_more set r more next.below one_more in omega (arith, most, room));
       }
 
   -- a front that has a candidate outside of another has the next one of that, and all of its members
-  is_full : (set other_region : ℕ) → Front set → IsNext regions live candidate set other_region → limit < live_in regions live set + live other_region
+  is_full : (set region : ℕ) → Front set → IsNext regions live candidate set region → limit < live_in regions live set + live region
       → IsLongestFront regions limit live candidate set
   is_full set other_region front next full = record {
     front = front;
-    longest = λ other is x member. ⊎_elim
-        (λ (inside : IsIn set x). inside)
-        (λ (outside : IsOutside set x). absurd (too_much other is x member outside))
-        (in_or_outside set x);
+    longest = λ other is region member. ⊎_elim
+        (λ (inside : IsIn set region). inside)
+        (λ (outside : IsOutside set region). absurd (too_much other is region member outside))
+        (in_or_outside set region);
   }
     where
       too_much : (other : ℕ) → Front other → (x : ℕ) → IsIn other x → IsOutside set x → ⊥

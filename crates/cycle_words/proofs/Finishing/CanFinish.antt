@@ -8,8 +8,8 @@ use Rattle.image_graph.specs.LetGo.{let_go}
 use Rattle.image_graph.specs.Promised.{Promises}
 use Rattle.image_graph.proofs.Inside.{buffers_inside}
 use Rattle.image_graph.proofs.Loosening.Loosened.{loosened_sized}
-use Rattle.image_graph.proofs.Loosening.Divided.{none_have_room}
-use Rattle.image_graph.proofs.Loosening.LettingGo.{has_let_go, let_go_seats}
+use Rattle.image_graph.proofs.Loosening.DividedPieces.{none_have_room}
+use Rattle.image_graph.proofs.Loosening.AllLetGo.{has_let_go, let_go_seats}
 use Rattle.cycle_words.proofs.Finishing.Collecting.{let_go_collecting}
 use Rattle.cycle_words.specs.Evacuation.Copied.{CanCopyOut, copied_out}
 use Rattle.cycle_words.specs.Finishing.Copies.{is_left, CanCopyFrom, all_copied}
@@ -23,21 +23,21 @@ use Rattle.cycle_words.proofs.Finishing.CopiesHold as copies
 use Rattle.cycle_words.proofs.Finishing.CopiesHold.{IsCopiedSoFar, all_copied_hold}
 
 module _ (config : Config) (owner : ℕ → Option ℕ) (promises : Promises) (graph : Graph) where
-  one_can : (memory : Word → ℕ) (block : Plot) (so_far : IsCopiedSoFar config memory block owner promises graph) (a : ℕ) → is_left config memory a ≡ true → CanCopyOut config memory a
-  one_can memory block so_far a left =
-      let piece = copies.piece config owner promises graph memory block so_far a left in
-      object_can_be_copied config memory block owner promises graph so_far.holds so_far.sized a piece (copies.inside config owner promises graph memory block so_far a left)
+  one_can : (memory : Word → ℕ) (block : Plot) (so_far : IsCopiedSoFar config memory block owner promises graph) (address : ℕ) → is_left config memory address ≡ true → CanCopyOut config memory address
+  one_can memory block so_far address left =
+      let piece = copies.piece config owner promises graph memory block so_far address left in
+      object_can_be_copied config memory block owner promises graph so_far.holds so_far.sized address piece (copies.inside config owner promises graph memory block so_far address left)
 
   -- address by address
-  all_can : (n : ℕ) (memory : Word → ℕ) (block : Plot) (address : ℕ) → IsCopiedSoFar config memory block owner promises graph → CanCopyFrom config memory address n
+  all_can : (addresses : ℕ) (memory : Word → ℕ) (block : Plot) (address : ℕ) → IsCopiedSoFar config memory block owner promises graph → CanCopyFrom config memory address addresses
   unfolding CanCopyFrom
   all_can zero memory block address so_far = tt
-  all_can (suc n) memory block address so_far = (
+  all_can (suc addresses) memory block address so_far = (
     λ left. (
       one_can memory block so_far address left,
-      λ room. all_can n (copied_out config memory address) (copies.more config owner promises graph memory block so_far address left room) (address + 1) (copies.one_copied config owner promises graph memory block so_far address left room),
+      λ room. all_can addresses (copied_out config memory address) (copies.more config owner promises graph memory block so_far address left room) (address + 1) (copies.one_copied config owner promises graph memory block so_far address left room),
     ),
-    λ other. all_can n memory block (address + 1) so_far,
+    λ other. all_can addresses memory block (address + 1) so_far,
   )
 
 pub collecting_can_finish : CollectingCanFinish

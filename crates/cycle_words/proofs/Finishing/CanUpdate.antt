@@ -20,7 +20,7 @@ use Rattle.cycle_words.proofs.Finishing.Strides.{strides}
 module _ (config : Config) (memory : Word → ℕ) (block : Plot) (plotted : IsPlotted config (λ r. memory (Top r)) block) (filled : IsFilled config (λ r. memory (Top r)) block)
     (some : (a : ℕ) (x : Block) → block a ≡ Some x → 1 ≤ words_of x)
     (Walked : ℕ → Type 0) (sizes : (a : ℕ) (x : Block) → block a ≡ Some x → Walked (region_with config a) → stride_at (λ y. memory (Heap y)) a ≡ words_of x) where
-  own_size : (region k : ℕ) (piece : Block) → region < config.regions → Walked region → k < memory (Top region) → block (base_of config region + k) ≡ Some piece → stride_at (λ y. memory (Heap y)) (base_of config region + k) ≡ words_of piece
+  own_size : (region k : ℕ) (piece : Block) → region < config.regions → Walked region → k < memory (Top region) → block (base_of config region + k) ≡ Some piece → stride_at (λ address. memory (Heap address)) (base_of config region + k) ≡ words_of piece
   own_size region k piece inside walked below here =
       let most = plotted.tops region inside in
       let same : region_with config (base_of config region + k) ≡ region = regions_tile.of_no_other config region (base_of config region + k) (record { from = omega arith; before = omega (arith, below, most) }) in
@@ -30,7 +30,7 @@ module _ (config : Config) (memory : Word → ℕ) (block : Plot) (plotted : IsP
   pub end_inside : (region : ℕ) → region < config.regions → Walked region → EndInRegion config memory region
   end_inside region inside walked k below begins =
       let piece = covered config memory block plotted filled some Walked sizes region k inside walked below in
-      let place : base_of config region + start_of (λ a. memory (Heap a)) (base_of config region) k ≡ base_of config region + k = ap (λ j. base_of config region + j) begins in
+      let place : base_of config region + start_of (λ address. memory (Heap address)) (base_of config region) k ≡ base_of config region + k = ap (λ j. base_of config region + j) begins in
       let here : block (base_of config region + k) ≡ Some piece.0 = sym (ap block place) ∙ piece.1 in
       let most = plotted.tops region inside in
       let long = some (base_of config region + k) piece.0 here in
@@ -42,12 +42,12 @@ module _ (config : Config) (memory : Word → ℕ) (block : Plot) (plotted : IsP
       omega (arith, within.1, size))
       (λ (behind : base_of config region + config.region_words ≤ base_of config region + k). absurd (omega (arith, behind, below, most)))
       rest)
-      (beside config (λ s. memory (Top s)) block plotted region (base_of config region + k) piece.0 here)
+      (beside config (λ region. memory (Top region)) block plotted region (base_of config region + k) piece.0 here)
 
 -- So references can be updated where those say so in whose regions objects stay.
-pub can_update : (config : Config) (memory : Word → ℕ) (block : Plot) (plotted : IsPlotted config (λ r. memory (Top r)) block) → IsFilled config (λ r. memory (Top r)) block
+pub can_update : (config : Config) (memory : Word → ℕ) (block : Plot) (plotted : IsPlotted config (λ region. memory (Top region)) block) → IsFilled config (λ region. memory (Top region)) block
     → ((address : ℕ) (piece : Block) → block address ≡ Some piece → 1 ≤ words_of piece)
-    → ((address : ℕ) (piece : Block) → block address ≡ Some piece → stays config memory (region_with config address) ≡ true → stride_at (λ y. memory (Heap y)) address ≡ words_of piece) → memory Cset < 2 ^ config.regions → CanUpdateAll config memory
+    → ((address : ℕ) (piece : Block) → block address ≡ Some piece → stays config memory (region_with config address) ≡ true → stride_at (λ address. memory (Heap address)) address ≡ words_of piece) → memory Cset < 2 ^ config.regions → CanUpdateAll config memory
 can_update config memory block plotted filled some sizes small =
     record { set = small; within = plotted.tops; objects = end_inside config memory block plotted filled some (λ q. stays config memory q ≡ true) sizes }
 
@@ -55,12 +55,12 @@ can_update config memory block plotted filled some sizes small =
 module _ (config : Config) (memory : Word → ℕ) (block : Plot) (owner : ℕ → Option ℕ) (promises : Promises) (graph : Graph) (holds : HoldsBy config memory block owner promises graph) (sized : AreSized memory block) (none : HasNoRoom block) where
   pub all_end_inside : (region : ℕ) → region < config.regions → EndInRegion config memory region
   all_end_inside region inside =
-      end_inside config memory block holds.objects.plotted holds.filled holds.pieces.some (λ r. Unit {0}) (λ a x is any. strides memory block sized none a x is) region inside tt
+      end_inside config memory block holds.objects.plotted holds.filled holds.pieces.some (λ r. Unit {0}) (λ address piece is any. strides memory block sized none address piece is) region inside tt
 
   -- and the set can be left
   pub set_can_be_left : memory Cset < 2 ^ config.regions → CanFree config memory
-  set_can_be_left small = record { set = small; fills = λ r inside pinned. record { within = holds.objects.plotted.tops r inside; ends = all_end_inside r inside } }
+  set_can_be_left small = record { set = small; fills = λ region inside pinned. record { within = holds.objects.plotted.tops region inside; ends = all_end_inside region inside } }
 
 pub references_can_be_updated : ReferencesCanBeUpdated
 references_can_be_updated c m block owner p g holds sized none small =
-    can_update c m block holds.objects.plotted holds.filled holds.pieces.some (λ a x is stay. strides m block sized none a x is) small
+    can_update c m block holds.objects.plotted holds.filled holds.pieces.some (λ address piece is stay. strides m block sized none address piece is) small

@@ -16,31 +16,31 @@ none_found : (found : Option ℕ) → is_found found ≡ false → found ≡ Non
 none_found None is = refl
 none_found (Some r) is = absurd (true≢false is)
 
-room_first : (config : Config) (memory : Word → ℕ) (a : ℕ) → is_room_from config memory a zero ≡ true
+room_first : (config : Config) (memory : Word → ℕ) (address : ℕ) → is_room_from config memory address zero ≡ true
 unfolding is_room_from
-room_first config memory a = refl
+room_first config memory address = refl
 
-room_next : (config : Config) (memory : Word → ℕ) (address n : ℕ) → is_left config memory address ≡ true → has_copy_room config memory address ≡ true → is_room_from config memory address (suc n) ≡ is_room_from config (copied_out config memory address) (address + 1) n
+room_next : (config : Config) (memory : Word → ℕ) (address addresses : ℕ) → is_left config memory address ≡ true → has_copy_room config memory address ≡ true → is_room_from config memory address (suc addresses) ≡ is_room_from config (copied_out config memory address) (address + 1) addresses
 unfolding is_room_from
-room_next config memory address n left room =
-    cond-true (is_left config memory address) (has_copy_room config memory address && is_room_from config (copied_out config memory address) (address + 1) n) (is_room_from config memory (address + 1) n) left
-    ∙ ap (λ b. b && is_room_from config (copied_out config memory address) (address + 1) n) room
+room_next config memory address addresses left room =
+    cond-true (is_left config memory address) (has_copy_room config memory address && is_room_from config (copied_out config memory address) (address + 1) addresses) (is_room_from config memory (address + 1) addresses) left
+    ∙ ap (λ b. b && is_room_from config (copied_out config memory address) (address + 1) addresses) room
 
-room_else : (config : Config) (memory : Word → ℕ) (address n : ℕ) → is_left config memory address ≡ false → is_room_from config memory address (suc n) ≡ is_room_from config memory (address + 1) n
+room_else : (config : Config) (memory : Word → ℕ) (address addresses : ℕ) → is_left config memory address ≡ false → is_room_from config memory address (suc addresses) ≡ is_room_from config memory (address + 1) addresses
 unfolding is_room_from
-room_else config memory address n other = cond-false (is_left config memory address) (has_copy_room config memory address && is_room_from config (copied_out config memory address) (address + 1) n) (is_room_from config memory (address + 1) n) other
+room_else config memory address addresses other = cond-false (is_left config memory address) (has_copy_room config memory address && is_room_from config (copied_out config memory address) (address + 1) addresses) (is_room_from config memory (address + 1) addresses) other
 
-stuck : (config : Config) (n : ℕ) (memory : Word → ℕ) (address : ℕ) → is_room_from config memory address n ≡ false → IsStuck config (copied_from config memory address n)
+stuck : (config : Config) (addresses : ℕ) (memory : Word → ℕ) (address : ℕ) → is_room_from config memory address addresses ≡ false → IsStuck config (copied_from config memory address addresses)
 stuck config zero memory address is = absurd (true≢false (sym (room_first config memory address) ∙ is))
-stuck config (suc n) memory address is = ⊎_elim
+stuck config (suc addresses) memory address is = ⊎_elim
     (λ (left : is_left config memory address ≡ true). ⊎_elim
     (λ (room : has_copy_room config memory address ≡ true).
-    subst (IsStuck config) (sym (copied_next config memory address n left room)) (stuck config n (copied_out config memory address) (address + 1) (sym (room_next config memory address n left room) ∙ is)))
+    subst (IsStuck config) (sym (copied_next config memory address addresses left room)) (stuck config addresses (copied_out config memory address) (address + 1) (sym (room_next config memory address addresses left room) ∙ is)))
     (λ (full : has_copy_room config memory address ≡ false).
-    subst (IsStuck config) (sym (copied_stuck config memory address n left full)) (record { object = address; left = left; no_room = none_found (copy_room config memory address) full }))
+    subst (IsStuck config) (sym (copied_stuck config memory address addresses left full)) (record { object = address; left = left; no_room = none_found (copy_room config memory address) full }))
     (cases_Bool (has_copy_room config memory address)))
     (λ (other : is_left config memory address ≡ false).
-    subst (IsStuck config) (sym (copied_skips config memory address n other)) (stuck config n memory (address + 1) (sym (room_else config memory address n other) ∙ is)))
+    subst (IsStuck config) (sym (copied_skips config memory address addresses other)) (stuck config addresses memory (address + 1) (sym (room_else config memory address addresses other) ∙ is)))
     (cases_Bool (is_left config memory address))
 
 pub stops_for_room : StopsForRoom
@@ -58,11 +58,11 @@ stops_for_room c m is = ⊎_elim
 pub serving_serves_all : ServingServesAll
 serving_serves_all c m = record {
   nobody = (
-    λ none t left. waits_if_left c m t left (nobody_is c (served c m c.mutators) none t left.below),
-    λ none_left. nobody_from c (served c m c.mutators) (λ t inside. ⊎_elim
-        (λ (idle : served c m c.mutators (Wait t) ≡ 0). idle)
-        (λ (waits : served c m c.mutators (Wait t) ≢ 0). absurd (none_left t (left_if_waits c m t inside waits)))
-        (cases_eq (served c m c.mutators (Wait t)) 0)),
+    λ none other_mutator left. waits_if_left c m other_mutator left (nobody_is c (served c m c.mutators) none other_mutator left.below),
+    λ none_left. nobody_from c (served c m c.mutators) (λ mutator inside. ⊎_elim
+        (λ (idle : served c m c.mutators (Wait mutator) ≡ 0). idle)
+        (λ (waits : served c m c.mutators (Wait mutator) ≢ 0). absurd (none_left mutator (left_if_waits c m mutator inside waits)))
+        (cases_eq (served c m c.mutators (Wait mutator)) 0)),
   );
   waits = λ t inside. (λ waits. left_if_waits c m t inside waits, λ left. waits_if_left c m t left);
 }

@@ -22,8 +22,8 @@ use Rattle.cycle_words.specs.Evacuation.Begun.{is_collected}
 use Rattle.cycle_words.specs.StillHolds.{WhileCollecting}
 use Rattle.cycle_words.proofs.Pinned.{same_pinned}
 use Rattle.image_graph.proofs.Loosening.Loosened.{IsLoosened, loosened_reached}
-use Rattle.image_graph.proofs.Loosening.OneTurn as turn
-use Rattle.image_graph.proofs.Loosening.LettingGo.{IsLowered, has_let_go}
+use Rattle.image_graph.proofs.Loosening.OneBuffer as turn
+use Rattle.image_graph.proofs.Loosening.AllLetGo.{IsLowered, has_let_go}
 
 module _ (config : Config) (memory other_memory : Word → ℕ) (block plot : Plot) (owner : ℕ → Option ℕ) (promises : Promises) (graph : Graph) (holds : HoldsBy config memory block owner promises graph) (is : IsLoosened memory other_memory block plot)
     (plotted : IsPlotted config (λ r. other_memory (Top r)) plot) (while : WhileCollecting config memory block) where
@@ -48,7 +48,7 @@ module _ (config : Config) (memory other_memory : Word → ℕ) (block plot : Pl
     marked = λ a collected black.
         let was = while.marked a (sym (collected_same a) ∙ collected) (sym (black_same a) ∙ black) in
         (was.0, is.same.stays a was.0 was.2 was.1, was.2);
-    reachable = λ some a reached. kept_same a (while.reachable (λ none. some (set_same ∙ none)) a (loosened_reached config memory other_memory block plot owner promises graph holds is plotted a reached));
+    reachable = λ some address reached. kept_same address (while.reachable (λ none. some (set_same ∙ none)) address (loosened_reached config memory other_memory block plot owner promises graph holds is plotted address reached));
     no_new = λ region member. let was : IsIn (memory Cset) region = subst (λ s. IsIn s region) set_same member in tops region was ∙ while.no_new region was ∙ sym (is.others (Tams region) refl);
     floors = λ some region below. (let floor = floors (λ none. some (set_same ∙ none)) region below in let same = is.others (Tams region) refl in omega (arith, floor, same));
     unseated = λ seat region ends member. while.unseated seat region (subst (λ k. (k ≢ 0) × IsOf config region (end_in k - 1)) (is.fewer seat ends.0) ends) (subst (λ s. IsIn s region) set_same member);
@@ -57,8 +57,8 @@ module _ (config : Config) (memory other_memory : Word → ℕ) (block plot : Pl
         let same = is.others (Tams (region_with config a)) refl in
         omega (arith, was, same);
     outside = λ off a reached member.
-        same_pinned config memory other_memory (λ t i. is.others (Pin t i) refl) (region_with config a)
-        ∙ while.outside (λ two. off (is.others Phase refl ∙ two)) a (loosened_reached config memory other_memory block plot owner promises graph holds is plotted a reached) (subst (λ s. IsCollected config s a) set_same member);
+        same_pinned config memory other_memory (λ mutator slot. is.others (Pin mutator slot) refl) (region_with config a)
+        ∙ while.outside (λ two. off (is.others Phase refl ∙ two)) a (loosened_reached config memory other_memory block plot owner promises graph holds is plotted a reached) (subst (λ cset. IsCollected config cset a) set_same member);
   }
 
 -- So it is where buffers are let go, for their free words lie outside of the set and are new.
@@ -71,12 +71,12 @@ module _ (config : Config) (memory : Word → ℕ) (block : Plot) (owner : ℕ �
     region = buffer_region config word
 
     is_region : region ≡ (holds.buffers.each seat some).region
-    is_region = let b = holds.buffers.each seat some in buffer_region_is config (λ r. memory (Top r)) block seat word b (holds.objects.plotted.tops b.region b.within)
+    is_region = let b = holds.buffers.each seat some in buffer_region_is config (λ region. memory (Top region)) block seat word b (holds.objects.plotted.tops b.region b.within)
 
     ends : EndsIn config memory seat region
     ends =
         let b = holds.buffers.each seat some in
-        (some, subst (λ q. IsOf config q (end_in word - 1)) (sym is_region) (buffer_ends config (λ r. memory (Top r)) block seat word b (holds.objects.plotted.tops b.region b.within)))
+        (some, subst (λ region. IsOf config region (end_in word - 1)) (sym is_region) (buffer_ends config (λ region. memory (Top region)) block seat word b (holds.objects.plotted.tops b.region b.within)))
 
     next_there : region_with config (next_in word) ≡ region
     next_there =
@@ -92,7 +92,7 @@ module _ (config : Config) (memory : Word → ℕ) (block : Plot) (owner : ℕ �
         let lies = turn.lies config memory block owner promises graph holds seat word refl some in
         let from = lies.from_base in
         let young : base_of config region + memory (Tams region) ≤ next_in word =
-        subst (λ q. base_of config q + memory (Tams q) ≤ next_in word) next_there
+        subst (λ region. base_of config region + memory (Tams region) ≤ next_in word) next_there
         (while.young set (next_in word) seat (turn.free config memory block owner promises graph holds seat word refl some more) (turn.free_piece config memory block owner promises graph holds seat word refl some more) refl) in
         omega (arith, young, from)
 
@@ -103,7 +103,7 @@ module _ (config : Config) (memory : Word → ℕ) (block : Plot) (owner : ℕ �
   floors_stay : (n : Word → ℕ) (region : ℕ) → IsLowered config memory n region → memory Cset ≢ 0 → region < config.regions → memory (Tams region) ≤ n (Top region)
   floors_stay n region (IsLowered.as_it_was same) set below = (let floor = while.floors set region below in omega (arith, floor, same))
   floors_stay n region (IsLowered.given_back seat some more of top) set below =
-      let low : memory (Tams region) ≤ next_in (memory (Current seat)) - base_of config region = subst (λ q. memory (Tams q) ≤ next_in (memory (Current seat)) - base_of config q) of (floor seat some more set) in
+      let low : memory (Tams region) ≤ next_in (memory (Current seat)) - base_of config region = subst (λ region. memory (Tams region) ≤ next_in (memory (Current seat)) - base_of config region) of (floor seat some more set) in
       omega (arith, low, top)
 
   module _ (seats : HasNoMoreSeats config memory) where
@@ -111,4 +111,4 @@ module _ (config : Config) (memory : Word → ℕ) (block : Plot) (owner : ℕ �
     let_go_collecting =
         let after = has_let_go config memory block owner promises graph holds seats in
         loosened_collecting config memory (let_go config memory) block after.plot owner promises graph holds after.left.loosened after.left.holds.objects.plotted while
-        (λ r member. set_stays (let_go config memory) r (after.tops r) member) (λ set r below. floors_stay (let_go config memory) r (after.tops r) set below)
+        (λ region member. set_stays (let_go config memory) region (after.tops region) member) (λ set region below. floors_stay (let_go config memory) region (after.tops region) set below)

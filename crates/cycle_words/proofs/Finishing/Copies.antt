@@ -13,9 +13,9 @@ use Rattle.cycle_words.specs.Finishing.Copies.{is_left, is_found, has_copy_room,
 pub room_found : (config : Config) (memory : Word → ℕ) (address : ℕ) → has_copy_room config memory address ≡ true → copy_room config memory address ≢ None
 room_found config memory address room none = true≢false (sym room ∙ ap is_found none)
 
-module _ (config : Config) (memory : Word → ℕ) (address n : ℕ) where
+module _ (config : Config) (memory : Word → ℕ) (address addresses : ℕ) where
   abbrev next : Word → ℕ
-  next = copied_from config (copied_out config memory address) (address + 1) n
+  next = copied_from config (copied_out config memory address) (address + 1) addresses
 
   abbrev tried : Word → ℕ
   tried word = if has_copy_room config memory address then next word else memory word
@@ -24,49 +24,49 @@ module _ (config : Config) (memory : Word → ℕ) (address n : ℕ) where
   unfolding copied_from
   copied_none = refl
 
-  pub copied_next : is_left config memory address ≡ true → has_copy_room config memory address ≡ true → copied_from config memory address (suc n) ≡ copied_from config (copied_out config memory address) (address + 1) n
+  pub copied_next : is_left config memory address ≡ true → has_copy_room config memory address ≡ true → copied_from config memory address (suc addresses) ≡ copied_from config (copied_out config memory address) (address + 1) addresses
   unfolding copied_from
   copied_next left room = fun_ext (λ word.
-      cond-true (is_left config memory address) (tried word) (copied_from config memory (address + 1) n word) left
+      cond-true (is_left config memory address) (tried word) (copied_from config memory (address + 1) addresses word) left
       ∙ cond-true (has_copy_room config memory address) (next word) (memory word) room)
 
-  pub copied_stuck : is_left config memory address ≡ true → has_copy_room config memory address ≡ false → copied_from config memory address (suc n) ≡ memory
+  pub copied_stuck : is_left config memory address ≡ true → has_copy_room config memory address ≡ false → copied_from config memory address (suc addresses) ≡ memory
   unfolding copied_from
   copied_stuck left full = fun_ext (λ word.
-      cond-true (is_left config memory address) (tried word) (copied_from config memory (address + 1) n word) left
+      cond-true (is_left config memory address) (tried word) (copied_from config memory (address + 1) addresses word) left
       ∙ cond-false (has_copy_room config memory address) (next word) (memory word) full)
 
-  pub copied_skips : is_left config memory address ≡ false → copied_from config memory address (suc n) ≡ copied_from config memory (address + 1) n
+  pub copied_skips : is_left config memory address ≡ false → copied_from config memory address (suc addresses) ≡ copied_from config memory (address + 1) addresses
   unfolding copied_from
-  copied_skips other = fun_ext (λ word. cond-false (is_left config memory address) (tried word) (copied_from config memory (address + 1) n word) other)
+  copied_skips other = fun_ext (λ word. cond-false (is_left config memory address) (tried word) (copied_from config memory (address + 1) addresses word) other)
 
   abbrev room_next : Bool
-  room_next = has_copy_room config memory address && is_room_from config (copied_out config memory address) (address + 1) n
+  room_next = has_copy_room config memory address && is_room_from config (copied_out config memory address) (address + 1) addresses
 
-  pub room_if : is_left config memory address ≡ true → is_room_from config memory address (suc n) ≡ true → (has_copy_room config memory address ≡ true) × (is_room_from config (copied_out config memory address) (address + 1) n ≡ true)
+  pub room_if : is_left config memory address ≡ true → is_room_from config memory address (suc addresses) ≡ true → (has_copy_room config memory address ≡ true) × (is_room_from config (copied_out config memory address) (address + 1) addresses ≡ true)
   unfolding is_room_from
   room_if left room =
-      and_parts (has_copy_room config memory address) (is_room_from config (copied_out config memory address) (address + 1) n)
-      (sym (cond-true (is_left config memory address) room_next (is_room_from config memory (address + 1) n) left) ∙ room)
+      and_parts (has_copy_room config memory address) (is_room_from config (copied_out config memory address) (address + 1) addresses)
+      (sym (cond-true (is_left config memory address) room_next (is_room_from config memory (address + 1) addresses) left) ∙ room)
 
-  pub room_skips : is_left config memory address ≡ false → is_room_from config memory address (suc n) ≡ true → is_room_from config memory (address + 1) n ≡ true
+  pub room_skips : is_left config memory address ≡ false → is_room_from config memory address (suc addresses) ≡ true → is_room_from config memory (address + 1) addresses ≡ true
   unfolding is_room_from
-  room_skips other room = sym (cond-false (is_left config memory address) room_next (is_room_from config memory (address + 1) n) other) ∙ room
+  room_skips other room = sym (cond-false (is_left config memory address) room_next (is_room_from config memory (address + 1) addresses) other) ∙ room
 
 -- Words that copying does not change stay.
 copied_other : (config : Config) (memory : Word → ℕ) (a : ℕ) (found : Option ℕ) (word : Word) → (MayChange word → ⊥) → copied_in config memory a found word ≡ memory word
 copied_other config memory a None word stays = refl
 copied_other config memory a (Some r) word stays = others_stay config memory a r word stays
 
-other_from : (config : Config) (n : ℕ) (memory : Word → ℕ) (address : ℕ) (word : Word) → (MayChange word → ⊥) → copied_from config memory address n word ≡ memory word
+other_from : (config : Config) (addresses : ℕ) (memory : Word → ℕ) (address : ℕ) (word : Word) → (MayChange word → ⊥) → copied_from config memory address addresses word ≡ memory word
 other_from config zero memory address word stays = ap (λ (memory : Word → ℕ). memory word) (copied_none config memory address 0)
-other_from config (suc n) memory address word stays = ⊎_elim
+other_from config (suc addresses) memory address word stays = ⊎_elim
     (λ (left : is_left config memory address ≡ true). ⊎_elim
     (λ (room : has_copy_room config memory address ≡ true).
-    ap (λ (memory : Word → ℕ). memory word) (copied_next config memory address n left room) ∙ other_from config n (copied_out config memory address) (address + 1) word stays ∙ copied_other config memory address (copy_room config memory address) word stays)
-    (λ (none : has_copy_room config memory address ≡ false). ap (λ (memory : Word → ℕ). memory word) (copied_stuck config memory address n left none))
+    ap (λ (memory : Word → ℕ). memory word) (copied_next config memory address addresses left room) ∙ other_from config addresses (copied_out config memory address) (address + 1) word stays ∙ copied_other config memory address (copy_room config memory address) word stays)
+    (λ (none : has_copy_room config memory address ≡ false). ap (λ (memory : Word → ℕ). memory word) (copied_stuck config memory address addresses left none))
     (cases_Bool (has_copy_room config memory address)))
-    (λ (other : is_left config memory address ≡ false). ap (λ (memory : Word → ℕ). memory word) (copied_skips config memory address n other) ∙ other_from config n memory (address + 1) word stays)
+    (λ (other : is_left config memory address ≡ false). ap (λ (memory : Word → ℕ). memory word) (copied_skips config memory address addresses other) ∙ other_from config addresses memory (address + 1) word stays)
     (cases_Bool (is_left config memory address))
 
 pub all_copied_other : (config : Config) (memory : Word → ℕ) (word : Word) → (MayChange word → ⊥) → all_copied config memory word ≡ memory word

@@ -74,8 +74,8 @@ module _ (config : Config) (owner : ℕ → Option ℕ) (promises : Promises) (g
       pub out : IsCopiedOut config memory (copied_out config memory address) address
       out = copies_out config memory address above inside (room_found config memory address room)
 
-      abbrev n : Word → ℕ
-      n = copied_out config memory address
+      abbrev now : Word → ℕ
+      now = copied_out config memory address
 
       -- the pieces with the copy
       abbrev pub more : Plot
@@ -84,7 +84,7 @@ module _ (config : Config) (owner : ℕ → Option ℕ) (promises : Promises) (g
       pub more_stay : PiecesStay block more
       more_stay = copy.stays config memory block owner promises graph so_far.holds address piece.0 piece.1 piece.2 inside parts.2 unpinned words out
 
-      pub one_copied : IsCopiedSoFar config n more owner promises graph
+      pub one_copied : IsCopiedSoFar config now more owner promises graph
       one_copied = record {
         holds = copy.copied_holds config memory block owner promises graph so_far.holds address piece.0 piece.1 piece.2 inside parts.2 unpinned words out;
         sized = copy.copied_sized config memory block owner promises graph so_far.holds address piece.0 piece.1 piece.2 inside parts.2 unpinned words out so_far.sized;
@@ -92,18 +92,18 @@ module _ (config : Config) (owner : ℕ → Option ℕ) (promises : Promises) (g
       }
 
   -- address by address
-  pub copies_hold : (n : ℕ) (memory : Word → ℕ) (block : Plot) (address : ℕ) → IsCopiedSoFar config memory block owner promises graph → (plot : Plot) × PiecesStay block plot × IsCopiedSoFar config (copied_from config memory address n) plot owner promises graph
-  copies_hold zero memory block address so_far = (block, λ q z is. is, subst (λ w. IsCopiedSoFar config w block owner promises graph) (sym (copied_none config memory address 0)) so_far)
-  copies_hold (suc n) memory block address so_far = ⊎_elim
+  pub copies_hold : (addresses : ℕ) (memory : Word → ℕ) (block : Plot) (address : ℕ) → IsCopiedSoFar config memory block owner promises graph → (plot : Plot) × PiecesStay block plot × IsCopiedSoFar config (copied_from config memory address addresses) plot owner promises graph
+  copies_hold zero memory block address so_far = (block, λ q z is. is, subst (λ memory. IsCopiedSoFar config memory block owner promises graph) (sym (copied_none config memory address 0)) so_far)
+  copies_hold (suc addresses) memory block address so_far = ⊎_elim
       (λ (left : is_left config memory address ≡ true). ⊎_elim
       (λ (room : has_copy_room config memory address ≡ true).
-      let rest = copies_hold n (copied_out config memory address) (more memory block so_far address left room) (address + 1) (one_copied memory block so_far address left room) in
-      (rest.0, λ q z is. rest.1 q z (more_stay memory block so_far address left room q z is), subst (λ w. IsCopiedSoFar config w rest.0 owner promises graph) (sym (copied_next config memory address n left room)) rest.2))
-      (λ (none : has_copy_room config memory address ≡ false). (block, λ q z is. is, subst (λ w. IsCopiedSoFar config w block owner promises graph) (sym (copied_stuck config memory address n left none)) so_far))
+      let rest = copies_hold addresses (copied_out config memory address) (more memory block so_far address left room) (address + 1) (one_copied memory block so_far address left room) in
+      (rest.0, λ q z is. rest.1 q z (more_stay memory block so_far address left room q z is), subst (λ memory. IsCopiedSoFar config memory rest.0 owner promises graph) (sym (copied_next config memory address addresses left room)) rest.2))
+      (λ (none : has_copy_room config memory address ≡ false). (block, λ q z is. is, subst (λ memory. IsCopiedSoFar config memory block owner promises graph) (sym (copied_stuck config memory address addresses left none)) so_far))
       (cases_Bool (has_copy_room config memory address)))
       (λ (other : is_left config memory address ≡ false).
-      let rest = copies_hold n memory block (address + 1) so_far in
-      (rest.0, rest.1, subst (λ w. IsCopiedSoFar config w rest.0 owner promises graph) (sym (copied_skips config memory address n other)) rest.2))
+      let rest = copies_hold addresses memory block (address + 1) so_far in
+      (rest.0, rest.1, subst (λ memory. IsCopiedSoFar config memory rest.0 owner promises graph) (sym (copied_skips config memory address addresses other)) rest.2))
       (cases_Bool (is_left config memory address))
 
   -- only while objects are evacuated
@@ -113,11 +113,11 @@ module _ (config : Config) (owner : ℕ → Option ℕ) (promises : Promises) (g
       let all = copies_hold (config.regions * config.region_words) memory block config.region_words so_far in
       let same : copied_from config memory config.region_words (config.regions * config.region_words) ≡ all_copied config memory =
       fun_ext (λ word. sym (cond-true (memory Phase == 2) (copied_from config memory config.region_words (config.regions * config.region_words) word) (memory word) (eq-eqb (memory Phase) 2 on))) in
-      (all.0, all.1, subst (λ w. IsCopiedSoFar config w all.0 owner promises graph) same all.2))
+      (all.0, all.1, subst (λ memory. IsCopiedSoFar config memory all.0 owner promises graph) same all.2))
       (λ (off : memory Phase ≢ 2).
       let same : memory ≡ all_copied config memory =
       fun_ext (λ word. sym (cond-false (memory Phase == 2) (copied_from config memory config.region_words (config.regions * config.region_words) word) (memory word) (ne_eqb (memory Phase) 2 off))) in
-      (block, λ q z is. is, subst (λ w. IsCopiedSoFar config w block owner promises graph) same so_far))
+      (block, λ q z is. is, subst (λ memory. IsCopiedSoFar config memory block owner promises graph) same so_far))
       (cases_eq (memory Phase) 2)
 
 pub copies_all_hold : (config : Config) (memory : Word → ℕ) (block : Plot) (owner : ℕ → Option ℕ) (promises : Promises) (graph : Graph) → HoldsBy config memory block owner promises graph → AreSized memory block → AreMarkedObjects config memory block

@@ -48,8 +48,8 @@ module _ (config : Config) (owner : ℕ → Option ℕ) (promises : Promises) (g
     abbrev so_far : IsCopiedSoFar config memory block owner promises graph
     so_far = on.so_far
 
-    abbrev n : Word → ℕ
-    n = copied_out config memory address
+    abbrev memory_then : Word → ℕ
+    memory_then = copied_out config memory address
 
     abbrev out : IsCopiedOut config memory (copied_out config memory address) address
     out = copies.out config owner promises graph memory block so_far address left room
@@ -70,28 +70,28 @@ module _ (config : Config) (owner : ℕ → Option ℕ) (promises : Promises) (g
     words = copies.words config owner promises graph memory block so_far address left
 
     -- what is left was left, and is another object
-    left_was : (y : ℕ) → is_left config n y ≡ true → (y ≢ address) × (is_left config memory y ≡ true)
+    left_was : (y : ℕ) → is_left config memory_then y ≡ true → (y ≢ address) × (is_left config memory y ≡ true)
     left_was y now =
-        let parts_now = left_parts config n y now in
+        let parts_now = left_parts config memory_then y now in
         let collected : is_collected config memory y ≡ true =
         sym (copy.collected_same config memory block owner promises graph so_far.holds address piece.0 piece.1 piece.2 inside parts.2 unpinned words out y) ∙ parts_now.0 in
         let bare : is_pinned config memory (region_with config y) ≡ false =
-        sym (same_pinned config memory n (copy.pin_same config memory block owner promises graph so_far.holds address piece.0 piece.1 piece.2 inside parts.2 unpinned words out) (region_with config y)) ∙ parts_now.1 in
+        sym (same_pinned config memory memory_then (copy.pin_same config memory block owner promises graph so_far.holds address piece.0 piece.1 piece.2 inside parts.2 unpinned words out) (region_with config y)) ∙ parts_now.1 in
         let black : is_black config memory y ≡ true = sym (copy.black_same config memory block owner promises graph so_far.holds address piece.0 piece.1 piece.2 inside parts.2 unpinned words out y) ∙ parts_now.2 in
-        let plain : is_forwarded (n (Heap y)) ≡ false = parts_now.3 in
+        let plain : is_forwarded (memory_then (Heap y)) ≡ false = parts_now.3 in
         let other : y ≢ address = λ same.
-        true≢false (sym (copy.moved_now config memory block owner promises graph so_far.holds address piece.0 piece.1 piece.2 inside parts.2 unpinned words out) ∙ ap (λ k. is_forwarded (n (Heap k))) (sym same) ∙ plain) in
+        true≢false (sym (copy.moved_now config memory block owner promises graph so_far.holds address piece.0 piece.1 piece.2 inside parts.2 unpinned words out) ∙ ap (λ address. is_forwarded (memory_then (Heap address))) (sym same) ∙ plain) in
         let was = so_far.marked y collected black in
-        let same : n (Heap y) ≡ memory (Heap y) = copy.header_same config memory block owner promises graph so_far.holds address piece.0 piece.1 piece.2 inside parts.2 unpinned words out y was.0 other was.1 in
+        let same : memory_then (Heap y) ≡ memory (Heap y) = copy.header_same config memory block owner promises graph so_far.holds address piece.0 piece.1 piece.2 inside parts.2 unpinned words out y was.0 other was.1 in
         (other, is_left_if config memory y collected bare black (ap is_forwarded (sym same) ∙ plain))
 
-    one_more : (plot : Plot) × IsGoingOn config n plot owner promises graph (address + 1)
+    one_more : (plot : Plot) × IsGoingOn config memory_then plot owner promises graph (address + 1)
     one_more = (
       copy.plot config memory block owner promises graph so_far.holds address piece.0 piece.1 piece.2 inside parts.2 unpinned words out,
       record {
         so_far = copies.one_copied config owner promises graph memory block so_far address left room;
         order = copy.order_still config memory block owner promises graph so_far.holds address piece.0 piece.1 piece.2 inside parts.2 unpinned words out on.order;
-        none_left = λ y below. false_from_ne_true (is_left config n y) (λ now.
+        none_left = λ y below. false_from_ne_true (is_left config memory_then y) (λ now.
             let was = left_was y now in
             let other = was.0 in
             true≢false (sym was.1 ∙ on.none_left y (omega (arith, below, other))));
@@ -99,18 +99,18 @@ module _ (config : Config) (owner : ℕ → Option ℕ) (promises : Promises) (g
     )
 
   -- address by address, where each object finds room
-  all_passed : (n : ℕ) (memory : Word → ℕ) (block : Plot) (address : ℕ) → IsGoingOn config memory block owner promises graph address → is_room_from config memory address n ≡ true
-      → (plot : Plot) × IsGoingOn config (copied_from config memory address n) plot owner promises graph (address + n)
+  all_passed : (addresses : ℕ) (memory : Word → ℕ) (block : Plot) (address : ℕ) → IsGoingOn config memory block owner promises graph address → is_room_from config memory address addresses ≡ true
+      → (plot : Plot) × IsGoingOn config (copied_from config memory address addresses) plot owner promises graph (address + addresses)
   all_passed zero memory block address on room =
-      (block, subst (λ w. IsGoingOn config w block owner promises graph (address + 0)) (sym (copied_none config memory address 0)) (subst (IsGoingOn config memory block owner promises graph) (omega arith) on))
-  all_passed (suc n) memory block address on room = ⊎_elim
+      (block, subst (λ memory. IsGoingOn config memory block owner promises graph (address + 0)) (sym (copied_none config memory address 0)) (subst (IsGoingOn config memory block owner promises graph) (omega arith) on))
+  all_passed (suc addresses) memory block address on room = ⊎_elim
       (λ (left : is_left config memory address ≡ true).
-      let both = room_if config memory address n left room in
+      let both = room_if config memory address addresses left room in
       let one = one_more memory block address on left both.0 in
-      let rest = all_passed n (copied_out config memory address) one.0 (address + 1) one.1 both.1 in (
+      let rest = all_passed addresses (copied_out config memory address) one.0 (address + 1) one.1 both.1 in (
         rest.0,
-        subst (λ w. IsGoingOn config w rest.0 owner promises graph (address + suc n)) (sym (copied_next config memory address n left both.0))
-            (subst (IsGoingOn config (copied_from config (copied_out config memory address) (address + 1) n) rest.0 owner promises graph) (omega arith) rest.1),
+        subst (λ memory. IsGoingOn config memory rest.0 owner promises graph (address + suc addresses)) (sym (copied_next config memory address addresses left both.0))
+            (subst (IsGoingOn config (copied_from config (copied_out config memory address) (address + 1) addresses) rest.0 owner promises graph) (omega arith) rest.1),
       ))
       (λ (other : is_left config memory address ≡ false).
       let next : IsGoingOn config memory block owner promises graph (address + 1) = record {
@@ -121,10 +121,10 @@ module _ (config : Config) (owner : ℕ → Option ℕ) (promises : Promises) (g
             (λ (before : y ≢ address). on.none_left y (omega (arith, below, before)))
             (cases_eq y address);
       } in
-      let rest = all_passed n memory block (address + 1) next (room_skips config memory address n other room) in (
+      let rest = all_passed addresses memory block (address + 1) next (room_skips config memory address addresses other room) in (
         rest.0,
-        subst (λ w. IsGoingOn config w rest.0 owner promises graph (address + suc n)) (sym (copied_skips config memory address n other))
-            (subst (IsGoingOn config (copied_from config memory (address + 1) n) rest.0 owner promises graph) (omega arith) rest.1),
+        subst (λ memory. IsGoingOn config memory rest.0 owner promises graph (address + suc addresses)) (sym (copied_skips config memory address addresses other))
+            (subst (IsGoingOn config (copied_from config memory (address + 1) addresses) rest.0 owner promises graph) (omega arith) rest.1),
       ))
       (cases_Bool (is_left config memory address))
 
@@ -141,15 +141,15 @@ module _ (config : Config) (memory : Word → ℕ) (plot : Plot) (owner : ℕ �
   -- what can be reached in the set, in a region that is not pinned, would be left
   none_inside : (address : ℕ) → CanBeReached config memory address → IsCollected config (memory Cset) address → is_pinned config memory (region_with config address) ≡ false → ⊥
   none_inside address reached inside unpinned =
-      let at = held_is_reached config (λ r. memory (Top r)) (λ y. memory (Heap y)) plot (now_in memory) (IsAmong (held_words config memory)) (with_promised graph promises) on.so_far.holds.objects address reached in
+      let at = held_is_reached config (λ region. memory (Top region)) (λ address. memory (Heap address)) plot (now_in memory) (IsAmong (held_words config memory)) (with_promised graph promises) on.so_far.holds.objects address reached in
       let object = on.so_far.holds.objects.each address at.1 at.2 at.0 reached at.3 in
-      let lies = piece_inside config (λ r. memory (Top r)) plot on.so_far.holds.objects.plotted address (thing at.0 at.1 at.2) at.3 in
+      let lies = piece_inside config (λ region. memory (Top region)) plot on.so_far.holds.objects.plotted address (thing at.0 at.1 at.2) at.3 in
       ⊎_elim
       (λ (black : is_black config memory address ≡ true).
       let left : is_left config memory address ≡ true = is_left_if config memory address (collected_is config memory address lies.0 inside) unpinned black (ap is_forwarded object.2.header) in
       true≢false (sym left ∙ on.none_left address (let end = lies.1 in omega (arith, end, all))))
       (λ (fresh : IsNew config memory address).
-      let below = below_top config (λ r. memory (Top r)) plot on.so_far.holds.objects.plotted address (thing at.0 at.1 at.2) at.3 (omega arith) in
+      let below = below_top config (λ region. memory (Top region)) plot on.so_far.holds.objects.plotted address (thing at.0 at.1 at.2) at.3 (omega arith) in
       let old = on.order.no_new (region_with config address) inside in
       let from = below.1 in
       let end = below.2 in
@@ -187,10 +187,10 @@ module _ (config : Config) (memory : Word → ℕ) (block : Plot) (owner : ℕ �
   at_first = record { holds = holds; sized = sized; marked = while.marked }
 
   in_phase : memory Phase ≡ 2 → memory Cset ≢ 0 → (plot : Plot) × IsEmptied config (all_copied config memory) plot owner promises graph
-  in_phase at some =
+  in_phase at positive =
       let begins : IsGoingOn config memory block owner promises graph config.region_words = record {
         so_far = at_first;
-        order = in_order config memory block while some;
+        order = in_order config memory block while positive;
         none_left = λ y below. false_from_ne_true (is_left config memory y) (λ left. true≢false (sym (left_parts config memory y left).0 ∙ collected_low config memory y below));
       } in
       let found : is_room_from config memory config.region_words (config.regions * config.region_words) ≡ true =
@@ -199,7 +199,7 @@ module _ (config : Config) (memory : Word → ℕ) (block : Plot) (owner : ℕ �
       let same : copied_from config memory config.region_words (config.regions * config.region_words) ≡ all_copied config memory =
       fun_ext (λ word. sym (cond-true (memory Phase == 2) (copied_from config memory config.region_words (config.regions * config.region_words) word) (memory word) (eq-eqb (memory Phase) 2 at))) in (
         all.0,
-        subst (λ w. IsEmptied config w all.0 owner promises graph) same
+        subst (λ memory. IsEmptied config memory all.0 owner promises graph) same
             (emptied config (copied_from config memory config.region_words (config.regions * config.region_words)) all.0 owner promises graph (config.region_words + config.regions * config.region_words) all.1 (omega arith)),
       )
 
@@ -213,8 +213,8 @@ module _ (config : Config) (memory : Word → ℕ) (block : Plot) (owner : ℕ �
           holds = all.2.holds;
           sized = all.2.sized;
           reachable = λ some. absurd (some is_zero);
-          unseated = λ seat r is member. absurd (let bit : bit_at (all_copied config memory Cset) r ≡ 0 = ap (λ k. bit_at k r) is_zero ∙ bit_at-zero r in omega (arith, bit, member));
-          outside = λ a reached inside. absurd (some_set config (all_copied config memory Cset) a inside is_zero);
+          unseated = λ seat region is member. absurd (let bit : bit_at (all_copied config memory Cset) region ≡ 0 = ap (λ k. bit_at k region) is_zero ∙ bit_at-zero region in omega (arith, bit, member));
+          outside = λ address reached inside. absurd (some_set config (all_copied config memory Cset) address inside is_zero);
         },
       )
 
@@ -222,7 +222,7 @@ module _ (config : Config) (memory : Word → ℕ) (block : Plot) (owner : ℕ �
   other_phase off =
       let same : memory ≡ all_copied config memory =
       fun_ext (λ word. sym (cond-false (memory Phase == 2) (copied_from config memory config.region_words (config.regions * config.region_words) word) (memory word) (ne_eqb (memory Phase) 2 off))) in
-      (block, subst (λ w. IsEmptied config w block owner promises graph) same (as_it_is (while.outside off)))
+      (block, subst (λ memory. IsEmptied config memory block owner promises graph) same (as_it_is (while.outside off)))
 
   pub emptied_then : (plot : Plot) × IsEmptied config (all_copied config memory) plot owner promises graph
   emptied_then = ⊎_elim

@@ -42,8 +42,8 @@ module _ (config : Config) (memory : Word → ℕ) where
   pub word_spared : (v : ℕ) → is_collected config memory v ≡ false → updated_word config memory v ≡ v
   word_spared v out = cond-false (is_collected config memory v) (now_in memory v) v out
 
-  pub low_spared : (v : ℕ) → v ≤ 1 → updated_word config memory v ≡ v
-  low_spared v low = word_spared v (collected_low v (let long = config.in_range.least_words in omega (arith, low, long)))
+  pub low_spared : (address : ℕ) → address ≤ 1 → updated_word config memory address ≡ address
+  low_spared address low = word_spared address (collected_low address (let long = config.in_range.least_words in omega (arith, low, long)))
 
   -- the address of an old copy becomes that of its current copy
   pub word_renewed : (address to : ℕ) → config.region_words ≤ address → IsCollected config (memory Cset) address → memory (Heap address) ≡ header_word to → updated_word config memory address ≡ to
@@ -102,7 +102,7 @@ module _ (config : Config) (memory : Word → ℕ) (block : Plot) (plotted : IsP
       other_stays other = cond-false (is_kept_field config memory (address + j)) (updated_word config memory (memory (Heap (address + j)))) (memory (Heap (address + j))) no_field
         where
           no_field : is_kept_field config memory (address + j) ≡ false
-          no_field = and_right _ (is_reference memory (object_of config memory (address + j)) (address + j)) (ap (λ b. is_reference memory b (address + j)) object_is ∙ other)
+          no_field = and_right _ (is_reference memory (object_of config memory (address + j)) (address + j)) (ap (λ object. is_reference memory object (address + j)) object_is ∙ other)
 
       -- so does one of a piece that has moved
       pub moved_stays : is_forwarded (memory (Heap address)) ≡ true → all_updated config memory (Heap (address + j)) ≡ memory (Heap (address + j))
@@ -115,7 +115,7 @@ module _ (config : Config) (memory : Word → ℕ) (block : Plot) (plotted : IsP
           no_field = and_left _ (is_reference memory (object_of config memory (address + j)) (address + j)) (and_right (is_staying config memory (address + j)) (is_kept_here config memory (object_of config memory (address + j))) (ap (is_kept_here config memory) object_is ∙ not_here))
 
       -- so does one of a piece that is not kept
-      pub dead_stays : (HasMark config (λ n. memory (Black n)) address → ⊥) → (IsYoung config (λ r. memory (Tams r)) address → ⊥) → all_updated config memory (Heap (address + j)) ≡ memory (Heap (address + j))
+      pub dead_stays : (HasMark config (λ number. memory (Black number)) address → ⊥) → (IsYoung config (λ region. memory (Tams region)) address → ⊥) → all_updated config memory (Heap (address + j)) ≡ memory (Heap (address + j))
       dead_stays unmarked old = cond-false (is_kept_field config memory (address + j)) (updated_word config memory (memory (Heap (address + j)))) (memory (Heap (address + j))) no_field
         where
           not_kept : is_kept config memory address ≡ false
@@ -138,10 +138,10 @@ module _ (config : Config) (memory : Word → ℕ) (block : Plot) (plotted : IsP
           and_from _ (is_reference memory (object_of config memory (address + j)) (address + j))
           (and_from (is_staying config memory (address + j)) (is_kept_here config memory (object_of config memory (address + j))) staying_is
           (ap (is_kept_here config memory) object_is ∙ and_from (not (is_forwarded (memory (Heap address)))) (is_kept config memory address) (not_from_false (is_forwarded (memory (Heap address))) plain) kept))
-          (ap (λ b. is_reference memory b (address + j)) object_is ∙ reference)
+          (ap (λ object. is_reference memory object (address + j)) object_is ∙ reference)
 
       -- .. and is updated
-      pub field_updated : is_forwarded (memory (Heap address)) ≡ false → HasMark config (λ n. memory (Black n)) address ⊎ IsYoung config (λ r. memory (Tams r)) address → is_reference memory address (address + j) ≡ true
+      pub field_updated : is_forwarded (memory (Heap address)) ≡ false → HasMark config (λ number. memory (Black number)) address ⊎ IsYoung config (λ region. memory (Tams region)) address → is_reference memory address (address + j) ≡ true
           → all_updated config memory (Heap (address + j)) ≡ updated_word config memory (memory (Heap (address + j)))
       field_updated plain kept reference = cond-true (is_kept_field config memory (address + j)) (updated_word config memory (memory (Heap (address + j)))) (memory (Heap (address + j))) (kept_field plain kept_is reference)
         where
@@ -150,11 +150,11 @@ module _ (config : Config) (memory : Word → ℕ) (block : Plot) (plotted : IsP
               let from = at.1 in
               let low = region_low in
               ⊎_elim
-              (λ (mark : HasMark config (λ n. memory (Black n)) address).
+              (λ (mark : HasMark config (λ number. memory (Black number)) address).
               or_left (is_black config memory address) (nat_le (memory (Tams (region_with config address))) (address - base_of config (region_with config address)))
               (and_from (nat_le config.region_words address) (bit_at (memory (Black (mark_word config address))) (mark_bit config address) == 1) (le-leb config.region_words address (omega (arith, from, low)))
               (eq-eqb (bit_at (memory (Black (mark_word config address))) (mark_bit config address)) 1 mark)))
-              (λ (young : IsYoung config (λ r. memory (Tams r)) address).
+              (λ (young : IsYoung config (λ region. memory (Tams region)) address).
               or_right (is_black config memory address) (nat_le (memory (Tams (region_with config address))) (address - base_of config (region_with config address)))
               (le-leb (memory (Tams (region_with config address))) (address - base_of config (region_with config address)) (omega (arith, young, from))))
               kept

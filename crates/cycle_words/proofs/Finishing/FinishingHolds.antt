@@ -18,7 +18,7 @@ use Rattle.image_graph.specs.Pinned.{pins_below, is_pinned}
 use Rattle.image_graph.specs.Image.{PinWordStands}
 use Rattle.image_graph.specs.Promised.{Promises, with_promised}
 use Rattle.image_graph.proofs.Reached.{held_is_reached}
-use Rattle.image_graph.proofs.Roots.{has_either, root_in, answer_in, pin_in, root_among, answer_among, pin_among}
+use Rattle.image_graph.proofs.HeldRoots.{has_either, root_in, answer_in, pin_in, root_among, answer_among, pin_among}
 use Rattle.image_graph.specs.Holds.{HoldsBy}
 use Rattle.image_graph.proofs.ServedHolds.{serving_holds}
 use Rattle.cycle_words.specs.Marking.WhileMarking.{CanBeReached}
@@ -33,8 +33,8 @@ use Rattle.cycle_words.proofs.Evacuation.CopyHolds.{some_set}
 use Rattle.cycle_words.proofs.Evacuation.RenamedInPlace as renamed
 use Rattle.image_graph.specs.Buffers.{HasNoMoreSeats}
 use Rattle.image_graph.proofs.Loosening.Loosened.{loosened_sized}
-use Rattle.image_graph.proofs.Loosening.Divided.{none_have_room}
-use Rattle.image_graph.proofs.Loosening.LettingGo.{has_let_go, let_go_seats}
+use Rattle.image_graph.proofs.Loosening.DividedPieces.{none_have_room}
+use Rattle.image_graph.proofs.Loosening.AllLetGo.{has_let_go, let_go_seats}
 use Rattle.cycle_words.proofs.Finishing.Collecting.{let_go_collecting}
 use Rattle.cycle_words.proofs.Finishing.Copies.{all_copied_other}
 use Rattle.cycle_words.proofs.Finishing.Fields.{low_spared, stays_outside, stays_pinned}
@@ -46,8 +46,8 @@ use Rattle.cycle_words.proofs.Finishing.SetLeft.{leaving_holds}
 
 -- Once the set was emptied and all references were updated nothing names what goes.
 module _ (config : Config) (memory : Word → ℕ) (block : Plot) (owner : ℕ → Option ℕ) (promises : Promises) (graph : Graph) (is : IsEmptied config memory block owner promises graph) (none : HasNoRoom block) where
-  abbrev n : Word → ℕ
-  n = all_updated config memory
+  abbrev now : Word → ℕ
+  now = all_updated config memory
 
   abbrev top : ℕ → ℕ
   top region = memory (Top region)
@@ -58,72 +58,72 @@ module _ (config : Config) (memory : Word → ℕ) (block : Plot) (owner : ℕ �
   abbrev holds : HoldsBy config memory block owner promises graph
   holds = is.holds
 
-  reached_was : (a : ℕ) → CanBeReached config n a → CanBeReached config memory a
-  reached_was = renamed.reached_was config memory n block owner promises graph holds (renaming config memory block owner promises graph holds is.sized none)
+  reached_was : (a : ℕ) → CanBeReached config now a → CanBeReached config memory a
+  reached_was = renamed.reached_was config memory now block owner promises graph holds (renaming config memory block owner promises graph holds is.sized none)
 
   -- what can be reached does not go
-  reached_spared : (address : ℕ) → CanBeReached config memory address → is_going config n address ≡ false
-  reached_spared address reached = false_from_ne_true (is_going config n address) (λ going.
-      let both = and_parts (is_collected config n address) (not (is_pinned config n (region_with config address)) || is_forwarded (n (Heap address))) going in
+  reached_spared : (address : ℕ) → CanBeReached config memory address → is_going config now address ≡ false
+  reached_spared address reached = false_from_ne_true (is_going config now address) (λ going.
+      let both = and_parts (is_collected config now address) (not (is_pinned config now (region_with config address)) || is_forwarded (now (Heap address))) going in
       let inside : IsCollected config (memory Cset) address =
       eqb-true (bit_at (memory Cset) (region_with config address)) 1 (and_parts (nat_le config.region_words address) (bit_at (memory Cset) (region_with config address) == 1) both.0).1 in
       let pinned : is_pinned config memory (region_with config address) ≡ true = is.outside address reached inside in
       let at = held_is_reached config top heap block (now_in memory) (IsAmong (held_words config memory)) (with_promised graph promises) holds.objects address reached in
       let object = holds.objects.each address at.1 at.2 at.0 reached at.3 in
-      let same : n (Heap address) ≡ memory (Heap address) = header_stays config memory block owner promises graph holds is.sized none address (thing at.0 at.1 at.2) at.3 in
+      let same : now (Heap address) ≡ memory (Heap address) = header_stays config memory block owner promises graph holds is.sized none address (thing at.0 at.1 at.2) at.3 in
       ⊎_elim
-      (λ (bare : not (is_pinned config n (region_with config address)) ≡ true). true≢false (sym pinned ∙ not-true (is_pinned config memory (region_with config address)) bare))
-      (λ (moved : is_forwarded (n (Heap address)) ≡ true). true≢false (sym moved ∙ ap is_forwarded same ∙ ap is_forwarded object.2.header))
-      (or_cases (not (is_pinned config n (region_with config address))) (is_forwarded (n (Heap address))) both.1))
+      (λ (bare : not (is_pinned config now (region_with config address)) ≡ true). true≢false (sym pinned ∙ not-true (is_pinned config memory (region_with config address)) bare))
+      (λ (moved : is_forwarded (now (Heap address)) ≡ true). true≢false (sym moved ∙ ap is_forwarded same ∙ ap is_forwarded object.2.header))
+      (or_cases (not (is_pinned config now (region_with config address))) (is_forwarded (now (Heap address))) both.1))
 
   -- so a word that led to an object names nothing that goes once it was updated
-  word_spared : (address : ℕ) → CanBeReached config memory (now_in memory address) → is_going config n (updated_word config memory address) ≡ false
+  word_spared : (address : ℕ) → CanBeReached config memory (now_in memory address) → is_going config now (updated_word config memory address) ≡ false
   word_spared address reached = ⊎_elim
-      (λ (yes : is_collected config memory address ≡ true). ap (is_going config n) (cond-true (is_collected config memory address) (now_in memory address) address yes) ∙ reached_spared (now_in memory address) reached)
+      (λ (yes : is_collected config memory address ≡ true). ap (is_going config now) (cond-true (is_collected config memory address) (now_in memory address) address yes) ∙ reached_spared (now_in memory address) reached)
       (λ (no : is_collected config memory address ≡ false).
-      ap (is_going config n) (cond-false (is_collected config memory address) (now_in memory address) address no) ∙ and_left (is_collected config n address) (not (is_pinned config n (region_with config address)) || is_forwarded (n (Heap address))) no)
+      ap (is_going config now) (cond-false (is_collected config memory address) (now_in memory address) address no) ∙ and_left (is_collected config now address) (not (is_pinned config now (region_with config address)) || is_forwarded (now (Heap address))) no)
       (cases_Bool (is_collected config memory address))
 
-  root_spared : (mutator index : ℕ) → mutator < config.mutators → index < 16 → n (Root mutator index) ≢ 0 → is_going config n (n (Root mutator index)) ≡ false
-  root_spared mutator index inside few some =
-      let other : memory (Root mutator index) ≢ 0 = λ none. some (low_spared config memory (memory (Root mutator index)) (omega (arith, none)) ∙ none) in
-      word_spared (memory (Root mutator index)) (from_root (memory (Root mutator index)) (root_among config top memory block graph promises holds.objects.plotted holds.rooted mutator index inside few) other)
+  root_spared : (mutator index : ℕ) → mutator < config.mutators → index < 16 → now (Root mutator index) ≢ 0 → is_going config now (now (Root mutator index)) ≡ false
+  root_spared mutator index inside below positive =
+      let other : memory (Root mutator index) ≢ 0 = λ none. positive (low_spared config memory (memory (Root mutator index)) (omega (arith, none)) ∙ none) in
+      word_spared (memory (Root mutator index)) (from_root (memory (Root mutator index)) (root_among config top memory block graph promises holds.objects.plotted holds.rooted mutator index inside below) other)
 
-  answer_spared : (mutator : ℕ) → mutator < config.mutators → 1 < n (Answer mutator) → is_going config n (n (Answer mutator)) ≡ false
-  answer_spared mutator inside some = ⊎_elim
+  answer_spared : (mutator : ℕ) → mutator < config.mutators → 1 < now (Answer mutator) → is_going config now (now (Answer mutator)) ≡ false
+  answer_spared mutator inside below = ⊎_elim
       (λ (big : 1 < memory (Answer mutator)).
       word_spared (memory (Answer mutator)) (from_root (memory (Answer mutator)) (answer_among config top memory block graph promises holds.objects.plotted holds.rooted mutator inside big) (λ none. omega (arith, none, big))))
-      (λ (low : memory (Answer mutator) ≤ 1). absurd (let same = low_spared config memory (memory (Answer mutator)) low in omega (arith, same, low, some)))
+      (λ (low : memory (Answer mutator) ≤ 1). absurd (let same = low_spared config memory (memory (Answer mutator)) low in omega (arith, same, low, below)))
       (cases_lt 1 (memory (Answer mutator)))
 
   -- what a pin slot holds has not moved
   pin_plain : (word : ℕ) (held : Option Pinned) → word ≢ 0 → PinWordStands memory block word held → is_forwarded (memory (Heap word)) ≡ false
-  pin_plain word None some stands = absurd (some stands)
-  pin_plain word (Some q) some stands = stands.2
+  pin_plain word None positive stands = absurd (positive stands)
+  pin_plain word (Some pinned) positive stands = stands.2
 
-  pin_spared : (mutator index : ℕ) → mutator < config.mutators → index < 4 → memory (Pin mutator index) ≢ 0 → is_going config n (memory (Pin mutator index)) ≡ false
-  pin_spared mutator index inside few some =
-      let plain = pin_plain (memory (Pin mutator index)) (graph.pin (mutator + 1) index) some (holds.rooted.pins mutator index inside few) in
-      let led = from_root (memory (Pin mutator index)) (pin_among config top memory block graph promises holds.objects.plotted holds.rooted mutator index inside few) some in
+  pin_spared : (mutator index : ℕ) → mutator < config.mutators → index < 4 → memory (Pin mutator index) ≢ 0 → is_going config now (memory (Pin mutator index)) ≡ false
+  pin_spared mutator index inside below positive =
+      let plain = pin_plain (memory (Pin mutator index)) (graph.pin (mutator + 1) index) positive (holds.rooted.pins mutator index inside below) in
+      let led = from_root (memory (Pin mutator index)) (pin_among config top memory block graph promises holds.objects.plotted holds.rooted mutator index inside below) positive in
       reached_spared (memory (Pin mutator index)) (subst (CanBeReached config memory) (cond-false (is_forwarded (memory (Heap (memory (Pin mutator index))))) (forwardee_in (memory (Heap (memory (Pin mutator index))))) (memory (Pin mutator index)) plain) led)
 
-  named_spared : (word : ℕ) → IsAmong (root_words config n) word → word ≢ 0 → is_going config n word ≡ false
-  named_spared word among some = ⊎_elim
-      (λ (root : has (roots_below n config.mutators) word ≡ true).
-      let at = root_in n config.mutators word root in
-      sym (ap (is_going config n) at.4) ∙ root_spared at.0 at.1 at.2 at.3 (λ none. some (sym at.4 ∙ none)))
-      (λ (answer : has (answers_below n config.mutators) word ≡ true).
-      let at = answer_in n config.mutators word answer in
-      sym (ap (is_going config n) at.3) ∙ answer_spared at.0 at.1 at.2)
-      (has_either (roots_below n config.mutators) (answers_below n config.mutators) word among)
+  named_spared : (word : ℕ) → IsAmong (root_words config now) word → word ≢ 0 → is_going config now word ≡ false
+  named_spared word among positive = ⊎_elim
+      (λ (root : has (roots_below now config.mutators) word ≡ true).
+      let at = root_in now config.mutators word root in
+      sym (ap (is_going config now) at.4) ∙ root_spared at.0 at.1 at.2 at.3 (λ none. positive (sym at.4 ∙ none)))
+      (λ (answer : has (answers_below now config.mutators) word ≡ true).
+      let at = answer_in now config.mutators word answer in
+      sym (ap (is_going config now) at.3) ∙ answer_spared at.0 at.1 at.2)
+      (has_either (roots_below now config.mutators) (answers_below now config.mutators) word among)
 
-  held_spared : (word : ℕ) → IsAmong (held_words config n) word → word ≢ 0 → is_going config n word ≡ false
-  held_spared word among some = ⊎_elim
-      (λ (named : has (root_words config n) word ≡ true). named_spared word named some)
-      (λ (pin : has (pins_below n config.mutators) word ≡ true).
-      let at = pin_in n config.mutators word pin in
-      sym (ap (is_going config n) at.4) ∙ pin_spared at.0 at.1 at.2 at.3 (λ none. some (sym at.4 ∙ none)))
-      (has_either (root_words config n) (pins_below n config.mutators) word among)
+  held_spared : (word : ℕ) → IsAmong (held_words config now) word → word ≢ 0 → is_going config now word ≡ false
+  held_spared word among positive = ⊎_elim
+      (λ (named : has (root_words config now) word ≡ true). named_spared word named positive)
+      (λ (pin : has (pins_below now config.mutators) word ≡ true).
+      let at = pin_in now config.mutators word pin in
+      sym (ap (is_going config now) at.4) ∙ pin_spared at.0 at.1 at.2 at.3 (λ none. positive (sym at.4 ∙ none)))
+      (has_either (root_words config now) (pins_below now config.mutators) word among)
 
   -- objects of a region stay in which something can be reached
   stays_there : (address : ℕ) → CanBeReached config memory address → stays config memory (region_with config address) ≡ true
@@ -151,32 +151,32 @@ module _ (config : Config) (memory : Word → ℕ) (block : Plot) (owner : ℕ �
         at = refl;
       })
 
-  field_spared : (address i : ℕ) → CanBeReached config n address → i < refs_in (n (Heap (address + 1))) → n (Heap (address + 3 + i)) ≢ 0 → is_going config n (n (Heap (address + 3 + i))) ≡ false
-  field_spared address i reached few some = false_from_ne_true (is_going config n (n (Heap (address + 3 + i)))) (λ going.
-      let both = and_parts (is_collected config n (n (Heap (address + 3 + i)))) (not (is_pinned config n (region_with config (n (Heap (address + 3 + i))))) || is_forwarded (n (Heap (n (Heap (address + 3 + i)))))) going in
-      let member : IsCollected config (memory Cset) (n (Heap (address + 3 + i))) =
-      eqb-true (bit_at (memory Cset) (region_with config (n (Heap (address + 3 + i))))) 1
-      (and_parts (nat_le config.region_words (n (Heap (address + 3 + i)))) (bit_at (memory Cset) (region_with config (n (Heap (address + 3 + i)))) == 1) both.0).1 in
+  field_spared : (address i : ℕ) → CanBeReached config now address → i < refs_in (now (Heap (address + 1))) → now (Heap (address + 3 + i)) ≢ 0 → is_going config now (now (Heap (address + 3 + i))) ≡ false
+  field_spared address i reached below positive = false_from_ne_true (is_going config now (now (Heap (address + 3 + i)))) (λ going.
+      let both = and_parts (is_collected config now (now (Heap (address + 3 + i)))) (not (is_pinned config now (region_with config (now (Heap (address + 3 + i))))) || is_forwarded (now (Heap (now (Heap (address + 3 + i)))))) going in
+      let member : IsCollected config (memory Cset) (now (Heap (address + 3 + i))) =
+      eqb-true (bit_at (memory Cset) (region_with config (now (Heap (address + 3 + i))))) 1
+      (and_parts (nat_le config.region_words (now (Heap (address + 3 + i)))) (bit_at (memory Cset) (region_with config (now (Heap (address + 3 + i)))) == 1) both.0).1 in
       let was = reached_was address reached in
       let at = held_is_reached config top heap block (now_in memory) (IsAmong (held_words config memory)) (with_promised graph promises) holds.objects address was in
-      let shape : n (Heap (address + 1)) ≡ heap (address + 1) = word_stays config memory block owner promises graph holds is.sized none address 1 0 (thing at.0 at.1 at.2) at.3 (omega arith) (inl (omega arith)) in
-      let count : i < refs_in (heap (address + 1)) = subst (λ k. i < k) (ap refs_in shape) few in
-      let field = field_kept address i (some_set config (memory Cset) (n (Heap (address + 3 + i))) member) was count in
-      let same : n (Heap (address + 3 + i)) ≡ updated_word config memory (heap (address + 3 + i)) = cond-true (is_kept_field config memory (address + 3 + i)) (updated_word config memory (heap (address + 3 + i))) (heap (address + 3 + i)) field in
-      let other : heap (address + 3 + i) ≢ 0 = λ none. some (same ∙ low_spared config memory (heap (address + 3 + i)) (omega (arith, none)) ∙ none) in
-      true≢false (sym going ∙ ap (is_going config n) same ∙ word_spared (heap (address + 3 + i)) (from_field address i was count other)))
+      let shape : now (Heap (address + 1)) ≡ heap (address + 1) = word_stays config memory block owner promises graph holds is.sized none address 1 0 (thing at.0 at.1 at.2) at.3 (omega arith) (inl (omega arith)) in
+      let count : i < refs_in (heap (address + 1)) = subst (λ k. i < k) (ap refs_in shape) below in
+      let field = field_kept address i (some_set config (memory Cset) (now (Heap (address + 3 + i))) member) was count in
+      let same : now (Heap (address + 3 + i)) ≡ updated_word config memory (heap (address + 3 + i)) = cond-true (is_kept_field config memory (address + 3 + i)) (updated_word config memory (heap (address + 3 + i))) (heap (address + 3 + i)) field in
+      let other : heap (address + 3 + i) ≢ 0 = λ none. positive (same ∙ low_spared config memory (heap (address + 3 + i)) (omega (arith, none)) ∙ none) in
+      true≢false (sym going ∙ ap (is_going config now) same ∙ word_spared (heap (address + 3 + i)) (from_field address i was count other)))
 
-  pub nothing_names : NothingNamesGone config n
+  pub nothing_names : NothingNamesGone config now
   nothing_names = record { roots = held_spared; fields = field_spared; unseated = is.unseated }
 
-  updated : HoldsBy config n block owner promises graph
+  updated : HoldsBy config now block owner promises graph
   updated = updated_holds config memory block owner promises graph holds is.sized none
 
   -- so the set may be left, and who waits served
-  pub served_holds : HoldsAnew config (served config (set_freed config n) config.mutators) graph
+  pub served_holds : HoldsAnew config (served config (set_freed config now) config.mutators) graph
   served_holds =
-      let then = leaving_holds config n block owner promises graph updated (updated_sized config memory block owner promises graph holds is.sized none) nothing_names in
-      let after = serving_holds config (set_freed config n) (left_block config n block) (freed_owner (is_to_free config n) owner) promises graph then.holds in
+      let then = leaving_holds config now block owner promises graph updated (updated_sized config memory block owner promises graph holds is.sized none) nothing_names in
+      let after = serving_holds config (set_freed config now) (left_block config now block) (freed_owner (is_to_free config now) owner) promises graph then.holds in
       record { pieces = _; owner = _; promises = _; holds = after.holds; sized = after.sized then.sized }
 
 -- From words in which nobody has a buffer ..

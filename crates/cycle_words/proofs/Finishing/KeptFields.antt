@@ -40,7 +40,7 @@ module _ (config : Config) (memory : Word → ℕ) (block : Plot) (owner : ℕ �
   some : (address : ℕ) (piece : Block) → block address ≡ Some piece → 1 ≤ words_of piece
   some = holds.pieces.some
 
-  sizes : (address : ℕ) (piece : Block) → block address ≡ Some piece → stays config memory (region_with config address) ≡ true → stride_at (λ y. memory (Heap y)) address ≡ words_of piece
+  sizes : (address : ℕ) (piece : Block) → block address ≡ Some piece → stays config memory (region_with config address) ≡ true → stride_at (λ address. memory (Heap address)) address ≡ words_of piece
   sizes address piece is stay = strides memory block sized none address piece is
 
   -- what the walk finds is a field of a kept object
@@ -48,15 +48,15 @@ module _ (config : Config) (memory : Word → ℕ) (block : Plot) (owner : ℕ �
     abbrev r : ℕ
     r = region_with config address
 
-    abbrev a : ℕ
-    a = object_of config memory address
+    abbrev object_address : ℕ
+    object_address = object_of config memory address
 
-    parts : ((is_staying config memory address ≡ true) × (is_kept_here config memory a ≡ true)) × (is_reference memory a address ≡ true)
-    parts = let both = and_parts _ (is_reference memory a address) is in (and_parts (is_staying config memory address) (is_kept_here config memory a) both.0, both.1)
+    parts : ((is_staying config memory address ≡ true) × (is_kept_here config memory object_address ≡ true)) × (is_reference memory object_address address ≡ true)
+    parts = let both = and_parts _ (is_reference memory object_address address) is in (and_parts (is_staying config memory address) (is_kept_here config memory object_address) both.0, both.1)
 
     -- the object has not moved, and is kept
-    kept_here : (is_forwarded (memory (Heap a)) ≡ false) × (is_kept config memory a ≡ true)
-    kept_here = let both = and_parts (not (is_forwarded (memory (Heap a)))) (is_kept config memory a) parts.0.1 in (not-true (is_forwarded (memory (Heap a))) both.0, both.1)
+    kept_here : (is_forwarded (memory (Heap object_address)) ≡ false) × (is_kept config memory object_address ≡ true)
+    kept_here = let both = and_parts (not (is_forwarded (memory (Heap object_address)))) (is_kept config memory object_address) parts.0.1 in (not-true (is_forwarded (memory (Heap object_address))) both.0, both.1)
 
     lies : (config.region_words ≤ address) × (r < config.regions) × (stays config memory r ≡ true) × (address - base_of config r < memory (Top r))
     lies =
@@ -68,7 +68,7 @@ module _ (config : Config) (memory : Word → ℕ) (block : Plot) (owner : ℕ �
     from : base_of config r ≤ address
     from = let again = from_base config.region_words address (regions.some_words config) lies.0 in omega (arith, again)
 
-    found : (piece : Block) × (block a ≡ Some piece) × (a ≤ address) × (address < a + words_of piece)
+    found : (piece : Block) × (block object_address ≡ Some piece) × (object_address ≤ address) × (address < object_address + words_of piece)
     found =
         let at = covered config memory block holds.objects.plotted holds.filled some (λ q. stays config memory q ≡ true) sizes r (address - base_of config r) lies.1 lies.2 lies.3 in
         let start = from in
@@ -76,41 +76,41 @@ module _ (config : Config) (memory : Word → ℕ) (block : Plot) (owner : ℕ �
         let high = at.3 in
         (at.0, at.1, omega (arith, start, low), omega (arith, start, high))
 
-    region_is : region_with config a ≡ r
+    region_is : region_with config object_address ≡ r
     region_is =
         let low = found.2 in
         let high = found.3 in
-        let offset : ℕ = address - a in
-        let back : a + (address - a) ≡ address = omega (arith, low) in
-        sym (same_region config memory block holds.objects.plotted holds.filled some sizes a (address - a) found.0 found.1 (omega (arith, low, high))) ∙ ap (region_with config) back
+        let offset : ℕ = address - object_address in
+        let back : object_address + (address - object_address) ≡ address = omega (arith, low) in
+        sym (same_region config memory block holds.objects.plotted holds.filled some sizes object_address (address - object_address) found.0 found.1 (omega (arith, low, high))) ∙ ap (region_with config) back
 
-    tests : ((is_filler (memory (Heap a)) ≡ false) × (a + 3 ≤ address)) × (address < a + 3 + refs_in (memory (Heap (a + 1))))
+    tests : ((is_filler (memory (Heap object_address)) ≡ false) × (object_address + 3 ≤ address)) × (address < object_address + 3 + refs_in (memory (Heap (object_address + 1))))
     tests =
-        let both = and_parts (not (is_filler (memory (Heap a))) && nat_le (a + 3) address) (nat_lt address (a + 3 + refs_in (memory (Heap (a + 1))))) parts.1 in
-        let first = and_parts (not (is_filler (memory (Heap a)))) (nat_le (a + 3) address) both.0 in
-        ((not-true (is_filler (memory (Heap a))) first.0, leb-true (a + 3) address first.1), ltb-true address (a + 3 + refs_in (memory (Heap (a + 1)))) both.1)
+        let both = and_parts (not (is_filler (memory (Heap object_address))) && nat_le (object_address + 3) address) (nat_lt address (object_address + 3 + refs_in (memory (Heap (object_address + 1))))) parts.1 in
+        let first = and_parts (not (is_filler (memory (Heap object_address)))) (nat_le (object_address + 3) address) both.0 in
+        ((not-true (is_filler (memory (Heap object_address))) first.0, leb-true (object_address + 3) address first.1), ltb-true address (object_address + 3 + refs_in (memory (Heap (object_address + 1)))) both.1)
 
     -- words that only fill have another header
     object_there : is_loose found.0 ≡ false
     object_there = ⊎_elim
         (λ (fixed : is_loose found.0 ≡ false). fixed)
         (λ loose. ⊎_elim
-        (λ (room : (seat : ℕ) × (room_of found.0 ≡ Some seat)). absurd (none a room.0 found.0 found.1 room.1))
+        (λ (room : (seat : ℕ) × (room_of found.0 ≡ Some seat)). absurd (none object_address room.0 found.0 found.1 room.1))
         (λ (fills : (words : ℕ) × (found.0 ≡ filler words)).
-        absurd (true≢false (sym (ap is_filler (sized.fillers a fills.0 (found.1 ∙ ap Some fills.1)) ∙ filler_fills fills.0) ∙ tests.0.0)))
+        absurd (true≢false (sym (ap is_filler (sized.fillers object_address fills.0 (found.1 ∙ ap Some fills.1)) ∙ filler_fills fills.0) ∙ tests.0.0)))
         loose)
         (kind_of found.0)
 
     pub field_is : IsFieldOfKept config memory block address
     field_is = record {
-      object = a;
+      object = object_address;
       piece = found.0;
       here = found.1;
       is_object = object_there;
       stays_there = ap (stays config memory) region_is ∙ lies.2;
       unmoved = kept_here.0;
-      kept = kept_is config memory a (below_top config (λ q. memory (Top q)) block holds.objects.plotted a found.0 found.1 (some a found.0 found.1)).1 kept_here.1;
-      field = address - (a + 3);
+      kept = kept_is config memory object_address (below_top config (λ region. memory (Top region)) block holds.objects.plotted object_address found.0 found.1 (some object_address found.0 found.1)).1 kept_here.1;
+      field = address - (object_address + 3);
       few = (let low = tests.0.1 in let high = tests.1 in omega (arith, low, high));
       at = (let low = tests.0.1 in omega (arith, low));
     }

@@ -32,7 +32,7 @@ was_left false piece = WasLeft.stays refl refl
 
 none_fills : (found : Option Block) → option_map (piece_left false) found ≡ found
 none_fills None = refl
-none_fills (Some x) = refl
+none_fills (Some piece) = refl
 
 -- The pieces where those that pass a test only fill.
 module _ (fill : ℕ → Bool) (block : Plot) where
@@ -45,7 +45,7 @@ module _ (fill : ℕ → Bool) (block : Plot) where
       (was.0, was.1, subst (WasLeft (fill address) was.0) was.2 (was_left (fill address) was.0))
 
   pub same_there : (address : ℕ) → fill address ≡ false → plot_left address ≡ block address
-  same_there address stands = ap (λ b. option_map (piece_left b) (block address)) stands ∙ none_fills (block address)
+  same_there address stands = ap (λ moved. option_map (piece_left moved) (block address)) stands ∙ none_fills (block address)
 
   words_were : (piece other_piece : Block) (holds : Bool) → WasLeft holds piece other_piece → words_of piece ≡ words_of other_piece
   words_were piece other_piece holds (WasLeft.stays same stands) = ap words_of same
@@ -53,7 +53,7 @@ module _ (fill : ℕ → Bool) (block : Plot) where
 
   pub resized : IsResized block plot_left
   resized = record {
-    from = λ a b is. (let was = piece_was a b is in (was.0, was.1, words_were was.0 b (fill a) was.2));
+    from = λ address piece is. (let was = piece_was address piece is in (was.0, was.1, words_were was.0 piece (fill address) was.2));
     to = λ a x is. (piece_left (fill a) x, ap (option_map (piece_left (fill a))) is);
   }
 
@@ -120,7 +120,7 @@ module _ (config : Config) (memory : Word → ℕ) (block : Plot) (owner : ℕ �
   trimmed = record {
     plotted = resized_plotted config top block left (resized fill block) holds.objects.plotted;
     roots = λ word among some. same_there fill block word (can.unnamed_roots word among some);
-    fields = λ a i held few some. same_there fill block (memory (Heap (a + 3 + i))) (can.unnamed_fields a i held few some);
+    fields = λ address i held few some. same_there fill block (memory (Heap (address + 3 + i))) (can.unnamed_fields address i held few some);
     current = current;
     was = λ a refs nums name is. (object_was fill block a (thing name refs nums) refl is).0;
   }
@@ -142,14 +142,14 @@ module _ (config : Config) (memory : Word → ℕ) (block : Plot) (owner : ℕ �
     filled = resized_filled config top block left (resized fill block) holds.filled;
     pieces = record {
       named = named;
-      unpromised = λ a seat words is. holds.pieces.unpromised a seat words (object_was fill block a (promised seat words) refl is).0;
-      unheld = λ a seat words is. holds.pieces.unheld a seat words (room_was fill block a seat (hand seat words) refl is);
-      uncarved = λ a seat words is. holds.pieces.uncarved a seat words (room_was fill block a seat (carved seat words) refl is);
+      unpromised = λ address seat words is. holds.pieces.unpromised address seat words (object_was fill block address (promised seat words) refl is).0;
+      unheld = λ address seat words is. holds.pieces.unheld address seat words (room_was fill block address seat (hand seat words) refl is);
+      uncarved = λ address seat words is. holds.pieces.uncarved address seat words (room_was fill block address seat (carved seat words) refl is);
       some = λ a b is. (let from = (resized fill block).from a b is in let long = holds.pieces.some a from.0 from.1 in omega (arith, long, from.2));
     };
     free_word = holds.free_word;
     shared_one = holds.shared_one;
-    buffers = buffers_stay config top top (λ s. memory (Current s)) block left same_room holds.buffers (λ seat some. omega arith);
+    buffers = buffers_stay config top top (λ seat. memory (Current seat)) block left same_room holds.buffers (λ seat some. omega arith);
     asking = holds.asking;
     next = holds.next;
     unreached = holds.unreached;

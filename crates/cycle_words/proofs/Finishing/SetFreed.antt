@@ -30,17 +30,17 @@ module _ (config : Config) (memory : Word → ℕ) (block : Plot) (owner : ℕ �
 
   can : CanFree config out memory block
   can = record {
-    unseated = λ seat r is. not_out r (nothing.unseated seat r is);
-    unshared = λ r is. not_out r (holds.shared_one r is).outside;
+    unseated = λ seat region is. not_out region (nothing.unseated seat region is);
+    unshared = λ region is. not_out region (holds.shared_one region is).outside;
     unnamed_roots = λ word among some. not_out (region_with config word) (nothing.roots word among some);
-    unnamed_fields = λ a i held few some. not_out (region_with config (memory (Heap (a + 3 + i)))) (nothing.fields a i held few some);
-    unmoved = λ a refs nums name is left. false_from_ne_true (is_forwarded (memory (Heap a))) (λ forwarded.
-        let was = holds.moved a refs nums name is forwarded in
-        true≢false (sym (eq-eqb (bit_at (memory Cset) (region_with config a)) 1 was.in_set) ∙ left));
+    unnamed_fields = λ address i held few some. not_out (region_with config (memory (Heap (address + 3 + i)))) (nothing.fields address i held few some);
+    unmoved = λ address refs nums name is left. false_from_ne_true (is_forwarded (memory (Heap address))) (λ forwarded.
+        let was = holds.moved address refs nums name is forwarded in
+        true≢false (sym (eq-eqb (bit_at (memory Cset) (region_with config address)) 1 was.in_set) ∙ left));
   }
 
-  abbrev n : Word → ℕ
-  n = freed config out memory
+  abbrev now : Word → ℕ
+  now = freed config out memory
 
   abbrev left : Plot
   left = freed_block config out block
@@ -49,12 +49,12 @@ module _ (config : Config) (memory : Word → ℕ) (block : Plot) (owner : ℕ �
   owned = freed_owner out owner
 
   -- nothing that is left has moved, so no region need be in the set
-  calm_holds : HoldsBy config (with_set n 0) left owned promises graph
-  calm_holds = set_stored_holds config n left owned promises graph (freed_holds config out memory block owner promises graph holds can) (λ a refs nums name is. left_unmoved config out memory block owner promises graph holds can a refs nums name is) 0
+  calm_holds : HoldsBy config (with_set now 0) left owned promises graph
+  calm_holds = set_stored_holds config now left owned promises graph (freed_holds config out memory block owner promises graph holds can) (λ a refs nums name is. left_unmoved config out memory block owner promises graph holds can a refs nums name is) 0
       (λ r is member. (let none = bit_at-zero r in omega (arith, member, none)))
 
   pub set_ended_holds : HoldsBy config (final_updated config memory) left owned promises graph
-  set_ended_holds = holds_alike (with_set n 0) (final_updated config memory)
+  set_ended_holds = holds_alike (with_set now 0) (final_updated config memory)
       (record { heap = λ a. refl; top = λ r. refl; root = λ t i. refl; answer = λ t. refl; wait = λ t. refl; current = λ s. refl; free = refl; cset = refl; share = refl; pin = λ t i. refl })
       config left owned promises graph calm_holds
 

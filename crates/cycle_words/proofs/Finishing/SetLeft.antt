@@ -83,13 +83,13 @@ module _ (config : Config) (memory : Word → ℕ) (block : Plot) (owner : ℕ �
       (le-leb config.region_words word (high word name named)) left
 
   root_spared : (word : ℕ) → IsAmong (held_words config memory) word → word ≢ 0 → (out (region_with config word) ≡ false) × (fill word ≡ false)
-  root_spared word among some = let to = holds.objects.root_named word among some in spared word to.2 to.4 (nothing.roots word among some)
+  root_spared word among positive = let to = holds.objects.root_named word among positive in spared word to.2 to.4 (nothing.roots word among positive)
 
   field_spared : (address i : ℕ) → CanBeReached config memory address → i < refs_in (memory (Heap (address + 1))) → memory (Heap (address + 3 + i)) ≢ 0
       → (out (region_with config (memory (Heap (address + 3 + i)))) ≡ false) × (fill (memory (Heap (address + 3 + i))) ≡ false)
-  field_spared address i held few some =
-      let to = field_named config memory block owner promises graph holds address i held few some in
-      spared (memory (Heap (address + 3 + i))) to.0 to.1 (nothing.fields address i held few some)
+  field_spared address i held below positive =
+      let to = field_named config memory block owner promises graph holds address i held below positive in
+      spared (memory (Heap (address + 3 + i))) to.0 to.1 (nothing.fields address i held below positive)
 
   -- no room is in the set
   room_outside : (address seat : ℕ) (piece : Block) → block address ≡ Some piece → room_of piece ≡ Some seat → IsIn (memory Cset) (region_with config address) → ⊥
@@ -100,11 +100,11 @@ module _ (config : Config) (memory : Word → ℕ) (block : Plot) (owner : ℕ �
   can_fill : CanBeFilled config memory block fill
   can_fill = record {
     unnamed_roots = λ word among some. (root_spared word among some).1;
-    unnamed_fields = λ a i held few some. (field_spared a i held few some).1;
+    unnamed_fields = λ address i held few some. (field_spared address i held few some).1;
     copies = λ a refs nums name is forwarded.
         let away = (holds.moved a refs nums name is forwarded).outside in
         not_filled (now_in memory a) (λ member. omega (arith, away, member));
-    rooms = λ a seat x is room. not_filled a (room_outside a seat x is room);
+    rooms = λ address seat piece is room. not_filled address (room_outside address seat piece is room);
   }
 
   abbrev filled : Plot
@@ -123,10 +123,10 @@ module _ (config : Config) (memory : Word → ℕ) (block : Plot) (owner : ℕ �
 
   can : CanFree config out memory filled
   can = record {
-    unseated = λ seat r is. not_out r (nothing.unseated seat r is);
-    unshared = λ r is. not_out r (holds.shared_one r is).outside;
+    unseated = λ seat region is. not_out region (nothing.unseated seat region is);
+    unshared = λ region is. not_out region (holds.shared_one region is).outside;
     unnamed_roots = λ word among some. (root_spared word among some).0;
-    unnamed_fields = λ a i held few some. (field_spared a i held few some).0;
+    unnamed_fields = λ address i held few some. (field_spared address i held few some).0;
     unmoved = unmoved;
   }
 
@@ -137,22 +137,22 @@ module _ (config : Config) (memory : Word → ℕ) (block : Plot) (owner : ℕ �
   owned = freed_owner out owner
 
   -- the words once the regions were freed, without a set
-  abbrev k : Word → ℕ
-  k = with_set (freed config out memory) 0
+  abbrev now : Word → ℕ
+  now = with_set (freed config out memory) 0
 
-  calm_holds : HoldsBy config k left owned promises graph
+  calm_holds : HoldsBy config now left owned promises graph
   calm_holds = set_stored_holds config (freed config out memory) left owned promises graph (freed_holds config out memory filled owner promises graph filled_holds can)
       (λ a refs nums name is. left_unmoved config out memory filled owner promises graph filled_holds can a refs nums name is) 0
       (λ r is member. (let none = bit_at-zero r in omega (arith, member, none)))
 
-  abbrev n : Word → ℕ
-  n = set_freed config memory
+  abbrev memory_then : Word → ℕ
+  memory_then = set_freed config memory
 
   -- Pinned regions of the set can be walked.
   abbrev IsWalked : ℕ → Type 0
   IsWalked r = is_to_stay config memory r ≡ true
 
-  sizes : (address : ℕ) (piece : Block) → block address ≡ Some piece → IsWalked (region_with config address) → stride_at (λ y. memory (Heap y)) address ≡ words_of piece
+  sizes : (address : ℕ) (piece : Block) → block address ≡ Some piece → IsWalked (region_with config address) → stride_at (λ address. memory (Heap address)) address ≡ words_of piece
   sizes address piece is walked =
       let member = eqb-true (bit_at (memory Cset) (region_with config address)) 1 (and_parts (is_chosen memory (region_with config address)) (is_pinned config memory (region_with config address)) walked).0 in
       stride_of memory block sized address piece is (λ seat room. room_outside address seat piece is room member)
@@ -179,18 +179,18 @@ module _ (config : Config) (memory : Word → ℕ) (block : Plot) (owner : ℕ �
       let walked : IsWalked (region_with config address) = sym (ap (is_to_stay config memory) same) ∙ parts.0 in
       true≢false (sym parts.1 ∙ walking.begins_not config memory block holds.objects.plotted holds.filled holds.pieces.some IsWalked sizes address (suc j) piece is below walked (omega arith))
 
-  word_same : (address j : ℕ) (piece : Block) → block address ≡ Some piece → fill address ≡ false → j < words_of piece → n (Heap (address + j)) ≡ memory (Heap (address + j))
+  word_same : (address j : ℕ) (piece : Block) → block address ≡ Some piece → fill address ≡ false → j < words_of piece → memory_then (Heap (address + j)) ≡ memory (Heap (address + j))
   word_same address j piece is stands below =
       cond-false (changes (address + j)) (filler_header (object_words (memory (Heap (address + j + 1))))) (memory (Heap (address + j)))
       (false_from_ne_true (changes (address + j)) (no_change address j piece is stands below))
 
-  header_same : (address : ℕ) (piece : Block) → block address ≡ Some piece → fill address ≡ false → n (Heap address) ≡ memory (Heap address)
+  header_same : (address : ℕ) (piece : Block) → block address ≡ Some piece → fill address ≡ false → memory_then (Heap address) ≡ memory (Heap address)
   header_same address piece is stands =
       let first : address + 0 ≡ address = omega arith in
-      sym (ap (λ y. n (Heap y)) first) ∙ word_same address 0 piece is stands (holds.pieces.some address piece is) ∙ ap (λ y. memory (Heap y)) first
+      sym (ap (λ address. memory_then (Heap address)) first) ∙ word_same address 0 piece is stands (holds.pieces.some address piece is) ∙ ap (λ address. memory (Heap address)) first
 
   -- and what has moved has the header of filler of its words
-  header_filled : (address : ℕ) (piece : Block) → block address ≡ Some piece → fill address ≡ true → n (Heap address) ≡ filler_header (object_words (memory (Heap (address + 1))))
+  header_filled : (address : ℕ) (piece : Block) → block address ≡ Some piece → fill address ≡ true → memory_then (Heap address) ≡ filler_header (object_words (memory (Heap (address + 1))))
   header_filled address piece is passed =
       let parts = and_parts (is_to_stay config memory (region_with config address)) (has_moved memory address) passed in
       let begins_here = walking.piece_begins config memory block holds.objects.plotted holds.filled holds.pieces.some IsWalked sizes address piece is parts.0 in
@@ -201,28 +201,28 @@ module _ (config : Config) (memory : Word → ℕ) (block : Plot) (owner : ℕ �
   there : (address : ℕ) (piece : Block) → is_loose piece ≡ false → left address ≡ Some piece → (block address ≡ Some piece) × (fill address ≡ false)
   there address piece fixed is = object_was fill block address piece fixed (vanished.piece_was config out filled address piece is).1
 
-  renaming : IsRenaming config k n left
+  renaming : IsRenaming config now memory_then left
   renaming = record {
-    headers = λ a refs nums name here. let was = there a (thing name refs nums) refl here in header_same a (thing name refs nums) was.0 was.1;
-    words = λ a j refs nums name here reads below other. let was = there a (thing name refs nums) refl here in word_same a j (thing name refs nums) was.0 was.1 below;
+    headers = λ address refs nums name here. let was = there address (thing name refs nums) refl here in header_same address (thing name refs nums) was.0 was.1;
+    words = λ address j refs nums name here reads below other. let was = there address (thing name refs nums) refl here in word_same address j (thing name refs nums) was.0 was.1 below;
     fields = λ a i refs nums name here few.
         let was = there a (thing name refs nums) refl here in
         let place : a + (3 + i) ≡ a + 3 + i = omega arith in
-        not_renamed k (memory (Heap (a + 3 + i))) (n (Heap (a + 3 + i)))
-        (sym (ap (λ y. n (Heap y)) place) ∙ word_same a (3 + i) (thing name refs nums) was.0 was.1 (omega (arith, few)) ∙ ap (λ y. memory (Heap y)) place);
-    roots = λ t i inside few. not_renamed k (memory (Root t i)) (memory (Root t i)) refl;
-    answers = λ t inside. not_renamed k (memory (Answer t)) (memory (Answer t)) refl;
+        not_renamed now (memory (Heap (a + 3 + i))) (memory_then (Heap (a + 3 + i)))
+        (sym (ap (λ address. memory_then (Heap address)) place) ∙ word_same a (3 + i) (thing name refs nums) was.0 was.1 (omega (arith, few)) ∙ ap (λ address. memory (Heap address)) place);
+    roots = λ mutator index inside few. not_renamed now (memory (Root mutator index)) (memory (Root mutator index)) refl;
+    answers = λ mutator inside. not_renamed now (memory (Answer mutator)) (memory (Answer mutator)) refl;
     waits = λ t. refl;
     tops = λ r. refl;
     free = refl;
     cset = refl;
-    currents = λ s. refl;
+    currents = λ seat. refl;
     share = refl;
     pins = λ t i. refl;
   }
 
-  pub set_left_holds : HoldsBy config n left owned promises graph
-  set_left_holds = renamed_holds config k n left owned promises graph calm_holds renaming
+  pub set_left_holds : HoldsBy config memory_then left owned promises graph
+  set_left_holds = renamed_holds config now memory_then left owned promises graph calm_holds renaming
 
   -- what has moved is an object
   moved_fixed : (address : ℕ) (piece : Block) → block address ≡ Some piece → fill address ≡ true → is_loose piece ≡ false
@@ -237,18 +237,18 @@ module _ (config : Config) (memory : Word → ℕ) (block : Plot) (owner : ℕ �
       loose)
       (kind_of piece)
 
-  filler_said : (address words : ℕ) (piece : Block) → block address ≡ Some piece → WasLeft (fill address) piece (filler words) → n (Heap address) ≡ filler_header words
+  filler_said : (address words : ℕ) (piece : Block) → block address ≡ Some piece → WasLeft (fill address) piece (filler words) → memory_then (Heap address) ≡ filler_header words
   filler_said address words piece is (WasLeft.stays same stands) = header_same address piece is stands ∙ sized.fillers address words (is ∙ ap Some same)
   filler_said address words piece is (WasLeft.fills fills passed) =
       header_filled address piece is passed ∙ ap filler_header (sized.objects address piece is (moved_fixed address piece is passed)) ∙ ap filler_header (sym (ap words_of fills))
 
-  pub set_left_sized : AreSized n left
+  pub set_left_sized : AreSized memory_then left
   set_left_sized = record {
     objects = λ a b is fixed.
         let was = there a b fixed is in
         let words = sized.objects a b was.0 fixed in
         ap object_words (word_same a 1 b was.0 was.1 (omega (arith, words))) ∙ words;
-    headers = λ a b is fixed. let was = there a b fixed is in ap is_filler (header_same a b was.0 was.1) ∙ sized.headers a b was.0 fixed;
+    headers = λ address piece is fixed. let was = there address piece fixed is in ap is_filler (header_same address piece was.0 was.1) ∙ sized.headers address piece was.0 fixed;
     fillers = λ a words is.
         let was = piece_was fill block a (filler words) (vanished.piece_was config out filled a (filler words) is).1 in
         filler_said a words was.0 was.1 was.2;

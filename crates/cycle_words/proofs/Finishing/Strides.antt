@@ -13,13 +13,13 @@ pub filler_fills : (words : ℕ) → is_filler (filler_header words) ≡ true
 filler_fills words = eq-eqb _ 2 (omega arith)
 
 module _ (memory : Word → ℕ) (block : Plot) (sized : AreSized memory block) where
-  fills : (address words : ℕ) → block address ≡ Some (filler words) → stride_at (λ y. memory (Heap y)) address ≡ words
+  fills : (address words : ℕ) → block address ≡ Some (filler words) → stride_at (λ address. memory (Heap address)) address ≡ words
   fills address words here =
       let header = sized.fillers address words here in
       let quarter : filler_header words / 4 ≡ words = omega arith in
       cond-true (is_filler (memory (Heap address))) (memory (Heap address) / 4) (object_words (memory (Heap (address + 1)))) (ap is_filler header ∙ filler_fills words) ∙ ap (λ k. k / 4) header ∙ quarter
 
-  pub stride_of : (address : ℕ) (piece : Block) → block address ≡ Some piece → ((seat : ℕ) → room_of piece ≡ Some seat → ⊥) → stride_at (λ y. memory (Heap y)) address ≡ words_of piece
+  pub stride_of : (address : ℕ) (piece : Block) → block address ≡ Some piece → ((seat : ℕ) → room_of piece ≡ Some seat → ⊥) → stride_at (λ address. memory (Heap address)) address ≡ words_of piece
   stride_of address piece here none = ⊎_elim
       (λ (fixed : is_loose piece ≡ false).
       cond-false (is_filler (memory (Heap address))) (memory (Heap address) / 4) (object_words (memory (Heap (address + 1)))) (sized.headers address piece here fixed) ∙ sized.objects address piece here fixed)
@@ -30,5 +30,5 @@ module _ (memory : Word → ℕ) (block : Plot) (sized : AreSized memory block) 
       (kind_of piece)
 
 -- so over each piece, where none is room
-pub strides : (memory : Word → ℕ) (block : Plot) → AreSized memory block → HasNoRoom block → (address : ℕ) (piece : Block) → block address ≡ Some piece → stride_at (λ y. memory (Heap y)) address ≡ words_of piece
+pub strides : (memory : Word → ℕ) (block : Plot) → AreSized memory block → HasNoRoom block → (address : ℕ) (piece : Block) → block address ≡ Some piece → stride_at (λ address. memory (Heap address)) address ≡ words_of piece
 strides memory block sized none address piece here = stride_of memory block sized address piece here (λ seat room. none address seat piece here room)

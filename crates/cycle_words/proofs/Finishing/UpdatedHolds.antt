@@ -29,8 +29,8 @@ updated_renamed config memory v = record {
 }
 
 module _ (config : Config) (memory : Word → ℕ) (block : Plot) (owner : ℕ → Option ℕ) (promises : Promises) (graph : Graph) (holds : HoldsBy config memory block owner promises graph) (sized : AreSized memory block) (none : HasNoRoom block) where
-  abbrev n : Word → ℕ
-  n = all_updated config memory
+  abbrev memory_then : Word → ℕ
+  memory_then = all_updated config memory
 
   abbrev heap : ℕ → ℕ
   heap address = memory (Heap address)
@@ -46,23 +46,23 @@ module _ (config : Config) (memory : Word → ℕ) (block : Plot) (owner : ℕ �
       and_right (not (is_filler (heap address)) && nat_le (address + 3) (address + k)) (nat_lt (address + k) (address + 3 + refs_in (heap (address + 1)))) (le-ltb (address + k) (address + 3 + refs_in (heap (address + 1))) (omega (arith, above, reads))))
       out
 
-  pub word_stays : (address k refs : ℕ) (piece : Block) → block address ≡ Some piece → k < words_of piece → (k < 3) ⊎ ((3 + refs ≤ k) × (refs_in (heap (address + 1)) ≡ refs)) → n (Heap (address + k)) ≡ memory (Heap (address + k))
+  pub word_stays : (address k refs : ℕ) (piece : Block) → block address ≡ Some piece → k < words_of piece → (k < 3) ⊎ ((3 + refs ≤ k) × (refs_in (heap (address + 1)) ≡ refs)) → memory_then (Heap (address + k)) ≡ memory (Heap (address + k))
   word_stays address k refs piece is below out = ⊎_elim
       (λ (stay : stays config memory (region_with config address) ≡ true).
-      other_stays config memory block holds.objects.plotted holds.filled holds.pieces.some (λ q z here off. strides memory block sized none q z here) address k piece is below stay (not_reference address k refs out))
+      other_stays config memory block holds.objects.plotted holds.filled holds.pieces.some (λ address piece here off. strides memory block sized none address piece here) address k piece is below stay (not_reference address k refs out))
       (λ (gone : stays config memory (region_with config address) ≡ false).
-      gone_stays config memory block holds.objects.plotted holds.filled holds.pieces.some (λ q z here off. strides memory block sized none q z here) address k piece is below gone)
+      gone_stays config memory block holds.objects.plotted holds.filled holds.pieces.some (λ address piece here off. strides memory block sized none address piece here) address k piece is below gone)
       (cases_Bool (stays config memory (region_with config address)))
 
-  pub header_stays : (address : ℕ) (piece : Block) → block address ≡ Some piece → n (Heap address) ≡ memory (Heap address)
+  pub header_stays : (address : ℕ) (piece : Block) → block address ≡ Some piece → memory_then (Heap address) ≡ memory (Heap address)
   header_stays address piece is =
       let first : address + 0 ≡ address = omega arith in
-      sym (ap (λ y. n (Heap y)) first) ∙ word_stays address 0 0 piece is (holds.pieces.some address piece is) (inl (omega arith)) ∙ ap heap first
+      sym (ap (λ address. memory_then (Heap address)) first) ∙ word_stays address 0 0 piece is (holds.pieces.some address piece is) (inl (omega arith)) ∙ ap heap first
 
-  pub renaming : IsRenaming config memory n block
+  pub renaming : IsRenaming config memory memory_then block
   renaming = record {
-    headers = λ a refs nums name here. header_stays a (thing name refs nums) here;
-    words = λ a k refs nums name here reads below other. word_stays a k refs (thing name refs nums) here below
+    headers = λ address refs nums name here. header_stays address (thing name refs nums) here;
+    words = λ address k refs nums name here reads below other. word_stays address k refs (thing name refs nums) here below
         (⊎_elim (λ (low : k < 3). inl low) (λ (high : 3 + refs ≤ k). inr (high, reads)) other);
     fields = λ a i refs nums name here few. ⊎_elim
         (λ (kept : is_kept_field config memory (a + 3 + i) ≡ true). record {
@@ -73,27 +73,27 @@ module _ (config : Config) (memory : Word → ℕ) (block : Plot) (owner : ℕ �
               (updated_renamed config memory (heap (a + 3 + i))).either;
         })
         (λ (other : is_kept_field config memory (a + 3 + i) ≡ false).
-        not_renamed memory (heap (a + 3 + i)) (n (Heap (a + 3 + i))) (cond-false (is_kept_field config memory (a + 3 + i)) (updated_word config memory (heap (a + 3 + i))) (heap (a + 3 + i)) other))
+        not_renamed memory (heap (a + 3 + i)) (memory_then (Heap (a + 3 + i))) (cond-false (is_kept_field config memory (a + 3 + i)) (updated_word config memory (heap (a + 3 + i))) (heap (a + 3 + i)) other))
         (cases_Bool (is_kept_field config memory (a + 3 + i)));
-    roots = λ t i inside few. updated_renamed config memory (memory (Root t i));
-    answers = λ t inside. updated_renamed config memory (memory (Answer t));
+    roots = λ mutator index inside few. updated_renamed config memory (memory (Root mutator index));
+    answers = λ mutator inside. updated_renamed config memory (memory (Answer mutator));
     waits = λ t. refl;
     tops = λ r. refl;
     free = refl;
     cset = refl;
-    currents = λ s. refl;
+    currents = λ seat. refl;
     share = refl;
     pins = λ t i. refl;
   }
 
-  pub updated_holds : HoldsBy config n block owner promises graph
-  updated_holds = renamed_holds config memory n block owner promises graph holds renaming
+  pub updated_holds : HoldsBy config memory_then block owner promises graph
+  updated_holds = renamed_holds config memory memory_then block owner promises graph holds renaming
 
-  pub updated_sized : AreSized n block
+  pub updated_sized : AreSized memory_then block
   updated_sized = record {
     objects = λ a b is fixed.
         let words = sized.objects a b is fixed in
         ap object_words (word_stays a 1 0 b is (omega (arith, words)) (inl (omega arith))) ∙ words;
-    headers = λ a b is fixed. ap is_filler (header_stays a b is) ∙ sized.headers a b is fixed;
-    fillers = λ a words is. header_stays a (filler words) is ∙ sized.fillers a words is;
+    headers = λ address piece is fixed. ap is_filler (header_stays address piece is) ∙ sized.headers address piece is fixed;
+    fillers = λ address words is. header_stays address (filler words) is ∙ sized.fillers address words is;
   }

@@ -23,9 +23,9 @@ module _ (config : Config) (memory : Word → ℕ) (block : Plot) (plotted : IsP
 
   -- an address of a region's part in use is of the region
   of_region : (region address : ℕ) → region < config.regions → base_of config region ≤ address → address < base_of config region + memory (Top region) → region_with config address ≡ region
-  of_region region address inside from below =
+  of_region region address inside at_most below =
       let most = plotted.tops region inside in
-      regions_tile.of_no_other config region address (record { from = from; before = omega (arith, below, most) })
+      regions_tile.of_no_other config region address (record { from = at_most; before = omega (arith, below, most) })
 
   -- the object that has a word is a piece that has it
   pub covered : (region k : ℕ) → region < config.regions → Walked region → k < memory (Top region)
@@ -57,7 +57,7 @@ module _ (config : Config) (memory : Word → ℕ) (block : Plot) (plotted : IsP
   -- A word of a piece.
   module _ (address j : ℕ) (x : Block) (here : block address ≡ Some x) (below : j < words_of x) where
     pub at : (region_with config address < config.regions) × (base_of config (region_with config address) ≤ address) × (address + words_of x ≤ base_of config (region_with config address) + memory (Top (region_with config address)))
-    at = below_top config (λ r. memory (Top r)) block plotted address x here (let long = some address x here in omega (arith, long))
+    at = below_top config (λ region. memory (Top region)) block plotted address x here (let long = some address x here in omega (arith, long))
 
     pub region_low : config.region_words ≤ base_of config (region_with config address)
     region_low = grind arith
@@ -72,7 +72,7 @@ module _ (config : Config) (memory : Word → ℕ) (block : Plot) (plotted : IsP
         let from = at.1 in
         let end = at.2 in
         let low = region_low in
-        subst (λ r. (nat_le config.region_words (address + j) && (nat_lt r config.regions && nat_lt (address + j - base_of config r) (memory (Top r)))) ≡ true) (sym same_region)
+        subst (λ region. (nat_le config.region_words (address + j) && (nat_lt region config.regions && nat_lt (address + j - base_of config region) (memory (Top region)))) ≡ true) (sym same_region)
         (and_from (nat_le config.region_words (address + j)) _ (le-leb config.region_words (address + j) (omega (arith, low, from)))
         (and_from (nat_lt (region_with config address) config.regions) _ (lt-ltb (region_with config address) config.regions at.0)
         (lt-ltb (address + j - base_of config (region_with config address)) (memory (Top (region_with config address))) (omega (arith, from, end, below)))))

@@ -8,8 +8,8 @@ use Rattle.heap_words.specs.Encoding.{object_words, request_shape_in}
 use Rattle.regions.specs.ServedRooms.{lowest_room}
 use Rattle.regions.proofs.ServedRooms.{none_has_room, all_full}
 use Rattle.image_graph.specs.Full.{asked_in, served_in, room_for, served}
-use Rattle.image_graph.specs.Served.{tops_at_turn}
-use Rattle.image_graph.proofs.Served.{turn_idle, turn_waits, own_wait, before_turn, after_turn}
+use Rattle.image_graph.specs.RequestsServed.{tops_at_turn}
+use Rattle.image_graph.proofs.TurnWords.{turn_idle, turn_waits, own_wait, before_turn, after_turn}
 use Rattle.image_graph.specs.Left.{IsLeft}
 use Rattle.cycle_words.specs.Finishing.Finish.{nobody_waits}
 
@@ -32,23 +32,23 @@ all_from p first (suc n) each =
 pub nobody_is : (config : Config) (memory : Word → ℕ) → nobody_waits config memory ≡ true → (mutator : ℕ) → mutator < config.mutators → memory (Wait mutator) ≡ 0
 nobody_is config memory none mutator inside =
     let same : 0 + mutator ≡ mutator = omega arith in
-    ap (λ u. memory (Wait u)) (sym same) ∙ eqb-true (memory (Wait (0 + mutator))) 0 (all_at (λ u. memory (Wait u) == 0) 0 config.mutators mutator inside none)
+    ap (λ mutator. memory (Wait mutator)) (sym same) ∙ eqb-true (memory (Wait (0 + mutator))) 0 (all_at (λ mutator. memory (Wait mutator) == 0) 0 config.mutators mutator inside none)
 
 pub nobody_from : (config : Config) (memory : Word → ℕ) → ((mutator : ℕ) → mutator < config.mutators → memory (Wait mutator) ≡ 0) → nobody_waits config memory ≡ true
-nobody_from config memory each = all_from (λ u. memory (Wait u) == 0) 0 config.mutators (λ mutator inside. let same : 0 + mutator ≡ mutator = omega arith in eq-eqb (memory (Wait (0 + mutator))) 0 (ap (λ u. memory (Wait u)) same ∙ each mutator inside))
+nobody_from config memory each = all_from (λ mutator. memory (Wait mutator) == 0) 0 config.mutators (λ mutator inside. let same : 0 + mutator ≡ mutator = omega arith in eq-eqb (memory (Wait (0 + mutator))) 0 (ap (λ mutator. memory (Wait mutator)) same ∙ each mutator inside))
 
 module _ (config : Config) (memory : Word → ℕ) (mutator : ℕ) where
   -- what a thread that waits asks for at its turn
   asks : memory (Wait mutator) ≢ 0 → asked_in memory mutator ≡ object_words (request_shape_in (served config memory mutator (Wait mutator)))
-  asks some =
-      cond-false (memory (Wait mutator) == 0) 0 (object_words (request_shape_in (memory (Wait mutator)))) (ne_eqb (memory (Wait mutator)) 0 some)
+  asks positive =
+      cond-false (memory (Wait mutator) == 0) 0 (object_words (request_shape_in (memory (Wait mutator)))) (ne_eqb (memory (Wait mutator)) 0 positive)
       ∙ ap (λ word. object_words (request_shape_in word)) (sym (before_turn config memory mutator mutator (omega arith)).0)
 
   finds : memory (Wait mutator) ≢ 0 → room_for config (served config memory mutator) mutator ≡ lowest_room config.region_words (tops_at_turn config memory mutator) (asked_in memory mutator) config.regions
-  finds some = ap (λ n. lowest_room config.region_words (tops_at_turn config memory mutator) n config.regions) (sym (asks some))
+  finds positive = ap (λ words. lowest_room config.region_words (tops_at_turn config memory mutator) words config.regions) (sym (asks positive))
 
   waits_then : memory (Wait mutator) ≢ 0 → served config memory mutator (Wait mutator) ≢ 0
-  waits_then some none = some (sym (before_turn config memory mutator mutator (omega arith)).0 ∙ none)
+  waits_then positive none = positive (sym (before_turn config memory mutator mutator (omega arith)).0 ∙ none)
 
   -- a request that is left is there afterwards
   pub waits_if_left : IsLeft config memory mutator → served config memory config.mutators (Wait mutator) ≢ 0
@@ -61,10 +61,10 @@ module _ (config : Config) (memory : Word → ℕ) (mutator : ℕ) where
 
   -- and one that is there was left
   pub left_if_waits : mutator < config.mutators → served config memory config.mutators (Wait mutator) ≢ 0 → IsLeft config memory mutator
-  left_if_waits inside some = by_room (room_for config (served config memory mutator) mutator) refl
+  left_if_waits inside positive = by_room (room_for config (served config memory mutator) mutator) refl
     where
       was : memory (Wait mutator) ≢ 0
-      was none = some ((after_turn config memory config.mutators mutator inside).0 ∙ turn_idle config memory mutator (Wait mutator) ((before_turn config memory mutator mutator (omega arith)).0 ∙ none) ∙ (before_turn config memory mutator mutator (omega arith)).0 ∙ none)
+      was none = positive ((after_turn config memory config.mutators mutator inside).0 ∙ turn_idle config memory mutator (Wait mutator) ((before_turn config memory mutator mutator (omega arith)).0 ∙ none) ∙ (before_turn config memory mutator mutator (omega arith)).0 ∙ none)
 
       by_room : (o : Option ℕ) → room_for config (served config memory mutator) mutator ≡ o → IsLeft config memory mutator
       by_room None none = record {
@@ -73,5 +73,5 @@ module _ (config : Config) (memory : Word → ℕ) (mutator : ℕ) where
         no_room = none_has_room config.region_words (tops_at_turn config memory mutator) (asked_in memory mutator) config.regions (sym (finds was) ∙ none);
       }
       by_room (Some r) found =
-          absurd (some ((after_turn config memory config.mutators mutator inside).0 ∙ turn_waits config memory mutator (Wait mutator) (waits_then was)
+          absurd (positive ((after_turn config memory config.mutators mutator inside).0 ∙ turn_waits config memory mutator (Wait mutator) (waits_then was)
           ∙ ap (λ o. served_in config (served config memory mutator) mutator o (Wait mutator)) found ∙ own_wait config (served config memory mutator) mutator r))

@@ -16,7 +16,7 @@ use Rattle.image_graph.specs.Full.{now_in, roots_below, answers_below, root_word
 use Rattle.image_graph.specs.Pinned.{pins_below}
 use Rattle.image_graph.specs.Promised.{Promises, with_promised}
 use Rattle.image_graph.specs.Image.{AnswerStands, PinWordStands, RootsStand}
-use Rattle.image_graph.proofs.Roots.{pin_stays}
+use Rattle.image_graph.proofs.HeldRoots.{pin_stays}
 use Rattle.image_graph.specs.Serving.{asked_shape, AreAsking}
 use Rattle.image_graph.specs.Holds.{HoldsBy, AreSized}
 
@@ -38,7 +38,7 @@ module _ (memory other_memory : Word → ℕ) (root : (t i : ℕ) → other_memo
   roots_same : (mutator : ℕ) → roots_below other_memory mutator ≡ roots_below memory mutator
   roots_same zero = refl
   roots_same (suc mutator) =
-      ap (λ xs. xs ++ map (λ i. other_memory (Root mutator i)) (range_with_len 0 16)) (roots_same mutator)
+      ap (λ xs. xs ++ map (λ index. other_memory (Root mutator index)) (range_with_len 0 16)) (roots_same mutator)
       ∙ ap (λ (f : ℕ → ℕ). roots_below memory mutator ++ map f (range_with_len 0 16)) (fun_ext (root mutator))
 
   answers_same : (mutator : ℕ) → answers_below other_memory mutator ≡ answers_below memory mutator
@@ -50,7 +50,7 @@ module _ (memory other_memory : Word → ℕ) (root : (t i : ℕ) → other_memo
   pins_same : (mutator : ℕ) → pins_below other_memory mutator ≡ pins_below memory mutator
   pins_same zero = refl
   pins_same (suc mutator) =
-      ap (λ xs. xs ++ map (λ i. other_memory (Pin mutator i)) (range_with_len 0 4)) (pins_same mutator)
+      ap (λ xs. xs ++ map (λ slot. other_memory (Pin mutator slot)) (range_with_len 0 4)) (pins_same mutator)
       ∙ ap (λ (f : ℕ → ℕ). pins_below memory mutator ++ map f (range_with_len 0 4)) (fun_ext (pin mutator))
 
   same_root_words : (config : Config) → root_words config other_memory ≡ root_words config memory
@@ -73,10 +73,10 @@ sized_alike memory other_memory block heap sized = record {
 }
 
 module _ (memory other_memory : Word → ℕ) (alike : AreAlike memory other_memory) where
-  heap_is : ◌≡◌ {A = ℕ → ℕ} (λ a. other_memory (Heap a)) (λ a. memory (Heap a))
+  heap_is : ◌≡◌ {A = ℕ → ℕ} (λ address. other_memory (Heap address)) (λ address. memory (Heap address))
   heap_is = fun_ext alike.heap
 
-  top_is : ◌≡◌ {A = ℕ → ℕ} (λ r. other_memory (Top r)) (λ r. memory (Top r))
+  top_is : ◌≡◌ {A = ℕ → ℕ} (λ region. other_memory (Top region)) (λ region. memory (Top region))
   top_is = fun_ext alike.top
 
   pub now_same : (address : ℕ) → now_in other_memory address ≡ now_in memory address
@@ -89,19 +89,19 @@ module _ (memory other_memory : Word → ℕ) (alike : AreAlike memory other_mem
   held_words_same = same_held_words memory other_memory alike.root alike.answer alike.pin
 
   module _ (config : Config) (block : Plot) (owner : ℕ → Option ℕ) (promises : Promises) (graph : Graph) (holds : HoldsBy config memory block owner promises graph) where
-    objects_again : HoldsGraph config (λ r. other_memory (Top r)) (λ a. other_memory (Heap a)) block (now_in other_memory) (IsAmong (held_words config other_memory)) (with_promised graph promises)
+    objects_again : HoldsGraph config (λ region. other_memory (Top region)) (λ address. other_memory (Heap address)) block (now_in other_memory) (IsAmong (held_words config other_memory)) (with_promised graph promises)
     objects_again =
-        subst (λ xs. HoldsGraph config (λ r. other_memory (Top r)) (λ a. other_memory (Heap a)) block (now_in other_memory) (IsAmong xs) (with_promised graph promises)) (sym (held_words_same config))
-        (subst (λ f. HoldsGraph config (λ r. other_memory (Top r)) (λ a. other_memory (Heap a)) block f (IsAmong (held_words config memory)) (with_promised graph promises)) (sym now_is)
-        (subst (λ f. HoldsGraph config (λ r. other_memory (Top r)) f block (now_in memory) (IsAmong (held_words config memory)) (with_promised graph promises)) (sym heap_is)
-        (subst (λ f. HoldsGraph config f (λ a. memory (Heap a)) block (now_in memory) (IsAmong (held_words config memory)) (with_promised graph promises)) (sym top_is) holds.objects)))
+        subst (λ xs. HoldsGraph config (λ region. other_memory (Top region)) (λ address. other_memory (Heap address)) block (now_in other_memory) (IsAmong xs) (with_promised graph promises)) (sym (held_words_same config))
+        (subst (λ f. HoldsGraph config (λ region. other_memory (Top region)) (λ address. other_memory (Heap address)) block f (IsAmong (held_words config memory)) (with_promised graph promises)) (sym now_is)
+        (subst (λ heap. HoldsGraph config (λ region. other_memory (Top region)) heap block (now_in memory) (IsAmong (held_words config memory)) (with_promised graph promises)) (sym heap_is)
+        (subst (λ top. HoldsGraph config top (λ address. memory (Heap address)) block (now_in memory) (IsAmong (held_words config memory)) (with_promised graph promises)) (sym top_is) holds.objects)))
 
     rooted_again : RootsStand config other_memory block graph promises
     rooted_again = record {
-      roots = λ t i inside few. subst (λ w. Points block w (graph.root (t + 1) i)) (sym (alike.root t i)) (holds.rooted.roots t i inside few);
+      roots = λ thread index inside few. subst (λ w. Points block w (graph.root (thread + 1) index)) (sym (alike.root thread index)) (holds.rooted.roots thread index inside few);
       answers = λ t inside. subst (λ w. AnswerStands block w (promises.ref (t + 1))) (sym (alike.answer t)) (holds.rooted.answers t inside);
       no_more_roots = holds.rooted.no_more_roots;
-      pins = λ t i inside few. pin_word_same memory other_memory block (memory (Pin t i)) (other_memory (Pin t i)) (graph.pin (t + 1) i) (alike.pin t i) (alike.heap (memory (Pin t i))) (holds.rooted.pins t i inside few);
+      pins = λ mutator slot inside few. pin_word_same memory other_memory block (memory (Pin mutator slot)) (other_memory (Pin mutator slot)) (graph.pin (mutator + 1) slot) (alike.pin mutator slot) (alike.heap (memory (Pin mutator slot))) (holds.rooted.pins mutator slot inside few);
       no_more_pins = holds.rooted.no_more_pins;
       no_more_promised = holds.rooted.no_more_promised;
     }
@@ -129,15 +129,15 @@ module _ (memory other_memory : Word → ℕ) (alike : AreAlike memory other_mem
             in_set = subst (λ k. IsIn k (region_with config a)) (sym alike.cset) was.in_set;
             copy = ap block (now_same a) ∙ was.copy;
             outside = subst (λ b. IsOutside (other_memory Cset) (region_with config b)) (sym (now_same a)) (subst (λ k. IsOutside k (region_with config (now_in memory a))) (sym alike.cset) was.outside);
-            current = ap is_forwarded (ap (λ b. other_memory (Heap b)) (now_same a) ∙ alike.heap (now_in memory a)) ∙ was.current;
+            current = ap is_forwarded (ap (λ address. other_memory (Heap address)) (now_same a) ∙ alike.heap (now_in memory a)) ∙ was.current;
           };
-      filled = subst (λ f. IsFilled config f block) (sym top_is) holds.filled;
+      filled = subst (λ top. IsFilled config top block) (sym top_is) holds.filled;
       pieces = holds.pieces;
-      free_word = subst (λ f. IsFreeWord config (other_memory Free) f owner) (sym top_is) (subst (λ k. IsFreeWord config k (λ r. memory (Top r)) owner) (sym alike.free) holds.free_word);
+      free_word = subst (λ top. IsFreeWord config (other_memory Free) top owner) (sym top_is) (subst (λ free. IsFreeWord config free (λ region. memory (Top region)) owner) (sym alike.free) holds.free_word);
       shared_one =
-          subst (λ s. ShareIsOpen config s (other_memory Free) (other_memory Cset) owner) (sym alike.share)
-          (subst (λ f. ShareIsOpen config (memory Share) f (other_memory Cset) owner) (sym alike.free) (subst (λ s. ShareIsOpen config (memory Share) (memory Free) s owner) (sym alike.cset) holds.shared_one));
-      buffers = subst (λ t. AreBuffers config t (λ s. other_memory (Current s)) block) (sym top_is) (subst (λ s. AreBuffers config (λ r. memory (Top r)) s block) (sym (fun_ext alike.current)) holds.buffers);
+          subst (λ share. ShareIsOpen config share (other_memory Free) (other_memory Cset) owner) (sym alike.share)
+          (subst (λ free. ShareIsOpen config (memory Share) free (other_memory Cset) owner) (sym alike.free) (subst (λ cset. ShareIsOpen config (memory Share) (memory Free) cset owner) (sym alike.cset) holds.shared_one));
+      buffers = subst (λ top. AreBuffers config top (λ seat. other_memory (Current seat)) block) (sym top_is) (subst (λ current. AreBuffers config (λ region. memory (Top region)) current block) (sym (fun_ext alike.current)) holds.buffers);
       asking = asking_again;
       next = record {
         asked = λ t below some. ap request_count_in (alike.wait t) ∙ holds.next.asked t below (λ none. some (alike.wait t ∙ none));

@@ -24,9 +24,9 @@ use Rattle.cycle_words.specs.Marking.Init.{marking_begun, init_marked, pruned}
 use Rattle.cycle_words.specs.Marking.WhileMarking.{CanBeReached, IsMarking}
 use Rattle.cycle_words.specs.Marking.Laws.{BeginsMarking, InitMarks}
 use Rattle.image_graph.proofs.Loosening.Loosened.{loosened_seats, loosened_sized, loosened_reached}
-use Rattle.image_graph.proofs.Loosening.OneTurn.{HoldsLoosened}
+use Rattle.image_graph.proofs.Loosening.OneBuffer.{HoldsLoosened}
 use Rattle.image_graph.proofs.Loosening.AllSettled.{settled_holds}
-use Rattle.image_graph.proofs.Loosening.Divided.{holds_divided}
+use Rattle.image_graph.proofs.Loosening.DividedPieces.{holds_divided}
 use Rattle.cycle_words.proofs.Marking.Alike.{AreAlike, sized_alike, holds_alike, same_held_words}
 use Rattle.cycle_words.proofs.Marking.Plain.{reached_object, root_reached, field_reached, object_above, reach_ind}
 use Rattle.cycle_words.proofs.Marking.Trimmed.{IsTrimmed, calm_unmoved, calm_trimmed, trimmed_objects, trimmed_rooted}
@@ -36,10 +36,10 @@ use Rattle.cycle_words.proofs.Marking.FirstSnapshot.{first_snapshot, is_first, f
 -- Marking begins at words that hold a graph, and leaves those objects that are found: exactly what can be reached.
 module _ (config : Config) (memory : Word → ℕ) (block : Plot) (owner : ℕ → Option ℕ) (promises : Promises) (graph : Graph) (holds : HoldsBy config memory block owner promises graph) (calm : memory Cset ≡ 0)
     (found : ℕ → Bool) (is_found : (a : ℕ) → CanBeReached config memory a → found a ≡ true) (reached : (a : ℕ) → found a ≡ true → CanBeReached config memory a) where
-  abbrev n : Word → ℕ
-  n = marking_begun config memory
+  abbrev now : Word → ℕ
+  now = marking_begun config memory
 
-  alike : AreAlike memory n
+  alike : AreAlike memory now
   alike = record {
     heap = λ a. refl;
     top = λ r. refl;
@@ -78,8 +78,8 @@ module _ (config : Config) (memory : Word → ℕ) (block : Plot) (owner : ℕ �
       let differ = sym there ∙ object.2 in
       cc
 
-  named : (a : ℕ) (name : Name) → name_at (left a) ≡ Some name → IsCopy left a name
-  named a name is = named_thing (left a) name (λ refs nums to. unmoved a refs nums to name) is
+  named : (address : ℕ) (name : Name) → name_at (left address) ≡ Some name → IsCopy left address name
+  named address name is = named_thing (left address) name (λ refs nums to. unmoved address refs nums to name) is
 
   plotted : IsPlotted config top left
   plotted = pruned_plotted found block config top holds.objects.plotted
@@ -87,20 +87,20 @@ module _ (config : Config) (memory : Word → ℕ) (block : Plot) (owner : ℕ �
   trimmed : IsTrimmed config memory block top left
   trimmed = calm_trimmed config memory block owner promises graph holds calm top left plotted reached_stays named was
 
-  buffers : AreBuffers config top (λ s. memory (Current s)) left
-  buffers = buffers_stay config top top (λ s. memory (Current s)) block left (pruned_rooms found block) holds.buffers (λ seat some. omega arith)
+  buffers : AreBuffers config top (λ seat. memory (Current seat)) left
+  buffers = buffers_stay config top top (λ seat. memory (Current seat)) block left (pruned_rooms found block) holds.buffers (λ seat some. omega arith)
 
   pub left_holds : HoldsBy config memory left owner promises graph
   left_holds = record {
     objects = trimmed_objects config memory block owner promises graph holds top left trimmed;
     rooted = trimmed_rooted config memory block owner promises graph holds top left trimmed;
-    moved = λ a refs nums name is forwarded. absurd (true≢false (sym forwarded ∙ calm_unmoved config memory block owner promises graph holds calm a refs nums name (was a refs nums name is)));
+    moved = λ address refs nums name is forwarded. absurd (true≢false (sym forwarded ∙ calm_unmoved config memory block owner promises graph holds calm address refs nums name (was address refs nums name is)));
     filled = pruned_filled found block config top holds.filled;
     pieces = record {
       named = named;
-      unpromised = λ a seat words is. holds.pieces.unpromised a seat words (promised_was found block a seat words is);
-      unheld = λ a seat words is. holds.pieces.unheld a seat words (room_was found block a seat (hand seat words) refl is);
-      uncarved = λ a seat words is. holds.pieces.uncarved a seat words (room_was found block a seat (carved seat words) refl is);
+      unpromised = λ address seat words is. holds.pieces.unpromised address seat words (promised_was found block address seat words is);
+      unheld = λ address seat words is. holds.pieces.unheld address seat words (room_was found block address seat (hand seat words) refl is);
+      uncarved = λ address seat words is. holds.pieces.uncarved address seat words (room_was found block address seat (carved seat words) refl is);
       some = λ a b is. (let from = pruned_from found block a b is in let long = holds.pieces.some a from.0 from.1 in omega (arith, long, from.2));
     };
     free_word = holds.free_word;
@@ -117,7 +117,7 @@ module _ (config : Config) (memory : Word → ℕ) (block : Plot) (owner : ℕ �
 
   objects : AreObjects heap left (with_promised graph promises).object
   objects = record {
-    each = λ a refs nums name is. left_holds.objects.each a refs nums name (thing_reached a refs nums name is) is;
+    each = λ address refs nums name is. left_holds.objects.each address refs nums name (thing_reached address refs nums name is) is;
     once = λ a b refs nums more_refs more_nums name is_a is_b.
         left_holds.objects.once a b refs nums more_refs more_nums name (thing_reached a refs nums name is_a) (thing_reached b more_refs more_nums name is_b) is_a is_b;
   }
@@ -126,7 +126,7 @@ module _ (config : Config) (memory : Word → ℕ) (block : Plot) (owner : ℕ �
   reached_thing address held = let at = reached_object config memory left owner promises graph left_holds calm address held in IsMarkable.object at.name at.refs at.nums at.here
 
   root_markable : (address : ℕ) → IsAmong (held_words config memory) address → address ≢ 0 → IsMarkable left address
-  root_markable address among some = reached_thing address (root_reached config memory left owner promises graph left_holds calm address among some)
+  root_markable address among positive = reached_thing address (root_reached config memory left owner promises graph left_holds calm address among positive)
 
   -- roots, answers and pin slots lead to it
   led : (address : ℕ) → CanBeReached config memory address → IsLed (first_snapshot config memory left) address
@@ -140,77 +140,77 @@ module _ (config : Config) (memory : Word → ℕ) (block : Plot) (owner : ℕ �
       IsLed.by_field address at.refs at.nums i at.name so_far at.here (omega (arith, few, shape)) some)
 
   -- where edges divide these pieces
-  pub marking : AreDivided config memory left → IsMarking config n left
+  pub marking : AreDivided config memory left → IsMarking config now left
   marking divided = record {
     ghost = record { owner = no_ghost.owner; snapshot = first_snapshot config memory left; recording = no_ghost.recording; scanning = no_ghost.scanning; copying = no_ghost.copying; working = no_ghost.working };
     object = (with_promised graph promises).object;
-    marked = first_marked config memory left no_ghost.recording no_ghost.scanning (λ a refs nums name is. led a (thing_reached a refs nums name is)) root_markable
-        (λ a seat words is. absurd (left_holds.pieces.unpromised a seat words is)) divided;
+    marked = first_marked config memory left no_ghost.recording no_ghost.scanning (λ address refs nums name is. led address (thing_reached address refs nums name is)) root_markable
+        (λ address seat words is. absurd (left_holds.pieces.unpromised address seat words is)) divided;
     unmarking = record { records_none = λ seat inside. refl; scans_none = λ seat inside. refl };
     objects = objects;
     uncollected = calm;
   }
 
-  pub begun : (plot : Plot) → HoldsBy config memory plot owner promises graph → HoldsBy config n plot owner promises graph
-  begun plot held = holds_alike memory n alike config plot owner promises graph held
+  pub begun : (plot : Plot) → HoldsBy config memory plot owner promises graph → HoldsBy config now plot owner promises graph
+  begun plot held = holds_alike memory now alike config plot owner promises graph held
 
 -- Buffers are settled first, by which nothing becomes reachable, or ceases to be.
 module _ (config : Config) (memory : Word → ℕ) (block : Plot) (owner : ℕ → Option ℕ) (promises : Promises) (graph : Graph) (holds : HoldsBy config memory block owner promises graph) (calm : memory Cset ≡ 0) (seats : HasNoMoreSeats config memory) where
-  abbrev s : Word → ℕ
-  s = buffers_settled config memory
+  abbrev settled_memory : Word → ℕ
+  settled_memory = buffers_settled config memory
 
   abbrev settled : Plot
   settled = settled_block config memory block
 
-  after : HoldsLoosened config memory s block settled owner promises graph
+  after : HoldsLoosened config memory settled_memory block settled owner promises graph
   after = settled_holds config memory block owner promises graph holds seats
 
-  still_calm : s Cset ≡ 0
+  still_calm : settled_memory Cset ≡ 0
   still_calm = after.loosened.others Cset refl ∙ calm
 
-  still_seats : HasNoMoreSeats config s
-  still_seats = loosened_seats config memory s block settled after.loosened seats
+  still_seats : HasNoMoreSeats config settled_memory
+  still_seats = loosened_seats config memory settled_memory block settled after.loosened seats
 
   abbrev found : ℕ → Bool
   found = has (held_in config memory)
 
-  same_roots : held_words config s ≡ held_words config memory
-  same_roots = same_held_words memory s (λ t i. after.loosened.others (Root t i) refl) (λ t. after.loosened.others (Answer t) refl) (λ t i. after.loosened.others (Pin t i) refl) config
+  same_roots : held_words config settled_memory ≡ held_words config memory
+  same_roots = same_held_words memory settled_memory (λ mutator index. after.loosened.others (Root mutator index) refl) (λ mutator. after.loosened.others (Answer mutator) refl) (λ mutator slot. after.loosened.others (Pin mutator slot) refl) config
 
-  was_reached : (a : ℕ) → CanBeReached config s a → CanBeReached config memory a
-  was_reached = loosened_reached config memory s block settled owner promises graph holds after.loosened after.holds.objects.plotted
+  was_reached : (a : ℕ) → CanBeReached config settled_memory a → CanBeReached config memory a
+  was_reached = loosened_reached config memory settled_memory block settled owner promises graph holds after.loosened after.holds.objects.plotted
 
-  still_reached : (address : ℕ) → CanBeReached config memory address → CanBeReached config s address
-  still_reached = reach_ind config memory block owner promises graph holds calm (CanBeReached config s)
-      (λ word is some. root_reached config s settled owner promises graph after.holds still_calm word (ap (λ xs. has xs word) same_roots ∙ is) some)
+  still_reached : (address : ℕ) → CanBeReached config memory address → CanBeReached config settled_memory address
+  still_reached = reach_ind config memory block owner promises graph holds calm (CanBeReached config settled_memory)
+      (λ word is some. root_reached config settled_memory settled owner promises graph after.holds still_calm word (ap (λ xs. has xs word) same_roots ∙ is) some)
       (λ address i held so_far few some.
       let at = reached_object config memory block owner promises graph holds calm address held in
       let reads : refs_in (memory (Heap (address + 1))) ≡ at.refs = ap refs_in at.shape ∙ refs_read at.refs at.nums at.few_refs at.few_nums in
-      let shape : s (Heap (address + 1)) ≡ memory (Heap (address + 1)) = after.loosened.words address 1 (thing at.name at.refs at.nums) refl at.here (omega arith) in
+      let shape : settled_memory (Heap (address + 1)) ≡ memory (Heap (address + 1)) = after.loosened.words address 1 (thing at.name at.refs at.nums) refl at.here (omega arith) in
       let place : address + 3 + i ≡ address + (3 + i) = omega arith in
-      let same : s (Heap (address + 3 + i)) ≡ memory (Heap (address + 3 + i)) =
-      ap (λ k. s (Heap k)) place ∙ after.loosened.words address (3 + i) (thing at.name at.refs at.nums) refl at.here (omega (arith, few, reads)) ∙ ap (λ k. memory (Heap k)) (sym place) in
-      subst (CanBeReached config s) same
-      (field_reached config s settled owner promises graph after.holds still_calm address i so_far (subst (λ k. i < k) (sym (ap refs_in shape)) few) (λ none. some (sym same ∙ none))))
+      let same : settled_memory (Heap (address + 3 + i)) ≡ memory (Heap (address + 3 + i)) =
+      ap (λ address. settled_memory (Heap address)) place ∙ after.loosened.words address (3 + i) (thing at.name at.refs at.nums) refl at.here (omega (arith, few, reads)) ∙ ap (λ address. memory (Heap address)) (sym place) in
+      subst (CanBeReached config settled_memory) same
+      (field_reached config settled_memory settled owner promises graph after.holds still_calm address i so_far (subst (λ k. i < k) (sym (ap refs_in shape)) few) (λ none. some (sym same ∙ none))))
 
-  is_found : (a : ℕ) → CanBeReached config s a → found a ≡ true
+  is_found : (a : ℕ) → CanBeReached config settled_memory a → found a ≡ true
   is_found a held = held_is_found config memory block (with_promised graph promises) holds.objects a (was_reached a held)
 
-  reached : (a : ℕ) → found a ≡ true → CanBeReached config s a
-  reached a is = still_reached a (found_is_held config memory block (with_promised graph promises) holds.objects a is)
+  reached : (address : ℕ) → found address ≡ true → CanBeReached config settled_memory address
+  reached address is = still_reached address (found_is_held config memory block (with_promised graph promises) holds.objects address is)
 
   abbrev plot : Plot
-  plot = left config s settled owner promises graph after.holds still_calm found is_found reached
+  plot = left config settled_memory settled owner promises graph after.holds still_calm found is_found reached
 
-  left_then : HoldsBy config s plot owner promises graph
-  left_then = left_holds config s settled owner promises graph after.holds still_calm found is_found reached
+  left_then : HoldsBy config settled_memory plot owner promises graph
+  left_then = left_holds config settled_memory settled owner promises graph after.holds still_calm found is_found reached
 
   pub marking_begins : BeginsMarking config memory (init_marked config memory) block owner promises graph
   marking_begins = record {
-    holds = begun config s settled owner promises graph after.holds still_calm found is_found reached settled after.holds;
-    left = begun config s settled owner promises graph after.holds still_calm found is_found reached plot left_then;
-    marking = marking config s settled owner promises graph after.holds still_calm found is_found reached (holds_divided config s plot owner promises graph left_then still_seats (settling_leaves config memory).last);
-    sized = λ sized. sized_alike s (init_marked config memory) plot (λ a. refl) (pruned_sized found settled s (loosened_sized config memory s block settled owner promises graph holds after.loosened sized));
+    holds = begun config settled_memory settled owner promises graph after.holds still_calm found is_found reached settled after.holds;
+    left = begun config settled_memory settled owner promises graph after.holds still_calm found is_found reached plot left_then;
+    marking = marking config settled_memory settled owner promises graph after.holds still_calm found is_found reached (holds_divided config settled_memory plot owner promises graph left_then still_seats (settling_leaves config memory).last);
+    sized = λ sized. sized_alike settled_memory (init_marked config memory) plot (λ a. refl) (pruned_sized found settled settled_memory (loosened_sized config memory settled_memory block settled owner promises graph holds after.loosened sized));
   }
 
 pub init_marks : InitMarks

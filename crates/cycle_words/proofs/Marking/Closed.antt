@@ -39,14 +39,14 @@ true_or x true small is = eq-eqb (max x 1) 1 (omega (arith, small))
 true_or x false small is = ⊎_elim (λ (set : (x == 1) ≡ true). eq-eqb (max x 0) 1 (let same = eqb-true x 1 set in omega (arith, same))) (λ (no_bit : false ≡ true). absurd (true≢false (sym no_bit))) is
 
 module _ (config : Config) (memory : Word → ℕ) (block : Plot) (owner : ℕ → Option ℕ) (promises : Promises) (graph : Graph) (holds : HoldsBy config memory block owner promises graph) (marking : IsMarking config memory block) where
-  abbrev n : Word → ℕ
-  n = closed config memory
+  abbrev memory_then : Word → ℕ
+  memory_then = closed config memory
 
-  alike : AreAlike memory n
+  alike : AreAlike memory memory_then
   alike = record { heap = λ a. refl; top = λ r. refl; root = λ t i. refl; answer = λ t. refl; wait = λ t. refl; current = λ s. refl; free = refl; cset = refl; share = refl; pin = λ t i. refl }
 
-  pub closed_holds : HoldsBy config n block owner promises graph
-  closed_holds = holds_alike memory n alike config block owner promises graph holds
+  pub closed_holds : HoldsBy config memory_then block owner promises graph
+  closed_holds = holds_alike memory memory_then alike config block owner promises graph holds
 
   abbrev heap : ℕ → ℕ
   heap a = memory (Heap a)
@@ -73,7 +73,7 @@ module _ (config : Config) (memory : Word → ℕ) (block : Plot) (owner : ℕ �
       let shape = object_refs a is.refs is.nums is.name is.here in
       let reference : Reference = get_or o.0.refs i None in
       let there : slice_get o.0.refs i ≡ Some reference = slice_get-get_or o.0.refs i None (omega (arith, few, shape, o.2.refs_are)) in
-      let to = named_if_not_0 config (λ r. memory (Top r)) block holds.objects.plotted (heap (a + 3 + i)) reference (o.2.references i reference there) some in
+      let to = named_if_not_0 config (λ region. memory (Top region)) block holds.objects.plotted (heap (a + 3 + i)) reference (o.2.references i reference there) some in
       let piece = holds.pieces.named (heap (a + 3 + i)) to.0 to.2 in
       IsMarkable.object to.0 piece.0 piece.1 piece.2
 
@@ -89,7 +89,7 @@ module _ (config : Config) (memory : Word → ℕ) (block : Plot) (owner : ℕ �
 
   pub traced_markable : (a : ℕ) → IsTraced config memory a → IsMarkable block a
   traced_markable _ (from_grey a is) = marked_at (λ index. memory (Grey index)) a (marking.marked.marking refl).greys is
-  traced_markable _ (from_buffer t i below few some) = (marking.marked.marking refl).entries.of_objects t i below few
+  traced_markable _ (from_buffer mutator i below few some) = (marking.marked.marking refl).entries.of_objects mutator i below few
   traced_markable _ (from_field a i traced plain few some) = field_markable a i (markable_object a (traced_markable a traced)) few some
 
   object_inside : (a : ℕ) → IsObjectAt memory block a → (config.region_words ≤ a) × (a < config.region_words + config.regions * config.region_words)
@@ -128,23 +128,23 @@ module _ (config : Config) (memory : Word → ℕ) (block : Plot) (owner : ℕ �
       (λ (new : has (traced_in config memory) a ≡ true). inr (traced a new))
       (or_true (bit_at x (mark_bit config a)) (has (traced_in config memory) a) (ap (λ index. index == 1) (sym (bit_is x a high)) ∙ both.1) (bit_at-lt x (mark_bit config a)))
 
-  black_after : (a : ℕ) → is_black config n a ≡ true → (is_black config memory a ≡ true) ⊎ IsTraced config memory a
+  black_after : (a : ℕ) → is_black config memory_then a ≡ true → (is_black config memory a ≡ true) ⊎ IsTraced config memory a
   black_after a is = was (memory (Black (mark_word config a))) a is
 
-  black_stays : (a : ℕ) → is_black config memory a ≡ true → is_black config n a ≡ true
+  black_stays : (a : ℕ) → is_black config memory a ≡ true → is_black config memory_then a ≡ true
   black_stays a is =
       let both = and_parts (nat_le config.region_words a) _ is in
       made (memory (Black (mark_word config a))) a (leb-true config.region_words a both.0) (inl both.1)
 
-  traced_black : (a : ℕ) → IsTraced config memory a → is_black config n a ≡ true
+  traced_black : (a : ℕ) → IsTraced config memory a → is_black config memory_then a ≡ true
   traced_black a is = made (memory (Black (mark_word config a))) a (inside a is).0 (inr is)
 
-  pub are_closed : AreClosed config memory n
+  pub are_closed : AreClosed config memory memory_then
   are_closed = record {
     black = λ a. (black_after a, λ is. ⊎_elim (black_stays a) (traced_black a) is);
-    grey = λ a. (
-      (λ is. ⊎_elim (λ (old : is_grey config memory a ≡ true). from_grey a old) (λ (new : IsTraced config memory a). new) (was (memory (Grey (mark_word config a))) a is)),
-      (λ is. made (memory (Grey (mark_word config a))) a (inside a is).0 (inr is)),
+    grey = λ address. (
+      (λ is. ⊎_elim (λ (old : is_grey config memory address ≡ true). from_grey address old) (λ (new : IsTraced config memory address). new) (was (memory (Grey (mark_word config address))) address is)),
+      (λ is. made (memory (Grey (mark_word config address))) address (inside address is).0 (inr is)),
     );
   }
 
@@ -155,51 +155,51 @@ module _ (config : Config) (memory : Word → ℕ) (block : Plot) (owner : ℕ �
   s = marking.ghost.snapshot
 
   abbrev Noted : ℕ → Type 0
-  Noted = IsNoted config (λ index. memory (Grey index)) (λ t. memory (Count t)) (λ t index. memory (Buffer t index)) marking.ghost.recording
+  Noted = IsNoted config (λ index. memory (Grey index)) (λ mutator. memory (Count mutator)) (λ mutator index. memory (Buffer mutator index)) marking.ghost.recording
 
   -- what is noted becomes black
-  noted_black : (a : ℕ) → IsMarkable block a → Noted a → is_black config n a ≡ true
+  noted_black : (a : ℕ) → IsMarkable block a → Noted a → is_black config memory_then a ≡ true
   noted_black a now (IsNoted.by_mark mark) =
       let at = object_inside a (markable_object a now) in
       traced_black a (from_grey a (and_from (nat_le config.region_words a) _ (le-leb config.region_words a at.0) (eq-eqb (bit_at (memory (Grey (mark_word config a))) (mark_bit config a)) 1 mark)))
-  noted_black a now (IsNoted.by_entry t index within below is) =
+  noted_black a now (IsNoted.by_entry mutator index within below is) =
       let some = not_null a (markable_object a now) in
-      subst (λ x. is_black config n x ≡ true) is (traced_black (memory (Buffer t index)) (from_buffer t index within below (λ e. some (sym is ∙ e))))
+      subst (λ x. is_black config memory_then x ≡ true) is (traced_black (memory (Buffer mutator index)) (from_buffer mutator index within below (λ e. some (sym is ∙ e))))
   noted_black a now (IsNoted.by_hand t within is) = absurd (none-some a (sym (marking.unmarking.records_none t (omega (arith, within))) ∙ is))
 
   -- A field of an object of the snapshot that becomes black: what it named then becomes black.
-  module _ (a refs nums index : ℕ) (name : Name) (here : s.block a ≡ Some (thing name refs nums)) (below : index < refs) (some : was_at s a index ≢ 0) (now : IsMarkable block (was_at s a index)) (black : is_black config n a ≡ true) where
-    from_white : heap (a + 3 + index) ≡ was_at s a index → is_black config memory a ≡ false → is_black config n (was_at s a index) ≡ true
+  module _ (a refs nums index : ℕ) (name : Name) (here : s.block a ≡ Some (thing name refs nums)) (below : index < refs) (some : was_at s a index ≢ 0) (now : IsMarkable block (was_at s a index)) (black : is_black config memory_then a ≡ true) where
+    from_white : heap (a + 3 + index) ≡ was_at s a index → is_black config memory a ≡ false → is_black config memory_then (was_at s a index) ≡ true
     from_white same white =
         let traced_one : IsTraced config memory a = ⊎_elim (λ (old : is_black config memory a ≡ true). absurd (true≢false (sym old ∙ white))) (λ (new : IsTraced config memory a). new) (black_after a black) in
         let shape = object_refs a refs nums name (marking.marked.kept a refs nums name here) in
-        subst (λ x. is_black config n x ≡ true) same (traced_black (heap (a + 3 + index)) (from_field a index traced_one white (omega (arith, below, shape)) (λ none. some (sym same ∙ none))))
+        subst (λ x. is_black config memory_then x ≡ true) same (traced_black (heap (a + 3 + index)) (from_field a index traced_one white (omega (arith, below, shape)) (λ none. some (sym same ∙ none))))
 
-    from_scan : heap (a + 3 + index) ≡ was_at s a index → IsToScan config (λ q. memory (Black q)) marking.ghost.scanning a index → is_black config n (was_at s a index) ≡ true
+    from_scan : heap (a + 3 + index) ≡ was_at s a index → IsToScan config (λ number. memory (Black number)) marking.ghost.scanning a index → is_black config memory_then (was_at s a index) ≡ true
     from_scan same (IsToScan.is_white white) = from_white same (false_from_ne_true (is_black config memory a) (λ old.
         let bit = eqb-true (bit_at (memory (Black (mark_word config a))) (mark_bit config a)) 1 (and_parts (nat_le config.region_words a) _ old).1 in
         omega (arith, bit, white)))
     from_scan same (IsToScan.in_scan seat at within is before) = absurd (none-some _ (sym (marking.unmarking.scans_none seat within) ∙ is))
 
-    from_edge : IsTracedAt config s heap (λ q. memory (Black q)) marking.ghost.scanning Noted a index → is_black config n (was_at s a index) ≡ true
+    from_edge : IsTracedAt config s heap (λ number. memory (Black number)) marking.ghost.scanning Noted a index → is_black config memory_then (was_at s a index) ≡ true
     from_edge (IsTracedAt.done is) = ⊎_elim (λ (null : was_at s a index ≡ 0). absurd (some null)) (λ (noted : Noted (was_at s a index)). noted_black (was_at s a index) now noted) is
     from_edge (IsTracedAt.stands same scan) = from_scan same scan
 
   -- so what the snapshot leads to becomes black
-  led_black : (a : ℕ) → IsLed s a → IsMarkable block a → is_black config n a ≡ true
+  led_black : (a : ℕ) → IsLed s a → IsMarkable block a → is_black config memory_then a ≡ true
   led_black _ (IsLed.by_start a is) now = noted_black a now (marking.marked.traced.starts a is)
   led_black _ (IsLed.by_field a refs nums index name led here below some) now =
       from_edge a refs nums index name here below some now (led_black a led (IsMarkable.object name refs nums (marking.marked.kept a refs nums name here)))
       (marking.marked.traced.edges a refs nums index name here below)
 
-  young_new : (a refs nums : ℕ) (name : Name) → block a ≡ Some (thing name refs nums) → IsYoung config s.top a → IsNew config n a
+  young_new : (a refs nums : ℕ) (name : Name) → block a ≡ Some (thing name refs nums) → IsYoung config s.top a → IsNew config memory_then a
   young_new a refs nums name is young =
       let at = object_below config memory block owner promises graph holds marking.uncollected a refs nums name is in
       let floor = (marking.marked.marking refl).tams_are (region_with config a) at.0 in
       omega (arith, young, floor, at.1)
 
   -- and each object is kept afterwards
-  thing_kept : (a refs nums : ℕ) (name : Name) → block a ≡ Some (thing name refs nums) → IsKept config n a
+  thing_kept : (a refs nums : ℕ) (name : Name) → block a ≡ Some (thing name refs nums) → IsKept config memory_then a
   thing_kept a refs nums name is =
       let now : IsMarkable block a = IsMarkable.object name refs nums is in
       ⊎_elim
@@ -210,13 +210,13 @@ module _ (config : Config) (memory : Word → ℕ) (block : Plot) (owner : ℕ �
       other)
       ((marking.marked.marking refl).older a refs nums name is)
 
-  pub object_kept : (a : ℕ) → IsObjectAt memory block a → IsKept config n a
+  pub object_kept : (a : ℕ) → IsObjectAt memory block a → IsKept config memory_then a
   object_kept a is = thing_kept a is.refs is.nums is.name is.here
 
   -- each object that can be reached
-  reached_before : (a : ℕ) → CanBeReached config n a → CanBeReached config memory a
-  reached_before = reach_ind config n block owner promises graph closed_holds marking.uncollected (CanBeReached config memory)
-      (λ word is some. root_reached config memory block owner promises graph holds marking.uncollected word (ap (λ xs. has xs word) (sym (held_words_same memory n alike config)) ∙ is) some)
+  reached_before : (a : ℕ) → CanBeReached config memory_then a → CanBeReached config memory a
+  reached_before = reach_ind config memory_then block owner promises graph closed_holds marking.uncollected (CanBeReached config memory)
+      (λ word is some. root_reached config memory block owner promises graph holds marking.uncollected word (ap (λ xs. has xs word) (sym (held_words_same memory memory_then alike config)) ∙ is) some)
       (λ a i held before few some. field_reached config memory block owner promises graph holds marking.uncollected a i before few some)
 
   -- so none lies in a dead region
@@ -225,19 +225,19 @@ module _ (config : Config) (memory : Word → ℕ) (block : Plot) (owner : ℕ �
       let at = object_below config memory block owner promises graph holds marking.uncollected a is.refs is.nums is.name is.here in
       let most = holds.objects.plotted.tops (region_with config a) at.0 in
       false_from_ne_true (dead_in config memory (region_with config a)) (λ told.
-      let dead : IsDead config n (region_with config a) = (dead_is_dead config n (region_with config a)).0 told in
+      let dead : IsDead config memory_then (region_with config a) = (dead_is_dead config memory_then (region_with config a)).0 told in
       ⊎_elim
-      (λ (black : is_black config n a ≡ true). true≢false (sym black ∙ dead.unmarked a (record { from = at.1; before = omega (arith, at.1, at.2, most) })))
-      (λ (fresh : IsNew config n a). omega (arith, fresh, at.2, dead.no_new))
+      (λ (black : is_black config memory_then a ≡ true). true≢false (sym black ∙ dead.unmarked a (record { from = at.1; before = omega (arith, at.1, at.2, most) })))
+      (λ (fresh : IsNew config memory_then a). omega (arith, fresh, at.2, dead.no_new))
       (object_kept a is))
 
-  object_same : (a : ℕ) → IsObjectAt memory block a → IsObjectAt n block a
+  object_same : (a : ℕ) → IsObjectAt memory block a → IsObjectAt memory_then block a
   object_same a is = record { name = is.name; refs = is.refs; nums = is.nums; here = is.here; shape = is.shape; few_refs = is.few_refs; few_nums = is.few_nums }
 
-  pub object_back : (a : ℕ) → IsObjectAt n block a → IsObjectAt memory block a
+  pub object_back : (a : ℕ) → IsObjectAt memory_then block a → IsObjectAt memory block a
   object_back a is = record { name = is.name; refs = is.refs; nums = is.nums; here = is.here; shape = is.shape; few_refs = is.few_refs; few_nums = is.few_nums }
 
-  pub closed_through : IsMarkedThrough config n block
+  pub closed_through : IsMarkedThrough config memory_then block
   closed_through = record {
     reachable = λ a held. object_kept a (reached_object config memory block owner promises graph holds marking.uncollected a (reached_before a held));
     fields = λ a i is kept few some.

@@ -3,6 +3,7 @@ use Rattle.std.proofs.Common.{◌≡◌, ℕ, ◌+◌, ◌-◌, ◌<◌, ◌≤�
 use Rattle.std.specs.List.{range_with_len, list_any}
 use Rattle.std.specs.Int.{bit_at}
 use Rattle.std.proofs.lemmas.Bool.{cases_lt, and_parts, and_from, or_cases, or_left, or_right, eqb-true, eqb-false, eq-eqb, ne_eqb, ltb-true, leb-true, lt-ltb, le-leb, not-true, not_from_false, false_from_ne_true, true≢false}
+use Rattle.shen_graph.proofs.Lists.{any_at, any_is}
 use Rattle.heap_words.specs.declared.config.Config.{Config}
 use Rattle.heap_words.specs.Words.{Word, Free, Top, Tams, Current, Share}
 use Rattle.heap_words.specs.Encoding.{end_in}
@@ -14,7 +15,6 @@ use Rattle.cycle_words.specs.Marking.Marks.{is_black}
 use Rattle.cycle_words.specs.Marking.Close.{closed}
 use Rattle.cycle_words.specs.Marking.Final.{ends_in, is_current, has_black, is_dead, IsDead, dead_in}
 use Rattle.image_graph.specs.Buffers.{HasNoMoreSeats}
-use Rattle.cycle_words.proofs.Marking.Ranges.{any_at, any_is}
 
 module _ (config : Config) (memory : Word → ℕ) (region : ℕ) where
   -- a buffer that ends in the region
@@ -58,15 +58,15 @@ module _ (config : Config) (memory : Word → ℕ) (region : ℕ) where
       (any_at (ends_in config memory region) 0 (seat_count config.mutators config.helpers) seat.0 seat.1 (ap (ends_in config memory region) here ∙ ends_of seat.0 seat.2)))
       is
 
-  pub black_in : has_black config memory region ≡ true → (a : ℕ) × IsOf config region a × (is_black config memory a ≡ true)
+  pub black_in : has_black config memory region ≡ true → (address : ℕ) × IsOf config region address × (is_black config memory address ≡ true)
   black_in is =
       let at = any_is (is_black config memory) (base_of config region) config.region_words is in
       (base_of config region + at.0, record { from = omega arith; before = omega (arith, at.1) }, at.2)
 
-  pub has_black_at : (a : ℕ) → IsOf config region a → is_black config memory a ≡ true → has_black config memory region ≡ true
-  has_black_at a of is =
-      let here : base_of config region + (a - base_of config region) ≡ a = omega (arith, of.from) in
-      any_at (is_black config memory) (base_of config region) config.region_words (a - base_of config region) (omega (arith, of.from, of.before)) (ap (is_black config memory) here ∙ is)
+  pub has_black_at : (address : ℕ) → IsOf config region address → is_black config memory address ≡ true → has_black config memory region ≡ true
+  has_black_at address is_of is =
+      let here : base_of config region + (address - base_of config region) ≡ address = omega (arith, is_of.from) in
+      any_at (is_black config memory) (base_of config region) config.region_words (address - base_of config region) (omega (arith, is_of.from, is_of.before)) (ap (is_black config memory) here ∙ is)
 
   abbrev used : Bool
   used = bit_at (memory Free) region == 0
@@ -94,7 +94,7 @@ module _ (config : Config) (memory : Word → ℕ) (region : ℕ) where
         unpinned = not-true (is_pinned config memory region) fourth.1;
         nobodys = λ seat. true≢false (sym (is_current_of seat) ∙ not-true (is_current config memory region) third.1);
         no_new = eqb-true (memory (Top region)) (memory (Tams region)) second.1;
-        unmarked = λ a of. false_from_ne_true (is_black config memory a) (λ black. true≢false (sym (has_black_at a of black) ∙ not-true (has_black config memory region) first.1));
+        unmarked = λ address of. false_from_ne_true (is_black config memory address) (λ black. true≢false (sym (has_black_at address of black) ∙ not-true (has_black config memory region) first.1));
       }
 
   is_told : IsDead config memory region → is_dead config memory region ≡ true
@@ -129,11 +129,11 @@ module _ (config : Config) (memory : Word → ℕ) where
   shared_alive r is = alive r (inl is)
 
   module _ (seats : HasNoMoreSeats config memory) where
-    pub seated : (seat r : ℕ) → EndsIn config memory seat r → IsSomeSeats config memory r
-    seated seat r is = ⊎_elim
+    pub seated : (seat region : ℕ) → EndsIn config memory seat region → IsSomeSeats config memory region
+    seated seat region is = ⊎_elim
         (λ (inside : seat < seat_count config.mutators config.helpers). inr (seat, inside, is))
         (λ (past : seat_count config.mutators config.helpers ≤ seat). absurd (is.0 (seats seat past)))
         (cases_lt seat (seat_count config.mutators config.helpers))
 
-    pub current_alive : (seat r : ℕ) → EndsIn config memory seat r → dead_in config memory r ≡ false
-    current_alive seat r is = alive r (seated seat r is)
+    pub current_alive : (seat region : ℕ) → EndsIn config memory seat region → dead_in config memory region ≡ false
+    current_alive seat region is = alive region (seated seat region is)

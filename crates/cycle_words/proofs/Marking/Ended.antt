@@ -22,11 +22,11 @@ use Rattle.cycle_words.proofs.Marking.Freed.{CanFree, calm_can_free, same_roots,
 
 module _ (config : Config) (memory : Word → ℕ) (block : Plot) (owner : ℕ → Option ℕ) (promises : Promises) (graph : Graph) (holds : HoldsBy config memory block owner promises graph) (marking : IsMarking config memory block) (seats : HasNoMoreSeats config memory) where
   -- the words once the marks are closed, and once the dead regions are freed
-  abbrev k : Word → ℕ
-  k = closed config memory
+  abbrev now : Word → ℕ
+  now = closed config memory
 
-  abbrev n : Word → ℕ
-  n = final_marked config memory
+  abbrev memory_then : Word → ℕ
+  memory_then = final_marked config memory
 
   abbrev out : ℕ → Bool
   out = dead_in config memory
@@ -34,38 +34,38 @@ module _ (config : Config) (memory : Word → ℕ) (block : Plot) (owner : ℕ �
   abbrev left : Plot
   left = freed_block config out block
 
-  held : HoldsBy config k block owner promises graph
+  held : HoldsBy config now block owner promises graph
   held = closed_holds config memory block owner promises graph holds marking
 
-  through : IsMarkedThrough config k block
+  through : IsMarkedThrough config now block
   through = closed_through config memory block owner promises graph holds marking
 
   -- no object lies in a dead region
-  alive : (address : ℕ) → IsObjectAt k block address → out (region_with config address) ≡ false
+  alive : (address : ℕ) → IsObjectAt now block address → out (region_with config address) ≡ false
   alive address is = object_alive config memory block owner promises graph holds marking address (object_back config memory block owner promises graph holds marking address is)
 
-  can : CanFree config out k block
+  can : CanFree config out now block
   can =
-      calm_can_free config out k block owner promises graph held marking.uncollected
-      (λ a reached. alive a (reached_object config k block owner promises graph held marking.uncollected a reached)) (current_alive config memory seats) (shared_alive config memory)
+      calm_can_free config out now block owner promises graph held marking.uncollected
+      (λ address reached. alive address (reached_object config now block owner promises graph held marking.uncollected address reached)) (current_alive config memory seats) (shared_alive config memory)
 
-  pub ended_holds : HoldsBy config n left (freed_owner out owner) promises graph
-  ended_holds = freed_holds config out k block owner promises graph held can
+  pub ended_holds : HoldsBy config memory_then left (freed_owner out owner) promises graph
+  ended_holds = freed_holds config out now block owner promises graph held can
 
   -- what is kept and left was kept before, and what was kept is kept
 
-  kept_was : (address : ℕ) → out (region_with config address) ≡ false → IsKept config n address → IsKept config k address
+  kept_was : (address : ℕ) → out (region_with config address) ≡ false → IsKept config memory_then address → IsKept config now address
   kept_was address stays kept = ⊎_elim
-      (λ (black : is_black config n address ≡ true). inl black)
-      (λ (fresh : IsNew config n address).
-      inr (let same : cond (out (region_with config address)) 0 (k (Tams (region_with config address))) ≡ k (Tams (region_with config address)) = cond-false (out (region_with config address)) 0 (k (Tams (region_with config address))) stays in
+      (λ (black : is_black config memory_then address ≡ true). inl black)
+      (λ (fresh : IsNew config memory_then address).
+      inr (let same : cond (out (region_with config address)) 0 (now (Tams (region_with config address))) ≡ now (Tams (region_with config address)) = cond-false (out (region_with config address)) 0 (now (Tams (region_with config address))) stays in
       omega (arith, fresh, same)))
       kept
 
-  kept_is : (address : ℕ) → IsKept config k address → IsKept config n address
+  kept_is : (address : ℕ) → IsKept config now address → IsKept config memory_then address
   kept_is address kept = ⊎_elim
-      (λ (black : is_black config k address ≡ true). inl black)
-      (λ (fresh : IsNew config k address). inr (let low = lower (out (region_with config address)) (k (Tams (region_with config address))) in omega (arith, fresh, low)))
+      (λ (black : is_black config now address ≡ true). inl black)
+      (λ (fresh : IsNew config now address). inr (let low = lower (out (region_with config address)) (now (Tams (region_with config address))) in omega (arith, fresh, low)))
       kept
     where
       lower : (holds : Bool) (x : ℕ) → cond holds 0 x ≤ x
@@ -73,19 +73,19 @@ module _ (config : Config) (memory : Word → ℕ) (block : Plot) (owner : ℕ �
       lower false x = omega arith
 
   -- reaching is as before
-  reached_was : (a : ℕ) → CanBeReached config n a → CanBeReached config k a
-  reached_was = reach_ind config n left (freed_owner out owner) promises graph ended_holds marking.uncollected (CanBeReached config k)
+  reached_was : (a : ℕ) → CanBeReached config memory_then a → CanBeReached config now a
+  reached_was = reach_ind config memory_then left (freed_owner out owner) promises graph ended_holds marking.uncollected (CanBeReached config now)
       (λ word is some.
-      root_reached config k block owner promises graph held marking.uncollected word
-      (ap (λ xs. has xs word) (sym (same_roots config out k block owner promises graph held can)) ∙ is) some)
-      (λ a i reached before few some. field_reached config k block owner promises graph held marking.uncollected a i before few some)
+      root_reached config now block owner promises graph held marking.uncollected word
+      (ap (λ xs. has xs word) (sym (same_roots config out now block owner promises graph held can)) ∙ is) some)
+      (λ a i reached before few some. field_reached config now block owner promises graph held marking.uncollected a i before few some)
 
-  object_was : (address : ℕ) → IsObjectAt n left address → (out (region_with config address) ≡ false) × IsObjectAt k block address
+  object_was : (address : ℕ) → IsObjectAt memory_then left address → (out (region_with config address) ≡ false) × IsObjectAt now block address
   object_was address is =
       let was = piece_was config out block address _ is.here in
       (was.0, record { name = is.name; refs = is.refs; nums = is.nums; here = was.1; shape = is.shape; few_refs = is.few_refs; few_nums = is.few_nums })
 
-  object_is : (address : ℕ) → out (region_with config address) ≡ false → IsObjectAt k block address → IsObjectAt n left address
+  object_is : (address : ℕ) → out (region_with config address) ≡ false → IsObjectAt now block address → IsObjectAt memory_then left address
   object_is address stays is =
       record {
         name = is.name;
@@ -97,11 +97,11 @@ module _ (config : Config) (memory : Word → ℕ) (block : Plot) (owner : ℕ �
         few_nums = is.few_nums;
       }
 
-  pub ended_through : IsMarkedThrough config n left
+  pub ended_through : IsMarkedThrough config memory_then left
   ended_through = record {
-    reachable = λ a reached. kept_is a (through.reachable a (reached_was a reached));
+    reachable = λ address reached. kept_is address (through.reachable address (reached_was address reached));
     fields = λ a i is kept few some.
         let was = object_was a is in
         let field = through.fields a i was.1 (kept_was a was.0 kept) few some in
-        (object_is (k (Heap (a + 3 + i))) (alive (k (Heap (a + 3 + i))) field.0) field.0, kept_is (k (Heap (a + 3 + i))) field.1);
+        (object_is (now (Heap (a + 3 + i))) (alive (now (Heap (a + 3 + i))) field.0) field.0, kept_is (now (Heap (a + 3 + i))) field.1);
   }

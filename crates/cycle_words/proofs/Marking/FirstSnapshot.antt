@@ -27,7 +27,7 @@ module _ (config : Config) (memory : Word → ℕ) (plot : Plot) where
   first a = nat_le config.region_words a && named a
 
   abbrev pub first_snapshot : Snapshot
-  first_snapshot = record { block = plot; heap = λ a. memory (Heap a); starts = first; top = edge config memory }
+  first_snapshot = record { block = plot; heap = λ address. memory (Heap address); starts = first; top = edge config memory }
 
   pub is_first : (a : ℕ) → config.region_words ≤ a → IsAmong (held_words config memory) a → first a ≡ true
   is_first a above is = and_from (nat_le config.region_words a) (named a) (le-leb config.region_words a above) is
@@ -37,7 +37,7 @@ module _ (config : Config) (memory : Word → ℕ) (plot : Plot) where
       (markable : (a : ℕ) → IsAmong (held_words config memory) a → a ≢ 0 → IsMarkable plot a) (promises : (a seat words : ℕ) → plot a ≡ Some (promised seat words) → first a ≡ true)
       (divided : AreDivided config memory plot) where
     -- what they hold is grey
-    first_noted : (address : ℕ) → first address ≡ true → IsNoted config (mark_bits config named) (λ t. 0) (λ t k. memory (Buffer t k)) recording address
+    first_noted : (address : ℕ) → first address ≡ true → IsNoted config (mark_bits config named) (λ t. 0) (λ mutator entry. memory (Buffer mutator entry)) recording address
     first_noted address is =
         let both = and_parts (nat_le config.region_words address) (named address) is in
         IsNoted.by_mark (mark_at config named address (leb-true config.region_words address both.0) ∙ ap one both.1)
@@ -53,11 +53,11 @@ module _ (config : Config) (memory : Word → ℕ) (plot : Plot) where
           markable a among (λ none. omega (arith, none, long));
     }
 
-    pub first_marked : KeepsSnapshot config 1 (mark_bits config named) (λ q. 0) (λ t. 0) (λ t k. memory (Buffer t k)) (λ q. memory (Top q)) (edge config memory) (λ a. memory (Heap a)) plot first_snapshot recording scanning
+    pub first_marked : KeepsSnapshot config 1 (mark_bits config named) (λ q. 0) (λ t. 0) (λ mutator entry. memory (Buffer mutator entry)) (λ region. memory (Top region)) (edge config memory) (λ address. memory (Heap address)) plot first_snapshot recording scanning
     first_marked = record {
       empty = λ other. absurd (other refl);
       traced = record {
-        edges = λ a refs nums k name is below. IsTracedAt.stands refl (IsToScan.is_white (bit_at-zero (mark_bit config a)));
+        edges = λ address refs nums k name is below. IsTracedAt.stands refl (IsToScan.is_white (bit_at-zero (mark_bit config address)));
         starts = first_noted;
       };
       led = led;
@@ -65,11 +65,11 @@ module _ (config : Config) (memory : Word → ℕ) (plot : Plot) where
       kept = λ a refs nums name is. is;
       floors = λ q inside. divided.tops q;
       marking = λ on. record {
-        older = λ a refs nums name is. inl is;
+        older = λ address refs nums name is. inl is;
         promises = λ a seat words is. promises a seat words is;
         deads = λ a words is. divided.others a (dead words) is refl;
         young = divided.rooms;
-        tams_are = λ q inside. refl;
+        tams_are = λ region inside. refl;
         greys = greys_are;
         blacks = record { small = λ q. omega arith; of_objects = λ q k below set. absurd (let none = bit_at-zero k in omega (arith, none, set)) };
         entries = record { few = λ t inside. omega arith; of_objects = λ t k inside below. absurd (omega (arith, below)) };

@@ -42,12 +42,12 @@ spare_ends config memory block owner promises graph holds address seat words is 
     let high = b.to_top in
     let most = holds.objects.plotted.tops b.region b.within in
     let of : region_with config address ≡ b.region = regions_tile.of_no_other config b.region address (record { from = omega (arith, low, one); before = omega (arith, high, most, two, long) }) in
-    subst (EndsIn config memory seat) (sym of) (some, buffer_ends config (λ r. memory (Top r)) block seat (memory (Current seat)) b most)
+    subst (EndsIn config memory seat) (sym of) (some, buffer_ends config (λ region. memory (Top region)) block seat (memory (Current seat)) b most)
 
 -- What is freed: regions in which nothing lies that a root, or a field of what can be reached, names, and that are not current. All that has
 -- moved lies there.
 pub record CanFree (config : Config) (out : ℕ → Bool) (memory : Word → ℕ) (block : Plot) : Type 0 where
-  pub unseated : (seat r : ℕ) → EndsIn config memory seat r → out r ≡ false
+  pub unseated : (seat region : ℕ) → EndsIn config memory seat region → out region ≡ false
   pub unshared : (r : ℕ) → memory Share ≡ r + 1 → out r ≡ false
   pub unnamed_roots : (word : ℕ) → IsAmong (held_words config memory) word → word ≢ 0 → out (region_with config word) ≡ false
   pub unnamed_fields : (address i : ℕ) → CanBeReached config memory address → i < refs_in (memory (Heap (address + 1))) → memory (Heap (address + 3 + i)) ≢ 0 → out (region_with config (memory (Heap (address + 3 + i)))) ≡ false
@@ -55,7 +55,7 @@ pub record CanFree (config : Config) (out : ℕ → Bool) (memory : Word → ℕ
 
 -- While no region is in the collection set it is enough that nothing that can be reached lies there.
 pub calm_can_free : (config : Config) (out : ℕ → Bool) (memory : Word → ℕ) (block : Plot) (owner : ℕ → Option ℕ) (promises : Promises) (graph : Graph) → HoldsBy config memory block owner promises graph → memory Cset ≡ 0
-    → ((address : ℕ) → CanBeReached config memory address → out (region_with config address) ≡ false) → ((seat r : ℕ) → EndsIn config memory seat r → out r ≡ false) → ((r : ℕ) → memory Share ≡ r + 1 → out r ≡ false)
+    → ((address : ℕ) → CanBeReached config memory address → out (region_with config address) ≡ false) → ((seat region : ℕ) → EndsIn config memory seat region → out region ≡ false) → ((region : ℕ) → memory Share ≡ region + 1 → out region ≡ false)
     → CanFree config out memory block
 calm_can_free config out memory block owner promises graph holds calm unreached unseated unshared = record {
   unseated = unseated;
@@ -66,8 +66,8 @@ calm_can_free config out memory block owner promises graph holds calm unreached 
 }
 
 module _ (config : Config) (out : ℕ → Bool) (memory : Word → ℕ) (block : Plot) (owner : ℕ → Option ℕ) (promises : Promises) (graph : Graph) (holds : HoldsBy config memory block owner promises graph) (can : CanFree config out memory block) where
-  abbrev n : Word → ℕ
-  n = freed config out memory
+  abbrev now : Word → ℕ
+  now = freed config out memory
 
   abbrev left : Plot
   left = freed_block config out block
@@ -87,7 +87,7 @@ module _ (config : Config) (out : ℕ → Bool) (memory : Word → ℕ) (block :
   abbrev more : Graph
   more = with_promised graph promises
 
-  plotted : IsPlotted config (λ r. n (Top r)) left
+  plotted : IsPlotted config (λ region. now (Top region)) left
   plotted = plotted_again config out memory block holds.objects.plotted holds.pieces.some
 
   -- what is left and stands for a name is an object
@@ -102,20 +102,20 @@ module _ (config : Config) (out : ℕ → Bool) (memory : Word → ℕ) (block :
   pub left_unmoved : (address refs nums : ℕ) (name : Name) → left address ≡ Some (thing name refs nums) → is_forwarded (heap address) ≡ false
   left_unmoved address refs nums name is = let was = piece_was config out block address (thing name refs nums) is in can.unmoved address refs nums name was.1 was.0
 
-  trimmed : IsTrimmed config memory block (λ r. n (Top r)) left
+  trimmed : IsTrimmed config memory block (λ region. now (Top region)) left
   trimmed = record {
     plotted = plotted;
     roots = λ word among some. piece_stays config out block word (can.unnamed_roots word among some);
-    fields = λ a i held few some. piece_stays config out block (memory (Heap (a + 3 + i))) (can.unnamed_fields a i held few some);
+    fields = λ address i held few some. piece_stays config out block (memory (Heap (address + 3 + i))) (can.unnamed_fields address i held few some);
     current = own_current memory left named left_unmoved;
     was = λ a refs nums name is. (piece_was config out block a (thing name refs nums) is).1;
   }
 
-  objects : HoldsGraph config (λ r. n (Top r)) heap left (now_in memory) IsRoot more
-  objects = trimmed_objects config memory block owner promises graph holds (λ r. n (Top r)) left trimmed
+  objects : HoldsGraph config (λ region. now (Top region)) heap left (now_in memory) IsRoot more
+  objects = trimmed_objects config memory block owner promises graph holds (λ region. now (Top region)) left trimmed
 
   rooted : RootsStand config memory left graph promises
-  rooted = trimmed_rooted config memory block owner promises graph holds (λ r. n (Top r)) left trimmed
+  rooted = trimmed_rooted config memory block owner promises graph holds (λ region. now (Top region)) left trimmed
 
   owned_by : (region : ℕ) → out region ≡ false → owned region ≡ owner region
   owned_by region other = let none : Option ℕ = None in cond-false (out region) none (owner region) other
@@ -126,7 +126,7 @@ module _ (config : Config) (out : ℕ → Bool) (memory : Word → ℕ) (block :
   still_none : (region : ℕ) → owner region ≡ None → owned region ≡ None
   still_none region none = ⊎_elim (λ (gone : out region ≡ true). owned_none region gone) (λ (other : out region ≡ false). owned_by region other ∙ none) (cases_Bool (out region))
 
-  shared_one : ShareIsOpen config (memory Share) (n Free) (memory Cset) owned
+  shared_one : ShareIsOpen config (memory Share) (now Free) (memory Cset) owned
   shared_one r is =
       let was = holds.shared_one r is in
       record {
@@ -157,29 +157,29 @@ module _ (config : Config) (out : ℕ → Bool) (memory : Word → ℕ) (block :
     came = λ a seat b room is. (piece_was config out block a b is).1;
   }
 
-  buffers : AreBuffers config (λ r. n (Top r)) (λ s. memory (Current s)) left
-  buffers = buffers_stay config top (λ r. n (Top r)) (λ s. memory (Current s)) block left same_room holds.buffers
+  buffers : AreBuffers config (λ region. now (Top region)) (λ seat. memory (Current seat)) left
+  buffers = buffers_stay config top (λ region. now (Top region)) (λ seat. memory (Current seat)) block left same_room holds.buffers
       (λ seat some. (let same = top_stays config out memory (holds.buffers.each seat some).region (buffer_stays seat some) in omega (arith, same)))
 
-  asking : AreAsking config n graph promises 0
+  asking : AreAsking config now graph promises 0
   asking t from below some =
       let was = holds.asking t from below some in
       record { shape = was.shape; few_refs = was.few_refs; few_nums = was.few_nums; unanswered = was.unanswered; new = was.new }
 
-  pub same_roots : held_words config n ≡ held_words config memory
-  same_roots = same_held_words memory n (λ t i. refl) (λ t. refl) (λ t i. refl) config
+  pub same_roots : held_words config now ≡ held_words config memory
+  same_roots = same_held_words memory now (λ t i. refl) (λ t. refl) (λ t i. refl) config
 
-  pub freed_holds : HoldsBy config n left owned promises graph
+  pub freed_holds : HoldsBy config now left owned promises graph
   freed_holds = record {
-    objects = subst (λ xs. HoldsGraph config (λ r. n (Top r)) heap left (now_in memory) (IsAmong xs) more) (sym same_roots) objects;
+    objects = subst (λ xs. HoldsGraph config (λ region. now (Top region)) heap left (now_in memory) (IsAmong xs) more) (sym same_roots) objects;
     rooted = record { roots = rooted.roots; answers = rooted.answers; no_more_roots = rooted.no_more_roots; pins = rooted.pins; no_more_pins = rooted.no_more_pins; no_more_promised = rooted.no_more_promised };
-    moved = λ a refs nums name is forwarded. absurd (true≢false (sym forwarded ∙ left_unmoved a refs nums name is));
+    moved = λ address refs nums name is forwarded. absurd (true≢false (sym forwarded ∙ left_unmoved address refs nums name is));
     filled = filled_again config out memory block holds.objects.plotted holds.pieces.some holds.filled;
     pieces = record {
       named = named;
-      unpromised = λ a seat words is. holds.pieces.unpromised a seat words (piece_was config out block a (promised seat words) is).1;
-      unheld = λ a seat words is. holds.pieces.unheld a seat words (piece_was config out block a (hand seat words) is).1;
-      uncarved = λ a seat words is. holds.pieces.uncarved a seat words (piece_was config out block a (carved seat words) is).1;
+      unpromised = λ address seat words is. holds.pieces.unpromised address seat words (piece_was config out block address (promised seat words) is).1;
+      unheld = λ address seat words is. holds.pieces.unheld address seat words (piece_was config out block address (hand seat words) is).1;
+      uncarved = λ address seat words is. holds.pieces.uncarved address seat words (piece_was config out block address (carved seat words) is).1;
       some = λ a b is. holds.pieces.some a b (piece_was config out block a b is).1;
     };
     free_word = free_again config out memory block holds.objects.plotted holds.pieces.some owner owned holds.free_word owned_none still_none;

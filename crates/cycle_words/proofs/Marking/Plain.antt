@@ -24,24 +24,24 @@ use Rattle.cycle_words.specs.Marking.WhileMarking.{IsObjectAt, CanBeReached}
 -- a piece of words begins below the top of its region
 pub below_top : (config : Config) (top : ℕ → ℕ) (block : Plot) → IsPlotted config top block → (address : ℕ) (piece : Block) → block address ≡ Some piece → 0 < words_of piece
     → (region_with config address < config.regions) × (base_of config (region_with config address) ≤ address) × (address + words_of piece ≤ base_of config (region_with config address) + top (region_with config address))
-below_top config top block plotted address piece is some =
+below_top config top block plotted address piece is positive =
     let used = plotted.in_use address piece is in
     let most : top used.region ≤ config.region_words = plotted.tops used.region used.within in
-    let of : IsOf config used.region address = record { from = used.from_base; before = omega (arith, used.to_top, most, some) } in
+    let of : IsOf config used.region address = record { from = used.from_base; before = omega (arith, used.to_top, most, positive) } in
     let same : used.region ≡ region_with config address = sym (regions_tile.of_no_other config used.region address of) in
-    subst (λ r. (r < config.regions) × (base_of config r ≤ address) × (address + words_of piece ≤ base_of config r + top r)) same (used.within, used.from_base, used.to_top)
+    subst (λ region. (region < config.regions) × (base_of config region ≤ address) × (address + words_of piece ≤ base_of config region + top region)) same (used.within, used.from_base, used.to_top)
 
 -- a field of what can be reached names an object
 pub field_named : (config : Config) (memory : Word → ℕ) (block : Plot) (owner : ℕ → Option ℕ) (promises : Promises) (graph : Graph) → HoldsBy config memory block owner promises graph
     → (address i : ℕ) → CanBeReached config memory address → i < refs_in (memory (Heap (address + 1))) → memory (Heap (address + 3 + i)) ≢ 0 → (name : Name) × (name_at (block (memory (Heap (address + 3 + i)))) ≡ Some name)
-field_named config memory block owner promises graph holds address i held few some =
-    let at = held_is_reached config (λ r. memory (Top r)) (λ y. memory (Heap y)) block (now_in memory) (IsAmong (held_words config memory)) (with_promised graph promises) holds.objects address held in
+field_named config memory block owner promises graph holds address i held below positive =
+    let at = held_is_reached config (λ region. memory (Top region)) (λ address. memory (Heap address)) block (now_in memory) (IsAmong (held_words config memory)) (with_promised graph promises) holds.objects address held in
     let object = holds.objects.each address at.1 at.2 at.0 held at.3 in
     let is = object.2 in
     let shape : refs_in (memory (Heap (address + 1))) ≡ at.1 = ap refs_in is.shape ∙ refs_read at.1 at.2 is.few_refs is.few_nums in
-    let r : Reference = get_or object.0.refs i None in
-    let there : slice_get object.0.refs i ≡ Some r = slice_get-get_or object.0.refs i None (omega (arith, few, shape, is.refs_are)) in
-    let to = named_if_not_0 config (λ q. memory (Top q)) block holds.objects.plotted (memory (Heap (address + 3 + i))) r (is.references i r there) some in
+    let reference : Reference = get_or object.0.refs i None in
+    let there : slice_get object.0.refs i ≡ Some reference = slice_get-get_or object.0.refs i None (omega (arith, below, shape, is.refs_are)) in
+    let to = named_if_not_0 config (λ region. memory (Top region)) block holds.objects.plotted (memory (Heap (address + 3 + i))) reference (is.references i reference there) positive in
     (to.0, to.2)
 
 module _ (config : Config) (memory : Word → ℕ) (block : Plot) (owner : ℕ → Option ℕ) (promises : Promises) (graph : Graph) (holds : HoldsBy config memory block owner promises graph) (calm : memory Cset ≡ 0) where
@@ -73,23 +73,23 @@ module _ (config : Config) (memory : Word → ℕ) (block : Plot) (owner : ℕ �
 
   -- so roots and fields lead to themselves
   pub root_own : (word : ℕ) → IsAmong (held_words config memory) word → word ≢ 0 → now_in memory word ≡ word
-  root_own word is some =
-      let named = holds.objects.root_named word is some in
+  root_own word is positive =
+      let named = holds.objects.root_named word is positive in
       let piece = holds.pieces.named word named.2 named.4 in
       own_copy word piece.0 piece.1 named.2 piece.2
 
   pub field_own : (address i : ℕ) → CanBeReached config memory address → i < refs_in (heap (address + 1)) → heap (address + 3 + i) ≢ 0 → now_in memory (heap (address + 3 + i)) ≡ heap (address + 3 + i)
-  field_own address i held few some =
-      let to = field_named config memory block owner promises graph holds address i held few some in
+  field_own address i held below positive =
+      let to = field_named config memory block owner promises graph holds address i held below positive in
       let piece = holds.pieces.named (heap (address + 3 + i)) to.0 to.1 in
       own_copy (heap (address + 3 + i)) piece.0 piece.1 to.0 piece.2
 
   -- in a simpler form
   pub root_reached : (word : ℕ) → IsAmong (held_words config memory) word → word ≢ 0 → CanBeReached config memory word
-  root_reached word is some = subst (CanBeReached config memory) (root_own word is some) (from_root word is some)
+  root_reached word is positive = subst (CanBeReached config memory) (root_own word is positive) (from_root word is positive)
 
   pub field_reached : (address i : ℕ) → CanBeReached config memory address → i < refs_in (heap (address + 1)) → heap (address + 3 + i) ≢ 0 → CanBeReached config memory (heap (address + 3 + i))
-  field_reached address i held few some = subst (CanBeReached config memory) (field_own address i held few some) (from_field address i held few some)
+  field_reached address i held below positive = subst (CanBeReached config memory) (field_own address i held below positive) (from_field address i held below positive)
 
   -- an object lies in the part of its region that is in use
   pub object_below : (address refs nums : ℕ) (name : Name) → block address ≡ Some (thing name refs nums)

@@ -90,11 +90,11 @@ module _ (live : ℕ → Bool) (block : Plot) where
 
   -- all room is the same
   pub pruned_rooms : SameRoom block (pruned live block)
-  pruned_rooms = record { stays = room_stays; came = λ a seat x room is. room_was a seat x room is }
+  pruned_rooms = record { stays = room_stays; came = λ address seat piece room is. room_was address seat piece room is }
 
   -- an object was one
-  fixed_from : (address : ℕ) (b : Block) → pruned live block address ≡ Some b → is_loose b ≡ false → (x : Block) × (block address ≡ Some x) × (is_loose x ≡ false) × (words_of x ≡ words_of b)
-  fixed_from address b is fixed = let was = piece_was address b is in (was.0, was.1, fixed_was was.0 b (live address) was.2 fixed, words_were was.0 b (live address) was.2)
+  fixed_from : (address : ℕ) (piece : Block) → pruned live block address ≡ Some piece → is_loose piece ≡ false → (other_piece : Block) × (block address ≡ Some other_piece) × (is_loose other_piece ≡ false) × (words_of other_piece ≡ words_of piece)
+  fixed_from address piece is fixed = let was = piece_was address piece is in (was.0, was.1, fixed_was was.0 piece (live address) was.2 fixed, words_were was.0 piece (live address) was.2)
     where
       fixed_was : (x y : Block) (holds : Bool) → WasPiece holds x y → is_loose y ≡ false → is_loose x ≡ false
       fixed_was x y holds (WasPiece.was_left same is_live) stays = ap is_loose same ∙ stays
@@ -103,13 +103,13 @@ module _ (live : ℕ → Bool) (block : Plot) where
   -- and says how many words it has
   pub pruned_sized : (memory : Word → ℕ) → AreSized memory block → AreSized memory (pruned live block)
   pruned_sized memory sized = record {
-    objects = λ a b is fixed. let was = fixed_from a b is fixed in sized.objects a was.0 was.1 was.2 ∙ was.3;
-    headers = λ a b is fixed. let was = fixed_from a b is fixed in sized.headers a was.0 was.1 was.2;
-    fillers = λ a words is. sized.fillers a words (filler_was a words is);
+    objects = λ address piece is fixed. let was = fixed_from address piece is fixed in sized.objects address was.0 was.1 was.2 ∙ was.3;
+    headers = λ address piece is fixed. let was = fixed_from address piece is fixed in sized.headers address was.0 was.1 was.2;
+    fillers = λ address words is. sized.fillers address words (filler_was address words is);
   }
 
   resized : IsResized block (pruned live block)
-  resized = record { from = pruned_from; to = λ a x is. (pruned_piece (live a) x, pruned_at a x is) }
+  resized = record { from = pruned_from; to = λ address piece is. (pruned_piece (live address) piece, pruned_at address piece is) }
 
   -- pieces lie where they lay, and fill the regions
   pub pruned_plotted : (config : Config) (top : ℕ → ℕ) → IsPlotted config top block → IsPlotted config top (pruned live block)

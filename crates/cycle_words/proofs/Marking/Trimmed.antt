@@ -17,7 +17,7 @@ use Rattle.image_graph.specs.Full.{now_in, held_words}
 use Rattle.image_graph.specs.Promised.{Promises, with_promised}
 use Rattle.image_graph.specs.Image.{AnswerStands, PinWordStands, RootsStand}
 use Rattle.image_graph.proofs.Reached.{refs_read, none_at_0}
-use Rattle.image_graph.proofs.Roots.{root_among, answer_among, pin_among, pin_stays}
+use Rattle.image_graph.proofs.HeldRoots.{root_among, answer_among, pin_among, pin_stays}
 use Rattle.image_graph.specs.Holds.{HoldsBy}
 use Rattle.cycle_words.specs.Marking.WhileMarking.{CanBeReached}
 use Rattle.cycle_words.proofs.Marking.Plain.{root_reached, field_reached}
@@ -104,7 +104,7 @@ module _ (config : Config) (memory : Word → ℕ) (block : Plot) (owner : ℕ �
   object_stays address refs nums name object held is =
       let shape : refs_in (heap (address + 1)) ≡ refs = ap refs_in is.shape ∙ refs_read refs nums is.few_refs is.few_nums in
       object_stands heap block left address refs nums name object
-      (λ i r there below points. points_stay (heap (address + 3 + i)) r
+      (λ i reference there below points. points_stay (heap (address + 3 + i)) reference
       (λ some. is_trimmed.fields address i held (omega (arith, below, shape)) some)
       points)
       is

@@ -25,7 +25,7 @@ module _ (config : Config) (out : ℕ → Bool) (memory : Word → ℕ) where
       bit_at_or (memory Free) (bits_of out 0 config.regions) region ∙ ap (max (bit_at (memory Free) region)) (bits_at out 0 config.regions region below ∙ ap (λ k. one (out k)) here)
 
   -- those that were free, and those that were freed
-  pub free_was : (r : ℕ) → r < config.regions → IsIn (freed config out memory Free) r → IsIn (memory Free) r ⊎ (out r ≡ true)
+  pub free_was : (region : ℕ) → region < config.regions → IsIn (freed config out memory Free) region → IsIn (memory Free) region ⊎ (out region ≡ true)
   free_was r below is = ⊎_elim
       (λ (yes : out r ≡ true). inr yes)
       (λ (no : out r ≡ false). inl (let bit = free_bit r below in let none : one (out r) ≡ 0 = ap one no in omega (arith, bit, none, is)))
@@ -42,33 +42,33 @@ module _ (config : Config) (out : ℕ → Bool) (memory : Word → ℕ) where
       one_few false = omega arith
 
 module _ (config : Config) (out : ℕ → Bool) (memory : Word → ℕ) where
-  abbrev n : Word → ℕ
-  n = freed config out memory
+  abbrev now : Word → ℕ
+  now = freed config out memory
 
   -- tops afterwards
-  pub top_out : (region : ℕ) → out region ≡ true → n (Top region) ≡ 0
+  pub top_out : (region : ℕ) → out region ≡ true → now (Top region) ≡ 0
   top_out region gone = cond-true (out region) 0 (memory (Top region)) gone
 
-  pub top_stays : (region : ℕ) → out region ≡ false → n (Top region) ≡ memory (Top region)
+  pub top_stays : (region : ℕ) → out region ≡ false → now (Top region) ≡ memory (Top region)
   top_stays region other = cond-false (out region) 0 (memory (Top region)) other
 
-  top_less : (region : ℕ) → n (Top region) ≤ memory (Top region)
+  top_less : (region : ℕ) → now (Top region) ≤ memory (Top region)
   top_less region = ⊎_elim
       (λ (gone : out region ≡ true). omega (arith, top_out region gone))
       (λ (other : out region ≡ false). omega (arith, top_stays region other))
       (cases_Bool (out region))
 
   -- so it is with tops at mark start, and limits
-  pub tams_out : (region : ℕ) → out region ≡ true → n (Tams region) ≡ 0
+  pub tams_out : (region : ℕ) → out region ≡ true → now (Tams region) ≡ 0
   tams_out region gone = cond-true (out region) 0 (memory (Tams region)) gone
 
-  pub tams_stays : (region : ℕ) → out region ≡ false → n (Tams region) ≡ memory (Tams region)
+  pub tams_stays : (region : ℕ) → out region ≡ false → now (Tams region) ≡ memory (Tams region)
   tams_stays region other = cond-false (out region) 0 (memory (Tams region)) other
 
-  pub limit_out : (region : ℕ) → out region ≡ true → n (Limit region) ≡ 0
+  pub limit_out : (region : ℕ) → out region ≡ true → now (Limit region) ≡ 0
   limit_out region gone = cond-true (out region) 0 (memory (Limit region)) gone
 
-  pub limit_stays : (region : ℕ) → out region ≡ false → n (Limit region) ≡ memory (Limit region)
+  pub limit_stays : (region : ℕ) → out region ≡ false → now (Limit region) ≡ memory (Limit region)
   limit_stays region other = cond-false (out region) 0 (memory (Limit region)) other
 
 module _ (config : Config) (out : ℕ → Bool) (block : Plot) where
@@ -89,7 +89,7 @@ module _ (config : Config) (out : ℕ → Bool) (block : Plot) where
 pub freed_sized : (config : Config) (out : ℕ → Bool) (memory : Word → ℕ) (block : Plot) → AreSized memory block → AreSized memory (freed_block config out block)
 freed_sized config out memory block sized = record {
   objects = λ a b is fixed. sized.objects a b (piece_was config out block a b is).1 fixed;
-  headers = λ a b is fixed. sized.headers a b (piece_was config out block a b is).1 fixed;
+  headers = λ address b is fixed. sized.headers address b (piece_was config out block address b is).1 fixed;
   fillers = λ a words is. sized.fillers a words (piece_was config out block a (filler words) is).1;
 }
 
@@ -99,13 +99,13 @@ module _ (config : Config) (out : ℕ → Bool) (memory : Word → ℕ) (block :
   left = freed_block config out block
 
   -- pieces lie in the parts in use
-  in_use_again : (address : ℕ) (piece : Block) → left address ≡ Some piece → IsInUse config (λ q. freed config out memory (Top q)) address (words_of piece)
+  in_use_again : (address : ℕ) (piece : Block) → left address ≡ Some piece → IsInUse config (λ region. freed config out memory (Top region)) address (words_of piece)
   in_use_again address piece is =
       let was = piece_was config out block address piece is in
-      let at = below_top config (λ q. memory (Top q)) block plotted address piece was.1 (some address piece was.1) in
+      let at = below_top config (λ region. memory (Top region)) block plotted address piece was.1 (some address piece was.1) in
       record { region = region_with config address; within = at.0; from_base = at.1; to_top = (let same = top_stays config out memory (region_with config address) was.0 in omega (arith, at.2, same)) }
 
-  pub plotted_again : IsPlotted config (λ q. freed config out memory (Top q)) left
+  pub plotted_again : IsPlotted config (λ region. freed config out memory (Top region)) left
   plotted_again = record {
     tops = λ q inside. (let most = plotted.tops q inside in omega (arith, most, top_less config out memory q));
     in_use = in_use_again;
@@ -114,19 +114,19 @@ module _ (config : Config) (out : ℕ → Bool) (memory : Word → ℕ) (block :
 
   -- an address below the top of a region is of it
   of_region : (region address : ℕ) → region < config.regions → base_of config region ≤ address → address < base_of config region + freed config out memory (Top region) → (out region ≡ false) × (left address ≡ block address) × (address < base_of config region + memory (Top region))
-  of_region region address inside from below = ⊎_elim
-      (λ (gone : out region ≡ true). absurd (omega (arith, top_out config out memory region gone, from, below)))
+  of_region region address inside at_most below = ⊎_elim
+      (λ (gone : out region ≡ true). absurd (omega (arith, top_out config out memory region gone, at_most, below)))
       (λ (other : out region ≡ false).
       let less = top_less config out memory region in
       let most = plotted.tops region inside in
-      let same : region_with config address ≡ region = regions_tile.of_no_other config region address (record { from = from; before = omega (arith, below, less, most) }) in
+      let same : region_with config address ≡ region = regions_tile.of_no_other config region address (record { from = at_most; before = omega (arith, below, less, most) }) in
       (other, piece_stays config out block address (ap out same ∙ other), omega (arith, below, less)))
       (cases_Bool (out region))
 
   there : (address : ℕ) → left address ≡ block address → (piece : Block) × (block address ≡ Some piece) → (piece : Block) × (left address ≡ Some piece)
   there address same was = (was.0, same ∙ was.1)
 
-  pub filled_again : IsFilled config (λ q. memory (Top q)) block → IsFilled config (λ q. freed config out memory (Top q)) left
+  pub filled_again : IsFilled config (λ region. memory (Top region)) block → IsFilled config (λ region. freed config out memory (Top region)) left
   filled_again filled = record {
     first = λ q inside used.
         let at = of_region q (base_of config q) inside (omega arith) (omega (arith, used)) in
@@ -136,7 +136,7 @@ module _ (config : Config) (out : ℕ → Bool) (memory : Word → ℕ) (block :
         there (a + words_of x) at.1 (filled.next q a x inside from (piece_was config out block a x is).1 at.2);
   }
 
-  pub parsable_again : IsParsable config (λ q. memory (Top q)) block → IsParsable config (λ q. freed config out memory (Top q)) left
+  pub parsable_again : IsParsable config (λ region. memory (Top region)) block → IsParsable config (λ region. freed config out memory (Top region)) left
   parsable_again parsable = record {
     plotted = plotted_again;
     filled = filled_again parsable.filled;
@@ -147,10 +147,10 @@ module _ (config : Config) (out : ℕ → Bool) (memory : Word → ℕ) (block :
   }
 
   -- what nobody writes to stays so
-  pub unwritten_again : AreUnwritten (λ a. memory (Heap a)) block → AreUnwritten (λ a. memory (Heap a)) left
+  pub unwritten_again : AreUnwritten (λ address. memory (Heap address)) block → AreUnwritten (λ address. memory (Heap address)) left
   unwritten_again unwritten = record {
-    blanks = λ a seat words is. unwritten.blanks a seat words (piece_was config out block a (promised seat words) is).1;
-    headers = λ a words is. unwritten.headers a words (piece_was config out block a (dead words) is).1;
+    blanks = λ address seat words is. unwritten.blanks address seat words (piece_was config out block address (promised seat words) is).1;
+    headers = λ address words is. unwritten.headers address words (piece_was config out block address (dead words) is).1;
     lengths = λ a words is. unwritten.lengths a words (piece_was config out block a (dead words) is).1;
     fillers = λ a words is. unwritten.fillers a words (piece_was config out block a (filler words) is).1;
   }

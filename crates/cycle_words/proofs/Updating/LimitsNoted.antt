@@ -16,14 +16,14 @@ use Rattle.cycle_words.specs.Marking.WhileMarking.{CanBeReached}
 use Rattle.cycle_words.specs.Updating.Changes.{updating_begun, init_updated}
 use Rattle.cycle_words.specs.StillHolds.{WhileCollecting, NothingInside, HoldsLimited, LimitsHold}
 use Rattle.image_graph.proofs.Loosening.Loosened.{loosened_sized, loosened_reached}
-use Rattle.image_graph.proofs.Loosening.OneTurn.{HoldsLoosened}
+use Rattle.image_graph.proofs.Loosening.OneBuffer.{HoldsLoosened}
 use Rattle.image_graph.proofs.Loosening.AllSettled.{settled_holds}
 use Rattle.cycle_words.proofs.Pinned.{same_pinned}
 use Rattle.cycle_words.proofs.Finishing.Collecting.{loosened_collecting}
 use Rattle.cycle_words.proofs.Marking.Alike.{sized_alike, same_held_words, holds_alike}
 
 reached_before : (config : Config) (memory : Word → ℕ) (a : ℕ) → CanBeReached config (updating_begun config memory) a → CanBeReached config memory a
-reached_before config memory a = subst (λ xs. IsLedTo (now_in memory) (λ y. memory (Heap y)) (IsAmong xs) a) (same_held_words memory (updating_begun config memory) (λ t i. refl) (λ t. refl) (λ t i. refl) config)
+reached_before config memory a = subst (λ xs. IsLedTo (now_in memory) (λ address. memory (Heap address)) (IsAmong xs) a) (same_held_words memory (updating_begun config memory) (λ t i. refl) (λ t. refl) (λ t i. refl) config)
 
 collecting_then : (config : Config) (memory : Word → ℕ) (block : Plot) → WhileCollecting config memory block → NothingInside config memory → WhileCollecting config (updating_begun config memory) block
 collecting_then config memory block while nothing = record {
@@ -49,8 +49,8 @@ module _ (config : Config) (memory : Word → ℕ) (block : Plot) (owner : ℕ �
   -- nothing inside that can be reached, but in pinned regions, and no top changed
   nothing_inside : NothingInside config memory → NothingInside config s
   nothing_inside nothing a reached inside =
-      same_pinned config memory s (λ t i. after.loosened.others (Pin t i) refl) (region_with config a)
-      ∙ nothing a (loosened_reached config memory s block settled owner promises graph holds after.loosened after.holds.objects.plotted a reached) (subst (λ k. IsCollected config k a) (after.loosened.others Cset refl) inside)
+      same_pinned config memory s (λ mutator slot. after.loosened.others (Pin mutator slot) refl) (region_with config a)
+      ∙ nothing a (loosened_reached config memory s block settled owner promises graph holds after.loosened after.holds.objects.plotted a reached) (subst (λ cset. IsCollected config cset a) (after.loosened.others Cset refl) inside)
 
   collecting_settled : WhileCollecting config memory block → WhileCollecting config s settled
   collecting_settled while = loosened_collecting config memory s block settled owner promises graph holds after.loosened after.holds.objects.plotted while

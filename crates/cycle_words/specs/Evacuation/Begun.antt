@@ -27,8 +27,8 @@ abbrev pub naming_places : Config → List Word
 naming_places config = root_places config.mutators ++ map Answer (range_with_len 0 config.mutators)
 
 abbrev pub IsNaming : Word → Type 0
-IsNaming (Root t i) = ⊤
-IsNaming (Answer t) = ⊤
+IsNaming (Root mutator index) = ⊤
+IsNaming (Answer mutator) = ⊤
 IsNaming word = ⊥
 
 -- a word is the address of something in the collection set

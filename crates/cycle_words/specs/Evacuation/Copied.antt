@@ -13,7 +13,7 @@ use Rattle.cycle_words.specs.Evacuation.Copying.{tops_outside}
 
 -- the region to which an object is copied: the lowest one outside the collection set that has room
 abbrev pub copy_room : Config → (Word → ℕ) → ℕ → Option ℕ
-copy_room config memory a = lowest_room config.region_words (tops_outside config.region_words (memory Cset) (λ r. memory (Top r))) (words_at memory a) config.regions
+copy_room config memory a = lowest_room config.region_words (tops_outside config.region_words (memory Cset) (λ region. memory (Top region))) (words_at memory a) config.regions
 
 -- An object can be copied out: it lies in one region, which is of the collection set, and no region uses more words than it
 -- has.
@@ -44,23 +44,23 @@ copied_word heap from to words address =
 -- The words after an object was copied to the top of a region: its words stand there, the top has grown, the region is not
 -- free, and the old copy is forwarded to the new one. All other words stay.
 unfoldable pub copied_to : Config → (Word → ℕ) → (address region : ℕ) → Word → ℕ
-copied_to config memory a region (Heap x) = if a == x then header_word (top_address config memory region) else copied_word (λ y. memory (Heap y)) a (top_address config memory region) (words_at memory a) x
-copied_to config memory a region (Top q) = if region == q then memory (Top region) + words_at memory a else memory (Top q)
-copied_to config memory a region Free = bit_and (memory Free) (all_but region)
-copied_to config memory a region word = memory word
+copied_to config memory address region (Heap other_address) = if address == other_address then header_word (top_address config memory region) else copied_word (λ a. memory (Heap a)) address (top_address config memory region) (words_at memory address) other_address
+copied_to config memory address region (Top other_region) = if region == other_region then memory (Top region) + words_at memory address else memory (Top other_region)
+copied_to config memory address region Free = bit_and (memory Free) (all_but region)
+copied_to config memory address region word = memory word
 
 -- and where no region has room, as they were
 abbrev pub copied_in : Config → (Word → ℕ) → ℕ → Option ℕ → Word → ℕ
 copied_in config memory a None word = memory word
-copied_in config memory a (Some r) word = copied_to config memory a r word
+copied_in config memory address (Some region) word = copied_to config memory address region word
 
 abbrev pub copied_out : Config → (Word → ℕ) → ℕ → Word → ℕ
 copied_out config memory a = copied_in config memory a (copy_room config memory a)
 
 -- the words of which copying may change some
 abbrev pub MayChange : Word → Type 0
-MayChange (Heap x) = ⊤
-MayChange (Top q) = ⊤
+MayChange (Heap address) = ⊤
+MayChange (Top region) = ⊤
 MayChange Free = ⊤
 MayChange word = ⊥
 
@@ -79,13 +79,13 @@ pub record IsCopiedTo (config : Config) (before after : Word → ℕ) (address r
 -- the words after so many objects of a list were copied out, one after the other
 unfoldable pub copied_by : Config → (Word → ℕ) → List ℕ → (turns : ℕ) → Word → ℕ
 copied_by config memory objects zero word = memory word
-copied_by config memory objects (suc k) word = copied_out config (copied_by config memory objects k) (slice_index objects k) word
+copied_by config memory objects (suc turns) word = copied_out config (copied_by config memory objects turns) (slice_index objects turns) word
 
 -- an object was copied out of the collection set, to a region outside
-pub record IsCopiedOut (config : Config) (before after : Word → ℕ) (a : ℕ) : Type 0 where
+pub record IsCopiedOut (config : Config) (before after : Word → ℕ) (address : ℕ) : Type 0 where
   pub region : ℕ
-  pub found : copy_room config before a ≡ Some region
+  pub found : copy_room config before address ≡ Some region
   pub below : region < config.regions
   pub outside : IsOutside (before Cset) region
-  pub room : before (Top region) + words_at before a ≤ config.region_words
-  pub copied : IsCopiedTo config before after a region
+  pub room : before (Top region) + words_at before address ≤ config.region_words
+  pub copied : IsCopiedTo config before after address region

@@ -28,7 +28,7 @@ words_by_turn memory objects index = words_at memory (slice_index objects index)
 
 -- the tops after so many turns, each object copied to the lowest region outside the set that has room
 abbrev pub tops_after_copies : Config → (Word → ℕ) → (set : ℕ) → List ℕ → ℕ → ℕ → ℕ
-tops_after_copies config memory set objects = tops_served config.region_words config.regions (words_by_turn memory objects) (tops_outside config.region_words set (λ r. memory (Top r)))
+tops_after_copies config memory set objects = tops_served config.region_words config.regions (words_by_turn memory objects) (tops_outside config.region_words set (λ region. memory (Top region)))
 
 -- an object finds room at its turn, in the lowest region outside the set that has it
 pub record FindsRoom (config : Config) (memory : Word → ℕ) (set : ℕ) (objects : List ℕ) (turn : ℕ) : Type 0 where

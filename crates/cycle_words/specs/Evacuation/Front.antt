@@ -33,7 +33,7 @@ pub record IsLongestFront (regions limit : ℕ) (live : ℕ → ℕ) (candidate 
 
 -- what lives in all candidates up to a region, in their order
 abbrev pub live_up_to : (regions : ℕ) (live : ℕ → ℕ) (candidate : ℕ → Bool) → ℕ → ℕ
-live_up_to regions live candidate region = sum_below (λ q. if candidate q && not (comes_before live region q) then live q else 0) regions
+live_up_to regions live candidate region = sum_below (λ other_region. if candidate other_region && not (comes_before live region other_region) then live other_region else 0) regions
 
 -- a candidate is in the longest front: up to it all fits
 abbrev pub is_in_front : (regions limit : ℕ) (live : ℕ → ℕ) (candidate : ℕ → Bool) → ℕ → Bool

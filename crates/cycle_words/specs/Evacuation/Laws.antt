@@ -79,7 +79,7 @@ ObjectCanBeCopied = (config : Config) (memory : Word → ℕ) (block : Plot) (ow
 -- The words of a piece, if there is one, and those of the piece at an address if it is marked.
 abbrev pub piece_words : Option Block → ℕ
 piece_words None = 0
-piece_words (Some b) = words_of b
+piece_words (Some piece) = words_of piece
 
 abbrev pub marked_in : Config → (Word → ℕ) → Plot → ℕ → ℕ
 marked_in config memory block address = if is_black config memory address then piece_words (block address) else 0

@@ -27,22 +27,22 @@ has_copy_room config memory address = is_found (copy_room config memory address)
 -- the words after what is left at so many addresses, from one on, was copied out, up to the first object without room
 unfoldable pub copied_from : Config → (Word → ℕ) → (address addresses : ℕ) → Word → ℕ
 copied_from config memory from zero word = memory word
-copied_from config memory from (suc n) word = if is_left config memory from then
-    (if has_copy_room config memory from then copied_from config (copied_out config memory from) (from + 1) n word else memory word)
-    else copied_from config memory (from + 1) n word
+copied_from config memory from (suc addresses) word = if is_left config memory from then
+    (if has_copy_room config memory from then copied_from config (copied_out config memory from) (from + 1) addresses word else memory word)
+    else copied_from config memory (from + 1) addresses word
 
 -- whether each of them finds room
 unfoldable pub is_room_from : Config → (Word → ℕ) → (address addresses : ℕ) → Bool
 is_room_from config memory from zero = true
-is_room_from config memory from (suc n) =
-    if is_left config memory from then has_copy_room config memory from && is_room_from config (copied_out config memory from) (from + 1) n else is_room_from config memory (from + 1) n
+is_room_from config memory from (suc addresses) =
+    if is_left config memory from then has_copy_room config memory from && is_room_from config (copied_out config memory from) (from + 1) addresses else is_room_from config memory (from + 1) addresses
 
 -- each of them can be copied out when its turn comes
 unfoldable pub CanCopyFrom : Config → (Word → ℕ) → (address addresses : ℕ) → Type 0
 CanCopyFrom config memory from zero = ⊤
-CanCopyFrom config memory from (suc n) =
-    (is_left config memory from ≡ true → CanCopyOut config memory from × (has_copy_room config memory from ≡ true → CanCopyFrom config (copied_out config memory from) (from + 1) n))
-    × (is_left config memory from ≡ false → CanCopyFrom config memory (from + 1) n)
+CanCopyFrom config memory from (suc addresses) =
+    (is_left config memory from ≡ true → CanCopyOut config memory from × (has_copy_room config memory from ≡ true → CanCopyFrom config (copied_out config memory from) (from + 1) addresses))
+    × (is_left config memory from ≡ false → CanCopyFrom config memory (from + 1) addresses)
 
 -- The words after all that is left in the collection set was copied out, or what comes before the first object without room. Only
 -- while objects are evacuated something is left.

@@ -55,7 +55,7 @@ finished config memory = finished_from config (let_go config memory)
 
 -- no mutator waits
 abbrev pub nobody_waits : Config → (Word → ℕ) → Bool
-nobody_waits config memory = list_all (λ t. memory (Wait t) == 0) (range_with_len 0 config.mutators)
+nobody_waits config memory = list_all (λ mutator. memory (Wait mutator) == 0) (range_with_len 0 config.mutators)
 
 -- whether all was done: each object that was left found room, and so did each request
 abbrev pub is_whole : Config → (Word → ℕ) → Bool

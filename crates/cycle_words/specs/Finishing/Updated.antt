@@ -42,9 +42,9 @@ is_kept_field config memory x = is_staying config memory x && is_kept_here confi
 
 -- The words after all references were updated: those of kept objects that stay, roots and answers. All other words stay.
 abbrev pub all_updated : Config → (Word → ℕ) → Word → ℕ
-all_updated config memory (Heap x) = if is_kept_field config memory x then updated_word config memory (memory (Heap x)) else memory (Heap x)
-all_updated config memory (Root t i) = updated_word config memory (memory (Root t i))
-all_updated config memory (Answer t) = updated_word config memory (memory (Answer t))
+all_updated config memory (Heap address) = if is_kept_field config memory address then updated_word config memory (memory (Heap address)) else memory (Heap address)
+all_updated config memory (Root mutator index) = updated_word config memory (memory (Root mutator index))
+all_updated config memory (Answer mutator) = updated_word config memory (memory (Answer mutator))
 all_updated config memory word = memory word
 
 -- References can be updated: the collection set has regions of the heap alone, no region uses more words than it has, and where objects

@@ -28,7 +28,7 @@ greys_below config memory (suc k) = greys_below config memory k ++ (if is_grey c
 -- the entries of the buffers of so many mutators
 abbrev pub entries_below : (Word → ℕ) → ℕ → List ℕ
 entries_below memory zero = []
-entries_below memory (suc t) = entries_below memory t ++ map (λ i. memory (Buffer t i)) (range_with_len 0 (memory (Count t)))
+entries_below memory (suc mutator) = entries_below memory mutator ++ map (λ entry. memory (Buffer mutator entry)) (range_with_len 0 (memory (Count mutator)))
 
 -- where tracing begins
 abbrev pub starts_in : Config → (Word → ℕ) → List ℕ
@@ -47,7 +47,7 @@ traced_in config memory = traced_by config memory (config.regions * config.regio
 
 -- What tracing comes to becomes grey and black, and the buffers are empty. All other words stay.
 abbrev pub closed : Config → (Word → ℕ) → Word → ℕ
-closed config memory (Grey n) = bit_or (memory (Grey n)) (mark_bits config (has (traced_in config memory)) n)
-closed config memory (Black n) = bit_or (memory (Black n)) (mark_bits config (has (traced_in config memory)) n)
-closed config memory (Count t) = 0
+closed config memory (Grey number) = bit_or (memory (Grey number)) (mark_bits config (has (traced_in config memory)) number)
+closed config memory (Black number) = bit_or (memory (Black number)) (mark_bits config (has (traced_in config memory)) number)
+closed config memory (Count mutator) = 0
 closed config memory word = memory word

@@ -22,7 +22,7 @@ ends_in config memory region seat =
 
 -- a region is current: it is the one that is shared, or some seat's buffer ends in it
 abbrev pub is_current : Config → (Word → ℕ) → ℕ → Bool
-is_current config memory r = (memory Share == r + 1) || list_any (ends_in config memory r) (range_with_len 0 (seat_count config.mutators config.helpers))
+is_current config memory region = (memory Share == region + 1) || list_any (ends_in config memory region) (range_with_len 0 (seat_count config.mutators config.helpers))
 
 -- some address of a region is black
 abbrev pub has_black : Config → (Word → ℕ) → ℕ → Bool
@@ -39,14 +39,14 @@ pub record IsDead (config : Config) (memory : Word → ℕ) (region : ℕ) : Typ
   pub unpinned : is_pinned config memory region ≡ false
   pub nobodys : IsSomeSeats config memory region → ⊥
   pub no_new : memory (Top region) ≡ memory (Tams region)
-  pub unmarked : (a : ℕ) → IsOf config region a → is_black config memory a ≡ false
+  pub unmarked : (address : ℕ) → IsOf config region address → is_black config memory address ≡ false
 
 -- Regions are freed: they are in the set of free regions besides, and no word of them is in use. All other words stay.
 abbrev pub freed : Config → (ℕ → Bool) → (Word → ℕ) → Word → ℕ
 freed config out memory Free = bit_or (memory Free) (bits_of out 0 config.regions)
-freed config out memory (Top r) = if out r then 0 else memory (Top r)
-freed config out memory (Tams r) = if out r then 0 else memory (Tams r)
-freed config out memory (Limit r) = if out r then 0 else memory (Limit r)
+freed config out memory (Top region) = if out region then 0 else memory (Top region)
+freed config out memory (Tams region) = if out region then 0 else memory (Tams region)
+freed config out memory (Limit region) = if out region then 0 else memory (Limit region)
 freed config out memory word = memory word
 
 -- the pieces that are left, and whose a region then is

@@ -14,10 +14,10 @@ use Rattle.cycle_words.specs.Marking.Marks.{mark_bits}
 -- Nothing is black, and exactly what roots, answers and pin slots hold is grey. The edges are noted, no SATB buffer has an entry, no unit is
 -- claimed and nothing is asked for. All other words stay.
 abbrev pub marking_begun : Config → (Word → ℕ) → Word → ℕ
-marking_begun config memory (Grey n) = mark_bits config (has (held_words config memory)) n
-marking_begun config memory (Black n) = 0
-marking_begun config memory (Tams r) = edge config memory r
-marking_begun config memory (Count t) = 0
+marking_begun config memory (Grey number) = mark_bits config (has (held_words config memory)) number
+marking_begun config memory (Black number) = 0
+marking_begun config memory (Tams region) = edge config memory region
+marking_begun config memory (Count mutator) = 0
 marking_begun config memory Claim = 0
 marking_begun config memory Ask = 0
 marking_begun config memory Phase = marking_phase

@@ -16,7 +16,7 @@ is_black config memory a = nat_le config.region_words a && (bit_at (memory (Blac
 
 -- an address is at or above the top at mark start of its region: what begins there was allocated since
 abbrev pub IsNew : Config → (Word → ℕ) → ℕ → Type 0
-IsNew config memory = IsYoung config (λ r. memory (Tams r))
+IsNew config memory = IsYoung config (λ region. memory (Tams region))
 
 -- marking keeps what is marked and what is new
 abbrev pub IsKept : Config → (Word → ℕ) → ℕ → Type 0

@@ -24,17 +24,17 @@ pub record IsObjectAt (memory : Word → ℕ) (block : Plot) (address : ℕ) : T
 
 -- an object can be reached: roots, answers or pin slots lead to it
 abbrev pub CanBeReached : Config → (Word → ℕ) → ℕ → Type 0
-CanBeReached config memory = IsLedTo (now_in memory) (λ a. memory (Heap a)) (IsAmong (held_words config memory))
+CanBeReached config memory = IsLedTo (now_in memory) (λ address. memory (Heap address)) (IsAmong (held_words config memory))
 
 -- While marking runs: objects are marked from a snapshot, of which no machine holds back what it is about to record or scan; each piece that
 -- is an object is one of some graph, also where nothing leads to it; and no region is collected.
 pub record IsMarking (config : Config) (memory : Word → ℕ) (block : Plot) : Type 0 where
   pub ghost : Ghost
   pub object : Name → Option Object
-  pub marked : KeepsSnapshot config marking_phase (λ n. memory (Grey n)) (λ n. memory (Black n)) (λ t. memory (Count t)) (λ t k. memory (Buffer t k)) (λ r. memory (Top r)) (λ r. memory (Tams r))
-      (λ a. memory (Heap a)) block ghost.snapshot ghost.recording ghost.scanning
+  pub marked : KeepsSnapshot config marking_phase (λ number. memory (Grey number)) (λ number. memory (Black number)) (λ mutator. memory (Count mutator)) (λ mutator entry. memory (Buffer mutator entry)) (λ region. memory (Top region)) (λ region. memory (Tams region))
+      (λ address. memory (Heap address)) block ghost.snapshot ghost.recording ghost.scanning
   pub unmarking : NobodyMarks config ghost
-  pub objects : AreObjects (λ a. memory (Heap a)) block object
+  pub objects : AreObjects (λ address. memory (Heap address)) block object
   pub uncollected : memory Cset ≡ 0
 
 -- Once marking has ended: each object that can be reached is kept, and each field of a kept object is null or names a kept

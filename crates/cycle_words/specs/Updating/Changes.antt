@@ -18,7 +18,7 @@ abbrev pub updating_begun : Config → (Word → ℕ) → Word → ℕ
 updating_begun config memory Phase = updating_phase
 updating_begun config memory Evac = 0
 updating_begun config memory Claim = 0
-updating_begun config memory (Limit r) = if is_chosen memory r then 0 else edge config memory r
+updating_begun config memory (Limit region) = if is_chosen memory region then 0 else edge config memory region
 updating_begun config memory word = memory word
 
 -- Buffers are settled, and updating begins: so what is allocated from now on lies at or above the limits.

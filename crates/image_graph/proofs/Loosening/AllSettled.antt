@@ -11,7 +11,7 @@ use Rattle.heap_words.specs.Words.{Word, Top, Current}
 use Rattle.heap_words.specs.Encoding.{next_in, end_in}
 use Rattle.shen_graph.specs.Graph.{Graph}
 use Rattle.heap_world.specs.World.{Block, filler, spare, Plot}
-use Rattle.heap_world.proofs.Updates.{updated_same, updated_there, updated_else}
+use Rattle.heap_world.proofs.FunctionUpdates.{updated_same, updated_there, updated_else}
 use Rattle.image_graph.specs.Promised.{Promises}
 use Rattle.image_graph.specs.Holds.{HoldsBy}
 use Rattle.image_graph.specs.SeatBuffers.{is_last}
@@ -22,9 +22,9 @@ use Rattle.image_graph.proofs.Refitted.{refitted, tops_of, heap_of, currents_of}
 use Rattle.image_graph.proofs.SeatTurns.{IsDropped, KeepsFilling, settled_by_turns}
 use Rattle.image_graph.specs.Buffers.{settled_piece, settled_block}
 use Rattle.image_graph.proofs.Loosening.Loosened.{loosened_none, loosened_on}
-use Rattle.image_graph.proofs.Loosening.OneTurn as turn
-use Rattle.image_graph.proofs.Loosening.OneTurn.{HoldsLoosened}
-use Rattle.image_graph.proofs.Loosening.Divided.{spare_seats}
+use Rattle.image_graph.proofs.Loosening.OneBuffer as turn
+use Rattle.image_graph.proofs.Loosening.OneBuffer.{HoldsLoosened}
+use Rattle.image_graph.proofs.Loosening.DividedPieces.{spare_seats}
 
 -- The pieces as the words of buffers tell: the free words of a seat that has no buffer any more only fill.
 abbrev left_piece : (Word → ℕ) → Block → Block
@@ -43,7 +43,7 @@ module _ (block : Plot) (f h : Block → Block) (alike : (b : Block) → ((seat 
 
   by_option : (found : Option Block) → block address ≡ found → option_map f found ≡ option_map h found
   by_option None is = refl
-  by_option (Some b) is = ap Some (by_piece b is)
+  by_option (Some piece) is = ap Some (by_piece piece is)
 
   same_pieces : option_map f (block address) ≡ option_map h (block address)
   same_pieces = by_option (block address) refl
@@ -92,7 +92,7 @@ module _ (config : Config) (other_memory : Word → ℕ) (block : Plot) (owner :
 
   -- pieces are left alike where free words are
   left_same : (n memory : Word → ℕ) (address : ℕ) → ((seat words : ℕ) → block address ≡ Some (spare seat words) → (n (Current seat) == 0) ≡ (memory (Current seat) == 0)) → left_block n block address ≡ left_block memory block address
-  left_same n memory address same = same_pieces block (left_piece n) (left_piece memory) (λ b other. left_else n b other ∙ sym (left_else memory b other)) address
+  left_same n memory address same = same_pieces block (left_piece n) (left_piece memory) (λ piece other. left_else n piece other ∙ sym (left_else memory piece other)) address
       (λ seat words is. ap (λ t. if t then filler words else spare seat words) (same seat words is))
 
   left_first : block ≡ left_block other_memory block
@@ -126,7 +126,7 @@ module _ (config : Config) (other_memory : Word → ℕ) (block : Plot) (owner :
     left_there address seat words is some = ap (option_map (left_piece n)) is ∙ ap Some (cond-false (n (Current seat) == 0) (filler words) (spare seat words) (ne_eqb (n (Current seat)) 0 some))
 
     next_turn : (memory : Word → ℕ) (more : Plot) → more ≡ left_block memory block → HoldsLoosened config n memory plot more owner promises graph → HoldsLoosened config other_memory memory block (left_block memory block) owner promises graph
-    next_turn memory more same next = subst (λ q. HoldsLoosened config other_memory memory block q owner promises graph) same
+    next_turn memory more same next = subst (λ plot. HoldsLoosened config other_memory memory block plot owner promises graph) same
         (record { loosened = loosened_on other_memory n memory block plot more so_far.left.loosened next.loosened; holds = next.holds })
 
     module _ (current : ℕ → ℕ) (dropped : (seat : ℕ) → IsDropped (currents_of n) current seat) where
@@ -156,7 +156,7 @@ module _ (config : Config) (other_memory : Word → ℕ) (block : Plot) (owner :
             (λ (other : (n (Current seat) ≡ 0) × (is_last config other_memory (other_memory (Current seat)) ≡ false)). inr (gone.0, other.1))
             (so_far.currents seat more))
             (dropped seat);
-        left = next_turn (refitted n (tops_of n) (heap_of n) current) plot (fun_ext (λ a. left_same n (refitted n (tops_of n) (heap_of n) current) a (same_test a)))
+        left = next_turn (refitted n (tops_of n) (heap_of n) current) plot (fun_ext (λ address. left_same n (refitted n (tops_of n) (heap_of n) current) address (same_test address)))
             (turn.drops config n plot owner promises graph held current dropped);
       }
 
@@ -179,27 +179,27 @@ module _ (config : Config) (other_memory : Word → ℕ) (block : Plot) (owner :
           ∙ ap Some (cond-true (after (Current seat) == 0) (filler (end_in word - next_in word)) (spare seat (end_in word - next_in word)) (eq-eqb (after (Current seat)) 0 own_gone))))
           (λ (away : next_in word ≢ address).
           updated_else plot (next_in word) (Some (filler (end_in word - next_in word))) address away
-          ∙ left_same n after address (λ s words there. ⊎_elim
-          (λ (same : seat ≡ s).
-          let own : n (Current s) ≡ word = ap (λ k. n (Current k)) (sym same) ∙ is in
-          let begins = (held.buffers.spares address s words (left_there address s words there (λ none. some (sym own ∙ none)))).0 in
+          ∙ left_same n after address (λ other_seat words there. ⊎_elim
+          (λ (same : seat ≡ other_seat).
+          let own : n (Current other_seat) ≡ word = ap (λ seat. n (Current seat)) (sym same) ∙ is in
+          let begins = (held.buffers.spares address other_seat words (left_there address other_seat words there (λ none. some (sym own ∙ none)))).0 in
           absurd (away (sym (ap next_in own) ∙ begins)))
-          (λ (differs : seat ≢ s). ap (λ k. k == 0) (sym (others_stay s differs)))
-          (cases_eq seat s)))
+          (λ (differs : seat ≢ other_seat). ap (λ k. k == 0) (sym (others_stay other_seat differs)))
+          (cases_eq seat other_seat)))
           (cases_eq (next_in word) address)
 
       after_fills : SettledSoFar after
       after_fills = record {
         tops = so_far.tops;
-        currents = λ s free. ⊎_elim
-            (λ (same : seat ≡ s). ⊎_elim
-            (λ (was : n (Current s) ≡ other_memory (Current s)).
-            let its : word ≡ other_memory (Current s) = sym is ∙ ap (λ k. n (Current k)) same ∙ was in
-            inr (ap (λ k. after (Current k)) (sym same) ∙ own_gone, ap (is_last config other_memory) (sym its) ∙ sym (last_same config other_memory n word so_far.tops) ∙ other))
-            (λ (gone : (n (Current s) ≡ 0) × (is_last config other_memory (other_memory (Current s)) ≡ false)). absurd (some (sym is ∙ ap (λ k. n (Current k)) same ∙ gone.0)))
-            (so_far.currents s free))
-            (λ (differs : seat ≢ s). subst (λ k. (k ≡ other_memory (Current s)) ⊎ ((k ≡ 0) × (is_last config other_memory (other_memory (Current s)) ≡ false))) (sym (others_stay s differs)) (so_far.currents s free))
-            (cases_eq seat s);
+        currents = λ other_seat free. ⊎_elim
+            (λ (same : seat ≡ other_seat). ⊎_elim
+            (λ (was : n (Current other_seat) ≡ other_memory (Current other_seat)).
+            let its : word ≡ other_memory (Current other_seat) = sym is ∙ ap (λ seat. n (Current seat)) same ∙ was in
+            inr (ap (λ seat. after (Current seat)) (sym same) ∙ own_gone, ap (is_last config other_memory) (sym its) ∙ sym (last_same config other_memory n word so_far.tops) ∙ other))
+            (λ (gone : (n (Current other_seat) ≡ 0) × (is_last config other_memory (other_memory (Current other_seat)) ≡ false)). absurd (some (sym is ∙ ap (λ seat. n (Current seat)) same ∙ gone.0)))
+            (so_far.currents other_seat free))
+            (λ (differs : seat ≢ other_seat). subst (λ k. (k ≡ other_memory (Current other_seat)) ⊎ ((k ≡ 0) × (is_last config other_memory (other_memory (Current other_seat)) ≡ false))) (sym (others_stay other_seat differs)) (so_far.currents other_seat free))
+            (cases_eq seat other_seat);
         left = next_turn after (turn.fills_plot config n plot owner promises graph held seat word is some more) (fun_ext same_plot) (turn.fills config n plot owner promises graph held seat word is some more);
       }
 
@@ -215,7 +215,7 @@ module _ (config : Config) (other_memory : Word → ℕ) (block : Plot) (owner :
     settled_so = settled_by_turns config SettledSoFar keeps other_memory first (seat_count config.mutators config.helpers)
 
     same_end : (address : ℕ) → left_block settled block address ≡ settled_block config other_memory block address
-    same_end address = same_pieces block (left_piece settled) (settled_piece config other_memory) (λ b other. left_else settled b other ∙ sym (settled_else config other_memory b other)) address (λ seat words is.
+    same_end address = same_pieces block (left_piece settled) (settled_piece config other_memory) (λ piece other. left_else settled piece other ∙ sym (settled_else config other_memory piece other)) address (λ seat words is.
         let own = own_words address seat words is in
         let seated : seat < seat_count config.mutators config.helpers = ⊎_elim (λ below. below) (λ past. absurd (own.0 (seats seat past))) (cases_lt seat (seat_count config.mutators config.helpers)) in
         ⊎_elim

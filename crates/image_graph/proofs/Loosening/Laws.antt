@@ -8,7 +8,7 @@ use Rattle.image_graph.specs.LetGo.{let_go}
 use Rattle.image_graph.specs.Buffers.{settled_block, SettlingHolds, LettingGoHolds}
 use Rattle.image_graph.proofs.Loosening.Loosened.{loosened_sized}
 use Rattle.image_graph.proofs.Loosening.AllSettled.{settled_holds}
-use Rattle.image_graph.proofs.Loosening.LettingGo.{has_let_go, let_go_none}
+use Rattle.image_graph.proofs.Loosening.AllLetGo.{has_let_go, let_go_none}
 
 module _ (config : Config) (memory : Word → ℕ) (seats : (seat : ℕ) → seat_count config.mutators config.helpers ≤ seat → memory (Current seat) ≡ 0) where
   pub settling_holds : SettlingHolds config memory (buffers_settled config memory)

@@ -21,8 +21,8 @@ use Rattle.image_graph.specs.Buffers.{HasNoMoreSeats}
 
 -- the words that change where buffers go: of the heap, of buffers, and tops
 abbrev pub is_of_buffers : Word → Bool
-is_of_buffers (Heap a) = true
-is_of_buffers (Top r) = true
+is_of_buffers (Heap address) = true
+is_of_buffers (Top region) = true
 is_of_buffers (Current seat) = true
 is_of_buffers _ = false
 
@@ -52,29 +52,29 @@ loosened_none memory block some = record {
 
 -- and from one to a second, and on to a third
 pub loosened_on : (m n k : Word → ℕ) (block plot more : Plot) → IsLoosened m n block plot → IsLoosened n k plot more → IsLoosened m k block more
-loosened_on m n k block plot more one two = record {
+loosened_on memory other_memory k block plot more loosened two = record {
   same = record {
-    stays = λ a b fixed is. two.same.stays a b fixed (one.same.stays a b fixed is);
-    came = λ a b fixed is. one.same.came a b fixed (two.same.came a b fixed is);
+    stays = λ a b fixed is. two.same.stays a b fixed (loosened.same.stays a b fixed is);
+    came = λ a b fixed is. loosened.same.came a b fixed (two.same.came a b fixed is);
   };
-  rooms = λ a seat x is room. one.rooms a seat x (two.rooms a seat x is room) room;
+  rooms = λ a seat x is room. loosened.rooms a seat x (two.rooms a seat x is room) room;
   some = two.some;
-  words = λ a j b fixed is below. two.words a j b fixed (one.same.stays a b fixed is) below ∙ one.words a j b fixed is below;
-  headers = λ a words is. ⊎_elim
+  words = λ a j b fixed is below. two.words a j b fixed (loosened.same.stays a b fixed is) below ∙ loosened.words a j b fixed is below;
+  headers = λ address words is. ⊎_elim
       (λ header. inl header)
-      (λ was. ⊎_elim (λ header. inl (was.1 ∙ header)) (λ before. inr (before.0, was.1 ∙ before.1)) (one.headers a words was.0))
-      (two.headers a words is);
-  others = λ word other. two.others word other ∙ one.others word other;
-  lower = λ r. (let first = one.lower r in let second = two.lower r in omega (arith, first, second));
-  fewer = λ s some. let is = two.fewer s some in is ∙ one.fewer s (λ none. some (is ∙ none));
+      (λ was. ⊎_elim (λ header. inl (was.1 ∙ header)) (λ before. inr (before.0, was.1 ∙ before.1)) (loosened.headers address words was.0))
+      (two.headers address words is);
+  others = λ word other. two.others word other ∙ loosened.others word other;
+  lower = λ region. (let first = loosened.lower region in let second = two.lower region in omega (arith, first, second));
+  fewer = λ seat some. let is = two.fewer seat some in is ∙ loosened.fewer seat (λ none. some (is ∙ none));
 }
 
 -- who is no seat has no buffer still
-pub loosened_seats : (config : Config) (memory other_memory : Word → ℕ) (block plot : Plot) → IsLoosened memory other_memory block plot → HasNoMoreSeats config memory → HasNoMoreSeats config other_memory
-loosened_seats config memory other_memory block plot is seats seat past = ⊎_elim
-    (λ (none : other_memory (Current seat) ≡ 0). none)
-    (λ (some : other_memory (Current seat) ≢ 0). is.fewer seat some ∙ seats seat past)
-    (cases_eq (other_memory (Current seat)) 0)
+pub loosened_seats : (config : Config) (memory next_memory : Word → ℕ) (block plot : Plot) → IsLoosened memory next_memory block plot → HasNoMoreSeats config memory → HasNoMoreSeats config next_memory
+loosened_seats config memory next_memory block plot is seats seat past = ⊎_elim
+    (λ (none : next_memory (Current seat) ≡ 0). none)
+    (λ (some : next_memory (Current seat) ≢ 0). is.fewer seat some ∙ seats seat past)
+    (cases_eq (next_memory (Current seat)) 0)
 
 -- a piece is not loose, or it is room, or it only fills
 pub kind_of : (piece : Block) → (is_loose piece ≡ false) ⊎ (((seat : ℕ) × (room_of piece ≡ Some seat)) ⊎ ((words : ℕ) × (piece ≡ filler words)))
@@ -84,14 +84,14 @@ kind_of (carved seat words) = inr (inl (seat, refl))
 kind_of (filler words) = inr (inr (words, refl))
 kind_of _ = inl refl
 
-module _ (config : Config) (memory other_memory : Word → ℕ) (block plot : Plot) (owner : ℕ → Option ℕ) (promises : Promises) (graph : Graph) (holds : HoldsBy config memory block owner promises graph) (is : IsLoosened memory other_memory block plot) where
+module _ (config : Config) (memory next_memory : Word → ℕ) (block plot : Plot) (owner : ℕ → Option ℕ) (promises : Promises) (graph : Graph) (holds : HoldsBy config memory block owner promises graph) (is : IsLoosened memory next_memory block plot) where
   -- the header of a piece that is not loose stays
-  pub header_stays : (address : ℕ) (piece : Block) → is_loose piece ≡ false → block address ≡ Some piece → other_memory (Heap address) ≡ memory (Heap address)
+  pub header_stays : (address : ℕ) (piece : Block) → is_loose piece ≡ false → block address ≡ Some piece → next_memory (Heap address) ≡ memory (Heap address)
   header_stays address piece fixed here =
       let there : address ≡ address + 0 = omega arith in
-      ap (λ k. other_memory (Heap k)) there ∙ is.words address 0 piece fixed here (holds.pieces.some address piece here) ∙ ap (λ k. memory (Heap k)) (sym there)
+      ap (λ address. next_memory (Heap address)) there ∙ is.words address 0 piece fixed here (holds.pieces.some address piece here) ∙ ap (λ address. memory (Heap address)) (sym there)
 
-  thing_header : (address refs nums : ℕ) (name : Name) → block address ≡ Some (thing name refs nums) → other_memory (Heap address) ≡ memory (Heap address)
+  thing_header : (address refs nums : ℕ) (name : Name) → block address ≡ Some (thing name refs nums) → next_memory (Heap address) ≡ memory (Heap address)
   thing_header address refs nums name here = header_stays address (thing name refs nums) refl here
 
   -- what has a name had it
@@ -101,8 +101,8 @@ module _ (config : Config) (memory other_memory : Word → ℕ) (block plot : Pl
   named_now : (address : ℕ) (name : Name) → name_at (plot address) ≡ Some name → (refs : ℕ) × (nums : ℕ) × (plot address ≡ Some (thing name refs nums))
   named_now address name named = let was = holds.pieces.named address name (named_was address name named) in (was.0, was.1, is.same.stays address (thing name was.0 was.1) refl was.2)
 
-  now_again : (address : ℕ) (name : Name) → name_at (block address) ≡ Some name → now_in other_memory address ≡ now_in memory address
-  now_again address name named = let at = holds.pieces.named address name named in now_same other_memory memory address (thing_header address at.0 at.1 name at.2)
+  now_again : (address : ℕ) (name : Name) → name_at (block address) ≡ Some name → now_in next_memory address ≡ now_in memory address
+  now_again address name named = let at = holds.pieces.named address name named in now_same next_memory memory address (thing_header address at.0 at.1 name at.2)
 
   -- pieces have words
   pub some_again : (address : ℕ) (piece : Block) → plot address ≡ Some piece → 1 ≤ words_of piece
@@ -117,21 +117,21 @@ module _ (config : Config) (memory other_memory : Word → ℕ) (block plot : Pl
   pieces_again : NamedAreThings plot
   pieces_again = record {
     named = named_now;
-    unpromised = λ a seat words here. holds.pieces.unpromised a seat words (is.same.came a (promised seat words) refl here);
-    unheld = λ a seat words here. holds.pieces.unheld a seat words (is.rooms a seat (hand seat words) here refl);
-    uncarved = λ a seat words here. holds.pieces.uncarved a seat words (is.rooms a seat (carved seat words) here refl);
+    unpromised = λ address seat words here. holds.pieces.unpromised address seat words (is.same.came address (promised seat words) refl here);
+    unheld = λ address seat words here. holds.pieces.unheld address seat words (is.rooms address seat (hand seat words) here refl);
+    uncarved = λ address seat words here. holds.pieces.uncarved address seat words (is.rooms address seat (carved seat words) here refl);
     some = some_again;
   }
 
   -- each piece says how many words it has, where each did
-  pub loosened_sized : AreSized memory block → AreSized other_memory plot
+  pub loosened_sized : AreSized memory block → AreSized next_memory plot
   loosened_sized sized = record {
     objects = λ a b here fixed.
         let was = is.same.came a b fixed here in
         let words = sized.objects a b was fixed in
         ap object_words (is.words a 1 b fixed was (omega (arith, words))) ∙ words;
-    headers = λ a b here fixed. let was = is.same.came a b fixed here in ap is_filler (header_stays a b fixed was) ∙ sized.headers a b was fixed;
-    fillers = λ a words here. ⊎_elim (λ header. header) (λ was. was.1 ∙ sized.fillers a words was.0) (is.headers a words here);
+    headers = λ address piece here fixed. let was = is.same.came address piece fixed here in ap is_filler (header_stays address piece fixed was) ∙ sized.headers address piece was fixed;
+    fillers = λ address words here. ⊎_elim (λ header. header) (λ was. was.1 ∙ sized.fillers address words was.0) (is.headers address words here);
   }
 
   abbrev same_place : ℕ → ℕ
@@ -141,8 +141,8 @@ module _ (config : Config) (memory other_memory : Word → ℕ) (block plot : Pl
   Anywhere x = Unit {0}
 
   -- Where pieces fill the regions still, and the words of buffers tell of free words.
-  module _ (plotted : IsPlotted config (λ r. other_memory (Top r)) plot) where
-    carried : IsCarried config memory other_memory block plot same_place Anywhere
+  module _ (plotted : IsPlotted config (λ r. next_memory (Top r)) plot) where
+    carried : IsCarried config memory next_memory block plot same_place Anywhere
     carried = record {
       plotted = plotted;
       names = names_stay config block plot is.same;
@@ -151,23 +151,23 @@ module _ (config : Config) (memory other_memory : Word → ℕ) (block plot : Pl
           let copy = holds.objects.current v name was in
           (copy.0, copy.1, ap plot (now_again v name was) ∙ is.same.stays (now_in memory v) (thing name copy.0 copy.1) refl copy.2);
       now = now_again;
-      lands = λ v name named. tt;
+      lands = λ address name named. tt;
       one = λ x y at_x at_y same. same;
       pieces = λ x refs nums name here. is.same.came x (thing name refs nums) refl here;
-      header = λ x refs nums name here at was. thing_header x refs nums name (is.same.came x (thing name refs nums) refl here) ∙ was;
+      header = λ address refs nums name here at was. thing_header address refs nums name (is.same.came address (thing name refs nums) refl here) ∙ was;
       words = λ x k refs nums name here at reads some below other. is.words x k (thing name refs nums) refl (is.same.came x (thing name refs nums) refl here) below;
       fields = λ x i refs nums name here at few.
           let place : x + 3 + i ≡ x + (3 + i) = omega arith in
-          not_renamed memory (memory (Heap (x + 3 + i))) (other_memory (Heap (x + 3 + i)))
-          (ap (λ k. other_memory (Heap k)) place ∙ is.words x (3 + i) (thing name refs nums) refl (is.same.came x (thing name refs nums) refl here) (omega (arith, few)) ∙ ap (λ k. memory (Heap k)) (sym place));
-      roots = λ t i inside few. not_renamed memory (memory (Root t i)) (other_memory (Root t i)) (is.others (Root t i) refl);
-      answers = λ t inside. not_renamed memory (memory (Answer t)) (other_memory (Answer t)) (is.others (Answer t) refl);
-      pins = λ t i inside few. is.others (Pin t i) refl;
-      pinned = λ t i inside few name copy plain. ap is_forwarded (thing_header (memory (Pin t i)) copy.0 copy.1 name copy.2) ∙ plain;
-      waits = λ t. is.others (Wait t) refl;
+          not_renamed memory (memory (Heap (x + 3 + i))) (next_memory (Heap (x + 3 + i)))
+          (ap (λ address. next_memory (Heap address)) place ∙ is.words x (3 + i) (thing name refs nums) refl (is.same.came x (thing name refs nums) refl here) (omega (arith, few)) ∙ ap (λ address. memory (Heap address)) (sym place));
+      roots = λ mutator index inside few. not_renamed memory (memory (Root mutator index)) (next_memory (Root mutator index)) (is.others (Root mutator index) refl);
+      answers = λ mutator inside. not_renamed memory (memory (Answer mutator)) (next_memory (Answer mutator)) (is.others (Answer mutator) refl);
+      pins = λ mutator slot inside few. is.others (Pin mutator slot) refl;
+      pinned = λ mutator slot inside few name copy plain. ap is_forwarded (thing_header (memory (Pin mutator slot)) copy.0 copy.1 name copy.2) ∙ plain;
+      waits = λ mutator. is.others (Wait mutator) refl;
     }
 
-    moved_again : (address refs nums : ℕ) (name : Name) → plot address ≡ Some (thing name refs nums) → is_forwarded (other_memory (Heap address)) ≡ true → HasMoved config other_memory plot address refs nums name
+    moved_again : (address refs nums : ℕ) (name : Name) → plot address ≡ Some (thing name refs nums) → is_forwarded (next_memory (Heap address)) ≡ true → HasMoved config next_memory plot address refs nums name
     moved_again address refs nums name here forwarded =
         let before = is.same.came address (thing name refs nums) refl here in
         let was = holds.moved address refs nums name before (ap is_forwarded (sym (thing_header address refs nums name before)) ∙ forwarded) in
@@ -176,27 +176,27 @@ module _ (config : Config) (memory other_memory : Word → ℕ) (block plot : Pl
         record {
           in_set = subst (λ s. IsIn s (region_with config address)) (sym set) was.in_set;
           copy = ap plot now ∙ is.same.stays (now_in memory address) (thing name refs nums) refl was.copy;
-          outside = subst (λ k. IsOutside (other_memory Cset) (region_with config k)) (sym now) (subst (λ s. IsOutside s (region_with config (now_in memory address))) (sym set) was.outside);
-          current = ap (λ k. is_forwarded (other_memory (Heap k))) now ∙ ap is_forwarded (thing_header (now_in memory address) refs nums name was.copy) ∙ was.current;
+          outside = subst (λ k. IsOutside (next_memory Cset) (region_with config k)) (sym now) (subst (λ s. IsOutside s (region_with config (now_in memory address))) (sym set) was.outside);
+          current = ap (λ address. is_forwarded (next_memory (Heap address))) now ∙ ap is_forwarded (thing_header (now_in memory address) refs nums name was.copy) ∙ was.current;
         }
 
     -- a free region has no words still
-    free_again : IsFreeWord config (other_memory Free) (λ r. other_memory (Top r)) owner
-    free_again = subst (λ f. IsFreeWord config f (λ r. other_memory (Top r)) owner) (sym (is.others Free refl)) (record {
+    free_again : IsFreeWord config (next_memory Free) (λ region. next_memory (Top region)) owner
+    free_again = subst (λ free. IsFreeWord config free (λ region. next_memory (Top region)) owner) (sym (is.others Free refl)) (record {
       no_more = holds.free_word.no_more;
-      empty = λ r inside free. (let none = holds.free_word.empty r inside free in let less = is.lower r in omega (arith, none, less));
+      empty = λ region inside free. (let none = holds.free_word.empty region inside free in let less = is.lower region in omega (arith, none, less));
       nobodys = holds.free_word.nobodys;
     })
 
-    share_again : ShareIsOpen config (other_memory Share) (other_memory Free) (other_memory Cset) owner
+    share_again : ShareIsOpen config (next_memory Share) (next_memory Free) (next_memory Cset) owner
     share_again =
-        subst (λ s. ShareIsOpen config s (other_memory Free) (other_memory Cset) owner) (sym (is.others Share refl))
-        (subst (λ f. ShareIsOpen config (memory Share) f (other_memory Cset) owner) (sym (is.others Free refl))
-        (subst (λ s. ShareIsOpen config (memory Share) (memory Free) s owner) (sym (is.others Cset refl)) holds.shared_one))
+        subst (λ share. ShareIsOpen config share (next_memory Free) (next_memory Cset) owner) (sym (is.others Share refl))
+        (subst (λ free. ShareIsOpen config (memory Share) free (next_memory Cset) owner) (sym (is.others Free refl))
+        (subst (λ cset. ShareIsOpen config (memory Share) (memory Free) cset owner) (sym (is.others Cset refl)) holds.shared_one))
 
-    pub loosened_holds : IsFilled config (λ r. other_memory (Top r)) plot → AreBuffers config (λ r. other_memory (Top r)) (λ s. other_memory (Current s)) plot → HoldsBy config other_memory plot owner promises graph
-    loosened_holds filled buffers = carried_holds config memory other_memory block plot owner promises graph holds same_place Anywhere carried moved_again filled pieces_again free_again share_again buffers
+    pub loosened_holds : IsFilled config (λ region. next_memory (Top region)) plot → AreBuffers config (λ region. next_memory (Top region)) (λ seat. next_memory (Current seat)) plot → HoldsBy config next_memory plot owner promises graph
+    loosened_holds filled buffers = carried_holds config memory next_memory block plot owner promises graph holds same_place Anywhere carried moved_again filled pieces_again free_again share_again buffers
 
     -- what can be reached could be
-    pub loosened_reached : (x : ℕ) → IsLedTo (now_in other_memory) (λ a. other_memory (Heap a)) (IsAmong (held_words config other_memory)) x → IsLedTo (now_in memory) (λ a. memory (Heap a)) (IsAmong (held_words config memory)) x
-    loosened_reached x reached = (led_comes config memory other_memory block plot owner promises graph holds same_place Anywhere carried x reached).led
+    pub loosened_reached : (x : ℕ) → IsLedTo (now_in next_memory) (λ address. next_memory (Heap address)) (IsAmong (held_words config next_memory)) x → IsLedTo (now_in memory) (λ address. memory (Heap address)) (IsAmong (held_words config memory)) x
+    loosened_reached x reached = (led_comes config memory next_memory block plot owner promises graph holds same_place Anywhere carried x reached).led

@@ -13,7 +13,7 @@ module _ (config : Config) (top : ℕ → ℕ) (block plot : Plot) (is_resized :
   pub resized_plotted : IsPlotted config top block → IsPlotted config top plot
   resized_plotted plotted = record {
     tops = plotted.tops;
-    in_use = λ a b is. let was = is_resized.from a b is in subst (λ w. IsInUse config top a w) was.2 (plotted.in_use a was.0 was.1);
+    in_use = λ address b is. let was = is_resized.from address b is in subst (λ words. IsInUse config top address words) was.2 (plotted.in_use address was.0 was.1);
     apart = λ a b x y is_x is_y before.
         let was_x = is_resized.from a x is_x in
         let was_y = is_resized.from b y is_y in

@@ -26,12 +26,12 @@ abbrev pub asking_at : Spot → ℕ → Command → Asking
 asking_at spot now command = if is_waiting spot then asking_by now command else nothing
 
 abbrev pub asking_in : Machine → ℕ → Asking
-asking_in (mutating m) now = asking_at m.spot now m.kept.command
+asking_in (mutating mutator) now = asking_at mutator.spot now mutator.kept.command
 asking_in _ now = nothing
 
 abbrev pub asking_of : Option Actor → ℕ → Asking
 asking_of None now = nothing
-asking_of (Some a) now = asking_in a.machine now
+asking_of (Some actor) now = asking_in actor.machine now
 
 pub asking_asks : (now : ℕ) (command : Command) → now ≡ 0 → asking_by now command ≡ asks (refs_of command) (nums_of command)
 asking_asks now command is = cond-true (now == 0) _ _ (eq-eqb now 0 is)
@@ -75,7 +75,7 @@ given_then memory block count t refs nums nothing answers asked = absurd answers
 given_then memory block count t refs nums (asks more_refs more_nums) answers asked = absurd answers
 given_then memory block count t refs nums refused answers asked = absurd answers
 given_then memory block count t refs nums (given more_refs more_nums) answers asked =
-    subst (λ r. IsAsked memory block count t (given r nums)) (sym answers.0) (subst (λ n. IsAsked memory block count t (given more_refs n)) (sym answers.1) asked)
+    subst (λ refs. IsAsked memory block count t (given refs nums)) (sym answers.0) (subst (λ nums. IsAsked memory block count t (given more_refs nums)) (sym answers.1) asked)
 
 -- who asks is refused or given the object
 pub asks_then : (memory : Word → ℕ) (block : Plot) (count : ℕ → ℕ) (t refs nums : ℕ) (asking : Asking) → Answers (asks refs nums) asking → IsAsked memory block count t asking
@@ -84,7 +84,7 @@ asks_then memory block count t refs nums nothing answers asked = absurd answers
 asks_then memory block count t refs nums (asks more_refs more_nums) answers asked = absurd answers
 asks_then memory block count t refs nums refused answers asked = inl (asked, refl)
 asks_then memory block count t refs nums (given more_refs more_nums) answers asked =
-    inr (subst (λ r. IsAsked memory block count t (given r nums)) (sym answers.0) (subst (λ n. IsAsked memory block count t (given more_refs n)) (sym answers.1) asked))
+    inr (subst (λ refs. IsAsked memory block count t (given refs nums)) (sym answers.0) (subst (λ nums. IsAsked memory block count t (given more_refs nums)) (sym answers.1) asked))
 
 -- what was asked for stands in two memories that have the same requests, answers and objects
 pub asked_same : (memory other_memory : Word → ℕ) (block : Plot) (count : ℕ → ℕ) (mutator : ℕ) (asking : Asking) → other_memory (Wait mutator) ≡ memory (Wait mutator) → other_memory (Answer mutator) ≡ memory (Answer mutator) → ((address : ℕ) → other_memory (Heap address) ≡ memory (Heap address))
@@ -96,7 +96,7 @@ asked_same memory other_memory block count mutator refused wait answer heap aske
 asked_same memory other_memory block count mutator (given refs nums) wait answer heap asked = (
   wait ∙ asked.0,
   subst (λ k. 1 < k) (sym answer) asked.1,
-  subst (λ k. IsPromise other_memory block count mutator refs nums k) (sym answer) (record {
+  subst (λ address. IsPromise other_memory block count mutator refs nums address) (sym answer) (record {
     here = asked.2.here;
     words = λ k below. heap (memory (Answer mutator) + k) ∙ asked.2.words k below;
     only = asked.2.only;
@@ -107,7 +107,7 @@ asked_same memory other_memory block count mutator (given refs nums) wait answer
 )
 
 shape_words : (refs nums : ℕ) → refs ≤ 16 → nums ≤ 16 → object_words (shape_word refs nums) ≡ 3 + refs + nums
-shape_words refs nums few less = omega (arith, few, less)
+shape_words refs nums at_most less = omega (arith, at_most, less)
 
 -- the words of a promised object, by the answer and by what was asked for
 pub promised_given : (memory : Word → ℕ) (block : Plot) (count : ℕ → ℕ) (mutator : ℕ) (asking : Asking) → IsAsked memory block count mutator asking → words_promised memory mutator ≡ words_given asking

@@ -84,7 +84,7 @@ module _ (config : Config) (words : List ℕ) (phase : ℕ) (extent : Extent) (i
     first_word : slice_index part 0 ≡ phase
     first_word =
         part_words 0 (omega (arith, below)) ∙ cond-true (is_of_extent config extent_then 0) _ _ (early config extent_then 0 (omega arith))
-        ∙ ap (λ k. slice_index words k) (omega arith) ∙ sym (view_word config words Phase tt) ∙ sym phase_is
+        ∙ ap (λ index. slice_index words index) (omega arith) ∙ sym (view_word config words Phase tt) ∙ sym phase_is
 
     pub part_extent : extent_then ≡ extent_by config (slice_index part 0) part
     part_extent = padded_extent (image_words config) ∙ ap (λ p. extent_by config p part) (sym first_word)

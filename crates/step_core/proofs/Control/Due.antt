@@ -9,8 +9,8 @@ use Rattle.heap_world.specs.Rely.{Rely}
 use Rattle.heap_world.specs.Change.{IsDue}
 
 -- what is due stays so
-pub due_stays : (config : Config) (world other_world : World) (seat : ℕ) → Rely config seat world other_world → IsDue config world.memory → IsDue config other_world.memory
-due_stays config world other_world seat rely due late quiet =
+pub due_stays : (config : Config) (world next_world : World) (seat : ℕ) → Rely config seat world next_world → IsDue config world.memory → IsDue config next_world.memory
+due_stays config world next_world seat rely due late quiet =
     let same = rely.marks.keeps.phase in
     let asks = rely.asked in
     rely.fields.claims (due (omega (arith, late, same)) (still (bit_at (world.memory Ask) 1) (bit_at-lt (world.memory Ask) 1) (λ one. (let two = asks one in omega (arith, two, quiet)))))

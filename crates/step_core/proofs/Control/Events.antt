@@ -4,13 +4,13 @@ use Rattle.std.specs.Prelude.{slice_get, slice_set, slice_index, if◌then◌els
 use Rattle.std.proofs.lemmas.List.{length-set, set-get_or}
 use Rattle.std.proofs.lemmas.Option.{same_Some, slice_get_within}
 use Rattle.std.proofs.lemmas.Bool.{and_parts, ltb-true, ltb-false}
+use Rattle.heap_words.proofs.Lists.{slice_get-set_same}
 use Rattle.heap_words.specs.declared.config.Config.{Config}
 use Rattle.heap_words.specs.Access.{table_index}
 use Rattle.heap_words.specs.Ranges.{seat_count}
 use Rattle.heap_words.specs.Words.{Ask, Phase, Cset, image_start, view}
 use Rattle.heap_words.proofs.Stores.{is_word_from}
 use Rattle.heap_words.specs.Steps.{Stage, accessed, moved}
-use Rattle.heap_words.proofs.Places.{slice_get-set_same}
 use Rattle.shen_graph.specs.declared.command.Command.{Command}
 use Rattle.shen_graph.specs.declared.order.Order.TheVariants.{Nothing}
 use Rattle.shen_graph.specs.Graph.{Graph}
@@ -42,8 +42,8 @@ use Rattle.step_core.proofs.Control.Images.{words_after, found-placed, image_in,
 use Rattle.step_core.proofs.Control.ByParts as parts
 use Rattle.step_core.proofs.Helpers.Units.{work_fits}
 use Rattle.step_core.proofs.History.Owing.{follows_owes}
-use Rattle.step_core.proofs.Control.Paused.{asking, image_stands, paused_owes}
-use Rattle.step_core.proofs.Control.Pauses as pauses
+use Rattle.step_core.proofs.Control.NewImageCounts.{asking, image_stands, paused_owes}
+use Rattle.step_core.proofs.Control.OutsideImage as pauses
 use Rattle.step_core.proofs.Control.Loaded.{read_owes}
 use Rattle.step_core.proofs.Control.Storing.{stored_owes}
 use Rattle.step_core.proofs.Control.Held.{IsKept, held_image}
@@ -80,16 +80,16 @@ module _ (change : Change) (law : PausesByParts change) (config : Config) (graph
   unfolding kind
   from_owes settles owes =
       let there : image_of (slice_get (slice_set stage.machines number control_after) (control_number config)) ≡ image_read control_after.machine =
-      ap (λ n. image_of (slice_get (slice_set stage.machines number control_after) n)) (sym facts.number_is) ∙ ap image_of (slice_get-set_same stage.machines number control_before control_after here) in
+      ap (λ index. image_of (slice_get (slice_set stage.machines number control_after) index)) (sym facts.number_is) ∙ ap image_of (slice_get-set_same stage.machines number control_before control_after here) in
       follows_owes config graph stage past number control_before control_after words_after_access settles follows
       (subst (λ memory. Owes config stage.words words_after_access (world_of config stage follows.block follows.ghost (after graph past)) past number stage.machines memory settles control_after) (ap (settled_by config words_after_access) (sym there))
-      (subst (λ w. Owes config stage.words words_after_access w past number stage.machines (settled_by config words_after_access (image_read control_after.machine)) settles control_after) (sym world_is)
-      (subst (λ n. Owes config stage.words words_after_access (world_held (stored_image control.spot control.image)) past n stage.machines (settled_by config words_after_access (image_read control_after.machine)) settles control_after) (sym facts.number_is) owes)))
+      (subst (λ next_world. Owes config stage.words words_after_access next_world past number stage.machines (settled_by config words_after_access (image_read control_after.machine)) settles control_after) (sym world_is)
+      (subst (λ number. Owes config stage.words words_after_access (world_held (stored_image control.spot control.image)) past number stage.machines (settled_by config words_after_access (image_read control_after.machine)) settles control_after) (sym facts.number_is) owes)))
       here (length-set stage.words _ _ ∙ follows.words)
 
   -- what holds of the control, in that world
   control_held : IsControl config stage.words (world_held (stored_image control.spot control.image)) (control_number config) control
-  control_held = subst (λ n. IsControl config stage.words (world_held (stored_image control.spot control.image)) n control) facts.number_is (subst (λ w. IsControl config stage.words w number control) world_is facts)
+  control_held = subst (λ number. IsControl config stage.words (world_held (stored_image control.spot control.image)) number control) facts.number_is (subst (λ world. IsControl config stage.words world number control) world_is facts)
 
   -- and of all machines
   shared_held : Shared config (world_held (stored_image control.spot control.image))
@@ -138,11 +138,11 @@ module _ (change : Change) (law : PausesByParts change) (config : Config) (graph
       ap (world_held change law config graph stage past number k command calls follows shaken here) none in
       subst (λ es. Follows config graph (moved (kind change config) stage number (record { machine = controlling k; command = command; calls = calls }) Nothing) (past ++ es)) (sym told_none)
       (from_owes change law config graph stage past number k command calls follows shaken here []
-      (subst (λ w. Owes config stage.words (accessed (control_access config k) stage.words) w past (control_number config) stage.machines
+      (subst (λ next_world. Owes config stage.words (accessed (control_access config k) stage.words) next_world past (control_number config) stage.machines
       (settled_by config (accessed (control_access config k) stage.words) (image_read (control_after change law config graph stage past number k command calls follows shaken here).machine)) []
       (control_after change law config graph stage past number k command calls follows shaken here)) (sym world_open)
       (owes (subst (λ w. Shared config w) world_open (shared_held change law config graph stage past number k command calls follows shaken here))
-      (subst (λ w. IsControl config stage.words w (control_number config) k) world_open (control_held change law config graph stage past number k command calls follows shaken here)))))
+      (subst (λ world. IsControl config stage.words world (control_number config) k) world_open (control_held change law config graph stage past number k command calls follows shaken here)))))
 
   -- the world while no image counts
   abbrev open_now : World
@@ -263,25 +263,25 @@ module _ (change : Change) (law : PausesByParts change) (config : Config) (graph
       (known_held change law config graph stage past number k command calls follows shaken here))
 
   -- a word that it finds in a unit is fit
-  work_ready : (at : UnitSpot) → Here (Working at) → unit.is_ready config (control_number config) at ≡ true
-  work_ready at here = (and_parts _ _ (ready_at (Working at) here)).0
+  work_ready : (spot : UnitSpot) → Here (Working spot) → unit.is_ready config (control_number config) spot ≡ true
+  work_ready spot here = (and_parts _ _ (ready_at (Working spot) here)).0
 
-  work_found : (at : UnitSpot) → Here (Working at) → got (Working at) ≡ view config stage.words (units.touch_at config (control_number config) at).word
-  work_found at here = found-placed config stage.words (units.touch_at config (control_number config) at) (is_word_from config _ (unit_inside config (control_number config) at (omega arith) (work_ready at here)))
+  work_found : (spot : UnitSpot) → Here (Working spot) → got (Working spot) ≡ view config stage.words (units.touch_at config (control_number config) spot).word
+  work_found spot here = found-placed config stage.words (units.touch_at config (control_number config) spot) (is_word_from config _ (unit_inside config (control_number config) spot (omega arith) (work_ready spot here)))
 
-  pub work_fit : (at : UnitSpot) → Here (Working at) → unit.IsFit config (control_number config) at (got (Working at))
-  work_fit at here =
-      let known = control_held change law config graph stage past number (control_at (Working at)) command calls follows shaken here in
-      subst (λ n. unit.IsFit config (control_number config) at n) (sym (work_found at here))
-      (work_fits config open_now (control_number config) (shared_held change law config graph stage past number (control_at (Working at)) command calls follows shaken here) at (work_ready at here) known.facts)
+  pub work_fit : (spot : UnitSpot) → Here (Working spot) → unit.IsFit config (control_number config) spot (got (Working spot))
+  work_fit spot here =
+      let known = control_held change law config graph stage past number (control_at (Working spot)) command calls follows shaken here in
+      subst (λ n. unit.IsFit config (control_number config) spot n) (sym (work_found spot here))
+      (work_fits config open_now (control_number config) (shared_held change law config graph stage past number (control_at (Working spot)) command calls follows shaken here) spot (work_ready spot here) known.facts)
 
   -- a step of a unit
-  work_word : (at : UnitSpot) → Here (Working at) → ControlGoal (Working at)
-  work_word at here = quiet (Working at) here refl refl (λ shared known. subst
-      (λ n. Owes config stage.words (words_after config stage.words (units.touch_at config (control_number config) at)) open_now past (control_number config) stage.machines
-      (settled_by config (words_after config stage.words (units.touch_at config (control_number config) at)) (image_read (took_of change config (record { machine = controlling (control_at (Working at)); command = command; calls = calls }) Nothing n (controlling (control_at (Working at)))).machine)) []
-      (took_of change config (record { machine = controlling (control_at (Working at)); command = command; calls = calls }) Nothing n (controlling (control_at (Working at))))) (sym (work_found at here))
-      (pauses.work_unit config stage.words follows.block follows.ghost (after graph past) past stage.machines command calls change seen phase cset hints image follows.words shared follows.promised_to at known))
+  work_word : (spot : UnitSpot) → Here (Working spot) → ControlGoal (Working spot)
+  work_word spot here = quiet (Working spot) here refl refl (λ shared known. subst
+      (λ n. Owes config stage.words (words_after config stage.words (units.touch_at config (control_number config) spot)) open_now past (control_number config) stage.machines
+      (settled_by config (words_after config stage.words (units.touch_at config (control_number config) spot)) (image_read (took_of change config (record { machine = controlling (control_at (Working spot)); command = command; calls = calls }) Nothing n (controlling (control_at (Working spot)))).machine)) []
+      (took_of change config (record { machine = controlling (control_at (Working spot)); command = command; calls = calls }) Nothing n (controlling (control_at (Working spot))))) (sym (work_found spot here))
+      (pauses.work_unit config stage.words follows.block follows.ghost (after graph past) past stage.machines command calls change seen phase cset hints image follows.words shared follows.promised_to spot known))
 
   -- wherever it stands
   pub by_spot : (spot : ControlSpot) → is_gone spot ≡ false → Here spot → ControlGoal spot
@@ -293,7 +293,7 @@ module _ (change : Change) (law : PausesByParts change) (config : Config) (graph
       pauses.look_asked config stage.words follows.block follows.ghost (after graph past) past stage.machines command calls change seen phase cset hints image follows.words shared follows.promised_to (got LookAsked) (found-placed config stage.words (touch Ask loads) refl) known)
   by_spot LookFree going here = quiet LookFree here refl refl (λ shared known.
       pauses.look_free config stage.words follows.block follows.ghost (after graph past) past stage.machines command calls change seen phase cset hints image follows.words shared follows.promised_to (got LookFree) known)
-  by_spot (Working at) going here = work_word at here
+  by_spot (Working spot) going here = work_word spot here
   by_spot (Stopping stop.Raise) going here = quiet (Stopping stop.Raise) here refl refl (λ shared known.
       pauses.raise_pause config stage.words follows.block follows.ghost (after graph past) past stage.machines command calls change seen phase cset hints image follows.words shared follows.promised_to (got (Stopping stop.Raise)) known)
   by_spot (Stopping (stop.Check seat)) going here = quiet (Stopping (stop.Check seat)) here refl refl (λ shared known.

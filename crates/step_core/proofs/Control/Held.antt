@@ -1,9 +1,9 @@
 -- The image that counts in a stage.
 use Rattle.std.proofs.Common.{◌≡◌, ◌≢◌, ℕ, ◌<◌, true, false, Option, Some, refl, sym, ap, ◌∙◌}
 use Rattle.std.specs.Prelude.{slice_get, slice_set}
+use Rattle.heap_words.proofs.Lists.{slice_get-set_other}
 use Rattle.heap_words.specs.declared.config.Config.{Config}
 use Rattle.heap_words.specs.Steps.{Stage}
-use Rattle.heap_words.proofs.Places.{slice_get-set_other}
 use Rattle.collector_rows.specs.Extent.{Counting}
 use Rattle.handshake.specs.Standing.{is_within, is_pausing}
 use Rattle.handshake.specs.Shaken.{IsShaken}
@@ -21,9 +21,9 @@ IsKept config stage = IsShaken config standing stage
 
 -- while an image counts the control works in a pause
 pub holding_pauses : (machine : Machine) (image : Counting) → image_read machine ≡ Some image → is_pausing (standing_of machine) ≡ true
-holding_pauses (controlling k) image is = by_spot k.spot is
+holding_pauses (controlling control) image is = by_spot control.spot is
   where
-    by_spot : (spot : ControlSpot) → stored_image spot k.image ≡ Some image → is_pausing (standing_of (controlling (record k { spot = spot }))) ≡ true
+    by_spot : (spot : ControlSpot) → stored_image spot control.image ≡ Some image → is_pausing (standing_of (controlling (record control { spot = spot }))) ≡ true
     by_spot (StoreWord index extent) held = refl
     by_spot _ held = absurd (cc (held))
 holding_pauses _ image is = absurd (cc (is))

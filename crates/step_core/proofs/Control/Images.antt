@@ -27,7 +27,7 @@ words_after config words t = slice_set words (table_index (placed config t)) (ma
 
 -- the word that an access finds, by its name
 pub found-placed : (config : Config) (words : List ℕ) (t : Touch) → is_word config t.word ≡ true → slice_index words (table_index (placed config t)) ≡ view config words t.word
-found-placed config words t is = ap (λ k. slice_index words k) (table_index-access_at (word_at config t.word) t.form) ∙ sym (view_word config words t.word (is_word_true config t.word is))
+found-placed config words t is = ap (λ index. slice_index words index) (table_index-access_at (word_at config t.word) t.form) ∙ sym (view_word config words t.word (is_word_true config t.word is))
 
 -- the table after it, by the names of its words
 pub view-placed : (config : Config) (words : List ℕ) (t : Touch) → is_word config t.word ≡ true → length words ≡ table_words config → view config (words_after config words t) ≡ touched (view config words) t
@@ -53,80 +53,80 @@ image_reads config image word is in_image =
     ∙ get_or-append_right (replicate (image_start config) 0) image (image_start config) (word_at config word) 0 (length-replicate (image_start config) 0) (image_at config word is in_image)
 
 -- a word outside the image does not count there
-pub uncounted : (config : Config) (n : Counting) (word : Word) → is_image word ≡ false → is_counting config n word ≡ false
-uncounted config n word outside = ap (λ b. b && counts config n.extent n.image (word_at config word - image_start config)) outside
+pub uncounted : (config : Config) (counting : Counting) (word : Word) → is_image word ≡ false → is_counting config counting word ≡ false
+uncounted config counting word outside = ap (λ b. b && counts config counting.extent counting.image (word_at config word - image_start config)) outside
 
 -- two memories of names read the same, if they do so at each word
-pub mixed_reads : (config : Config) (words : List ℕ) (n : Counting) (other : Word → ℕ)
-    → ((word : Word) → is_counting config n word ≡ true → image_view config n.image word ≡ other word) → ((word : Word) → is_counting config n word ≡ false → view config words word ≡ other word) → mixed config words n ≡ other
-mixed_reads config words n other counted uncounted = fun_ext (λ word. ⊎_elim
-    (λ (is : is_counting config n word ≡ true). cond-true (is_counting config n word) _ _ is ∙ counted word is)
-    (λ (no : is_counting config n word ≡ false). cond-false (is_counting config n word) _ _ no ∙ uncounted word no)
-    (cases_Bool (is_counting config n word)))
+pub mixed_reads : (config : Config) (words : List ℕ) (counting : Counting) (other : Word → ℕ)
+    → ((word : Word) → is_counting config counting word ≡ true → image_view config counting.image word ≡ other word) → ((word : Word) → is_counting config counting word ≡ false → view config words word ≡ other word) → mixed config words counting ≡ other
+mixed_reads config words counting other counted uncounted = fun_ext (λ word. ⊎_elim
+    (λ (is : is_counting config counting word ≡ true). cond-true (is_counting config counting word) _ _ is ∙ counted word is)
+    (λ (no : is_counting config counting word ≡ false). cond-false (is_counting config counting word) _ _ no ∙ uncounted word no)
+    (cases_Bool (is_counting config counting word)))
 
 -- a word of the image that counts there is read there
-counted_reads : (config : Config) (n : Counting) (word : Word) → is_counting config n word ≡ true → is_word config word ≡ true → image_view config n.image word ≡ slice_index n.image (word_at config word - image_start config)
-counted_reads config n word counted is = image_reads config n.image word is (and_parts (is_image word) _ counted).0
+counted_reads : (config : Config) (counting : Counting) (word : Word) → is_counting config counting word ≡ true → is_word config word ≡ true → image_view config counting.image word ≡ slice_index counting.image (word_at config word - image_start config)
+counted_reads config counting word counted is = image_reads config counting.image word is (and_parts (is_image word) _ counted).0
 
 -- once all words of an image that count are those of the table, the table counts
-pub mixed_whole : (config : Config) (words : List ℕ) (n : Counting) → AreRead config words n (image_words config) → mixed config words n ≡ view config words
-mixed_whole config words n read = mixed_reads config words n (view config words)
-    (λ w counted. ⊎_elim
-    (λ (is : is_word config w ≡ true).
-    let both = and_parts (is_image w) (counts config n.extent n.image (word_at config w - image_start config)) counted in
-    let from : image_start config ≤ word_at config w = image_at config w is both.0 in
-    let to : word_at config w < table_words config = word_inside config w (is_word_true config w is) in
-    let back : image_start config + (word_at config w - image_start config) ≡ word_at config w = omega (arith, from) in
-    counted_reads config n w counted is ∙ read (word_at config w - image_start config) (omega (arith, from, to)) both.1 ∙ ap (λ k. slice_index words k) back ∙ sym (view_word config words w (is_word_true config w is)))
-    (λ (no : is_word config w ≡ false). cond-false (is_word config w) _ _ no ∙ sym (cond-false (is_word config w) _ _ no))
-    (cases_Bool (is_word config w)))
+pub mixed_whole : (config : Config) (words : List ℕ) (counting : Counting) → AreRead config words counting (image_words config) → mixed config words counting ≡ view config words
+mixed_whole config words counting read = mixed_reads config words counting (view config words)
+    (λ word counted. ⊎_elim
+    (λ (is : is_word config word ≡ true).
+    let both = and_parts (is_image word) (counts config counting.extent counting.image (word_at config word - image_start config)) counted in
+    let from : image_start config ≤ word_at config word = image_at config word is both.0 in
+    let to : word_at config word < table_words config = word_inside config word (is_word_true config word is) in
+    let back : image_start config + (word_at config word - image_start config) ≡ word_at config word = omega (arith, from) in
+    counted_reads config counting word counted is ∙ read (word_at config word - image_start config) (omega (arith, from, to)) both.1 ∙ ap (λ index. slice_index words index) back ∙ sym (view_word config words word (is_word_true config word is)))
+    (λ (no : is_word config word ≡ false). cond-false (is_word config word) _ _ no ∙ sym (cond-false (is_word config word) _ _ no))
+    (cases_Bool (is_word config word)))
     (λ w uncounted. refl)
 
 -- a store into the table of a word of the image that counts changes nothing that counts
-pub mixed_stored : (config : Config) (words : List ℕ) (n : Counting) (at value : ℕ) → image_start config ≤ at → counts config n.extent n.image (at - image_start config) ≡ true
-    → mixed config (slice_set words at value) n ≡ mixed config words n
-mixed_stored config words n at value from here = mixed_reads config (slice_set words at value) n (mixed config words n)
-    (λ w counted. sym (cond-true (is_counting config n w) _ _ counted))
-    (λ w no. ⊎_elim
-    (λ (is : is_word config w ≡ true).
-    let differs : word_at config w ≡ at → ⊥ =
-    (λ e. true≢false (sym (and_from (is_image w) _ (is_image-word_at config w (is_word_true config w is) ∙ le-leb _ _ (omega (arith, e, from))) (ap (λ k. counts config n.extent n.image (k - image_start config)) e ∙ here)) ∙ no)) in
-    view_word config (slice_set words at value) w (is_word_true config w is)
-    ∙ get_or-set_other words at (word_at config w) value 0 differs
-    ∙ sym (view_word config words w (is_word_true config w is))
-    ∙ sym (cond-false (is_counting config n w) _ _ no))
-    (λ (none : is_word config w ≡ false). cond-false (is_word config w) _ _ none ∙ sym (cond-false (is_word config w) _ _ none) ∙ sym (cond-false (is_counting config n w) _ _ no))
-    (cases_Bool (is_word config w)))
+pub mixed_stored : (config : Config) (words : List ℕ) (counting : Counting) (at value : ℕ) → image_start config ≤ at → counts config counting.extent counting.image (at - image_start config) ≡ true
+    → mixed config (slice_set words at value) counting ≡ mixed config words counting
+mixed_stored config words counting at value at_most here = mixed_reads config (slice_set words at value) counting (mixed config words counting)
+    (λ w counted. sym (cond-true (is_counting config counting w) _ _ counted))
+    (λ word no. ⊎_elim
+    (λ (is : is_word config word ≡ true).
+    let differs : word_at config word ≡ at → ⊥ =
+    (λ e. true≢false (sym (and_from (is_image word) _ (is_image-word_at config word (is_word_true config word is) ∙ le-leb _ _ (omega (arith, e, at_most))) (ap (λ k. counts config counting.extent counting.image (k - image_start config)) e ∙ here)) ∙ no)) in
+    view_word config (slice_set words at value) word (is_word_true config word is)
+    ∙ get_or-set_other words at (word_at config word) value 0 differs
+    ∙ sym (view_word config words word (is_word_true config word is))
+    ∙ sym (cond-false (is_counting config counting word) _ _ no))
+    (λ (none : is_word config word ≡ false). cond-false (is_word config word) _ _ none ∙ sym (cond-false (is_word config word) _ _ none) ∙ sym (cond-false (is_counting config counting word) _ _ no))
+    (cases_Bool (is_word config word)))
 
 -- an access of a word outside the image changes that word alone, of those that count too
-mixed_touched : (config : Config) (words : List ℕ) (n : Counting) (t : Touch) → is_word config t.word ≡ true → is_image t.word ≡ false → length words ≡ table_words config
-    → mixed config (words_after config words t) n ≡ touched (mixed config words n) t
-mixed_touched config words n t is outside long = mixed_reads config (words_after config words t) n (touched (mixed config words n) t)
+mixed_touched : (config : Config) (words : List ℕ) (counting : Counting) (t : Touch) → is_word config t.word ≡ true → is_image t.word ≡ false → length words ≡ table_words config
+    → mixed config (words_after config words t) counting ≡ touched (mixed config words counting) t
+mixed_touched config words counting t is outside long = mixed_reads config (words_after config words t) counting (touched (mixed config words counting) t)
     (λ w counted.
     let in_image : is_image w ≡ true = (and_parts (is_image w) _ counted).0 in
     let differs : same_word t.word w ≡ false = ⊎_elim
     (λ (same : same_word t.word w ≡ true). absurd (false≢true (sym outside ∙ ap is_image (same_word_true t.word w same) ∙ in_image)))
     (λ (no : same_word t.word w ≡ false). no)
     (cases_Bool (same_word t.word w)) in
-    sym (cond-false (same_word t.word w) _ _ differs ∙ cond-true (is_counting config n w) _ _ counted))
+    sym (cond-false (same_word t.word w) _ _ differs ∙ cond-true (is_counting config counting w) _ _ counted))
     (λ w no.
-    let here : mixed config words n t.word ≡ view config words t.word = cond-false (is_counting config n t.word) _ _ (uncounted config n t.word outside) in
-    let there : mixed config words n w ≡ view config words w = cond-false (is_counting config n w) _ _ no in
+    let here : mixed config words counting t.word ≡ view config words t.word = cond-false (is_counting config counting t.word) _ _ (uncounted config counting t.word outside) in
+    let there : mixed config words counting w ≡ view config words w = cond-false (is_counting config counting w) _ _ no in
     ap (λ m. m w) (view-placed config words t is long)
     ∙ ap (λ k. if same_word t.word w then formed t.form k else view config words w) (sym here)
-    ∙ ap (λ k. if same_word t.word w then formed t.form (mixed config words n t.word) else k) (sym there))
+    ∙ ap (λ k. if same_word t.word w then formed t.form (mixed config words counting t.word) else k) (sym there))
 
 -- the words that count after an access that is not of the image while an image counts
 pub settled_touched : (config : Config) (words : List ℕ) (t : Touch) (found : Option Counting) → is_word config t.word ≡ true → length words ≡ table_words config
     → ((image : Counting) → found ≡ Some image → is_image t.word ≡ false) → settled_by config (words_after config words t) found ≡ touched (settled_by config words found) t
 settled_touched config words t None is long outside = view-placed config words t is long
-settled_touched config words t (Some n) is long outside = mixed_touched config words n t is (outside n refl) long
+settled_touched config words t (Some counting) is long outside = mixed_touched config words counting t is (outside counting refl) long
 
 -- and the word that it finds
 pub settled_found : (config : Config) (words : List ℕ) (t : Touch) (found : Option Counting) → is_word config t.word ≡ true
     → ((image : Counting) → found ≡ Some image → is_image t.word ≡ false) → slice_index words (table_index (placed config t)) ≡ settled_by config words found t.word
 settled_found config words t None is outside = found-placed config words t is
-settled_found config words t (Some n) is outside = found-placed config words t is ∙ sym (cond-false (is_counting config n t.word) _ _ (uncounted config n t.word (outside n refl)))
+settled_found config words t (Some counting) is outside = found-placed config words t is ∙ sym (cond-false (is_counting config counting t.word) _ _ (uncounted config counting t.word (outside counting refl)))
 
 -- it leaves the words of the image in the table as they were
 pub image_kept : (config : Config) (words : List ℕ) (t : Touch) (i : ℕ) → is_word config t.word ≡ true → is_image t.word ≡ false
@@ -151,8 +151,8 @@ image_grows config words extent image index long loaded here i below = ⊎_elim
 
 -- as far as the first words go, so it is of each extent
 pub loaded_early : (config : Config) (words : List ℕ) (one other : Extent) (image : List ℕ) (bound : ℕ) → bound ≤ 7 → AreLoaded config words one image bound → AreLoaded config words other image bound
-loaded_early config words one other image bound few loaded i below =
-    loaded i below ∙ cond-true (is_of_extent config one i) _ _ (early config one i (omega (arith, below, few))) ∙ sym (cond-true (is_of_extent config other i) _ _ (early config other i (omega (arith, below, few))))
+loaded_early config words one other image bound at_most loaded i below =
+    loaded i below ∙ cond-true (is_of_extent config one i) _ _ (early config one i (omega (arith, below, at_most))) ∙ sym (cond-true (is_of_extent config other i) _ _ (early config other i (omega (arith, below, at_most))))
 
 -- and words are left out that are not of the extent
 pub loaded_padded : (config : Config) (words : List ℕ) (extent : Extent) (image : List ℕ) (from to : ℕ) → length image ≡ from → AreLoaded config words extent image from
@@ -210,7 +210,7 @@ module _ (config : Config) (words : List ℕ) (extent : Extent) (made part_made 
       let stays : counts config extent part_made (word_at config word - image_start config) ≡ false = ap (λ b. b && counts config extent part_made (word_at config word - image_start config)) (sym image) ∙ none in
       let from : image_start config ≤ word_at config word = image_at config word is image in
       view_word config words word (is_word_true config word is)
-      ∙ ap (λ k. slice_index words k) (omega (arith, from))
+      ∙ ap (λ index. slice_index words index) (omega (arith, from))
       ∙ sym (image_in_reads config words (word_at config word - image_start config))
       ∙ sym (is_made (word_at config word - image_start config) (inside word is image) ∙ cond-false (counts config extent part_made (word_at config word - image_start config)) _ _ stays)
       ∙ sym (all_reads word is image))

@@ -13,7 +13,7 @@ use Rattle.step_core.specs.Actor.{controlling, Actor}
 use Rattle.step_core.specs.Settled.{stored_image, settled_by, control_number}
 use Rattle.step_core.specs.Threads.{IsSettled}
 use Rattle.step_core.proofs.Machines.Owed.{IsControl, PromisedToMutators, Owes}
-use Rattle.step_core.proofs.Control.Pauses.{open_world, no_other_control}
+use Rattle.step_core.proofs.Control.OutsideImage.{open_world, no_other_control}
 use Rattle.step_core.proofs.Machines.Roles.{machine_stays}
 
 -- nothing changes but what the control has read

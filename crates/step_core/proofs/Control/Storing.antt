@@ -37,7 +37,7 @@ use Rattle.step_core.specs.Threads.{IsSettled}
 use Rattle.step_core.proofs.History.Entries.{entries_settled, own_more, other_more}
 use Rattle.step_core.proofs.Machines.Owed.{IsThread, IsAim, IsOfExtent, ControlFacts, IsControl, IsMachine, AreRead, PromisedToMutators, Owes}
 use Rattle.step_core.proofs.Control.Images.{image_reads, mixed_whole, mixed_stored}
-use Rattle.step_core.proofs.Control.Pauses.{no_other_control}
+use Rattle.step_core.proofs.Control.OutsideImage.{no_other_control}
 use Rattle.step_core.proofs.Mutators.Refusing.{refused_new, refused_mine}
 use Rattle.step_core.proofs.Machines.Roles.{machine_stays, mutator_there}
 
@@ -64,8 +64,8 @@ module _ (change : Change) (config : Config) (words : List ℕ) (block : Plot) (
   now = record { extent = extent; image = image }
 
   -- the world, in which the image counts
-  abbrev u : World
-  u = record { memory = mixed config words now; block = block; ghost = ghost; graph = graph }
+  abbrev world_then : World
+  world_then = record { memory = mixed config words now; block = block; ghost = ghost; graph = graph }
 
   -- the control, and the control then
   abbrev pub storing : Controlling
@@ -94,7 +94,7 @@ module _ (change : Change) (config : Config) (words : List ℕ) (block : Plot) (
   read_more : AreRead config words_then now next
   read_more i less counted = ⊎_elim
       (λ (same : i ≡ index).
-      ap (λ k. slice_index image k) same
+      ap (λ index. slice_index image index) same
       ∙ sym (get_or-set_same words at value 0 (let within = inside in omega (arith, within, long)))
       ∙ ap (λ k. slice_index words_then (image_start config + k)) (sym same))
       (λ (other : i ≡ index → ⊥).
@@ -142,7 +142,7 @@ module _ (change : Change) (config : Config) (words : List ℕ) (block : Plot) (
 
   -- what was there
   pub view_raw : view config words name ≡ raw
-  view_raw = view_word config words name name_is_word ∙ ap (λ k. slice_index words k) name_at
+  view_raw = view_word config words name name_is_word ∙ ap (λ index. slice_index words index) name_at
 
   -- what counts of the word is what is stored
   pub now_is : mixed config words now name ≡ value
@@ -151,36 +151,36 @@ module _ (change : Change) (config : Config) (words : List ℕ) (block : Plot) (
       let place : word_at config name - image_start config ≡ index = (let there = name_at in omega (arith, there)) in
       cond-true (is_counting config now name) _ _ (and_from (is_image name) _ in_image (ap (counts config extent image) place ∙ here))
       ∙ image_reads config image name (is_word_from config name name_is_word) in_image
-      ∙ ap (λ k. slice_index image k) place
+      ∙ ap (λ index. slice_index image index) place
 
   -- what holds of the machines
   abbrev pub AllKnown : Type 0
-  AllKnown = (index : ℕ) (actor : Actor) → slice_get machines index ≡ Some actor → IsMachine config words u (of_thread past (index + 1)) index actor actor.machine
+  AllKnown = (index : ℕ) (actor : Actor) → slice_get machines index ≡ Some actor → IsMachine config words world_then (of_thread past (index + 1)) index actor actor.machine
 
   -- another machine, whose answer is not this word
   other_then : (settles : List Entry) (k : ℕ) (actor : Actor) → k ≢ control_number config → of_thread (past ++ settles) (k + 1) ≡ of_thread past (k + 1) → view config words_then (Answer k) ≡ view config words (Answer k)
-      → Shared config u → IsMachine config words u (of_thread past (k + 1)) k actor actor.machine → IsMachine config words_then u (of_thread (past ++ settles) (k + 1)) k actor actor.machine
+      → Shared config world_then → IsMachine config words world_then (of_thread past (k + 1)) k actor actor.machine → IsMachine config words_then world_then (of_thread (past ++ settles) (k + 1)) k actor actor.machine
   other_then settles k actor other entries answer shared is =
-      machine_stays config words words_then u u (of_thread past (k + 1)) (of_thread (past ++ settles) (k + 1)) k actor actor.machine shared
+      machine_stays config words words_then world_then world_then (of_thread past (k + 1)) (of_thread (past ++ settles) (k + 1)) k actor actor.machine shared
       (record {
-        rely = rely_same config k u;
+        rely = rely_same config k world_then;
         answer = answer;
         counts = inr (record { graph = refl; promised = λ mutator. refl });
-        aims = λ control same. absurd (no_other_control config words u (of_thread past (k + 1)) k actor actor.machine other is control same);
+        aims = λ control same. absurd (no_other_control config words world_then (of_thread past (k + 1)) k actor actor.machine other is control same);
       })
       entries is
 
   -- what all stores owe
-  module _ (shared : Shared config u) (promised_to : PromisedToMutators config block) (stands : IsControl config words u (control_number config) storing) where
+  module _ (shared : Shared config world_then) (promised_to : PromisedToMutators config block) (stands : IsControl config words world_then (control_number config) storing) where
     abbrev Stored : List Entry → Type 0
-    Stored settles = Owes config words words_then u past (control_number config) machines (settled_by config words_then (stored_image control_then.spot control_then.image)) settles new
+    Stored settles = Owes config words words_then world_then past (control_number config) machines (settled_by config words_then (stored_image control_then.spot control_then.image)) settles new
 
     -- the control stores the next word, or has stored all
-    facts_then : (holds : Bool) → ControlFacts config u (control_number config) (spot_then holds)
+    facts_then : (holds : Bool) → ControlFacts config world_then (control_number config) (spot_then holds)
     facts_then true = stands.facts
     facts_then false = stands.facts
 
-    own_then : IsControl config words_then u (control_number config) control_then
+    own_then : IsControl config words_then world_then (control_number config) control_then
     own_then = record {
       number_is = refl;
       ready = stays_ready config phase cset seen next (StoreWord index extent) raw ready tt;
@@ -192,10 +192,10 @@ module _ (change : Change) (config : Config) (words : List ℕ) (block : Plot) (
     }
 
     -- a store that settles nothing
-    quiet_store : ((index : ℕ) (actor : Actor) → index ≢ control_number config → slice_get machines index ≡ Some actor → IsMachine config words u (of_thread past (index + 1)) index actor actor.machine
-        → IsMachine config words_then u (of_thread (past ++ []) (index + 1)) index actor actor.machine) → Stored []
+    quiet_store : ((index : ℕ) (actor : Actor) → index ≢ control_number config → slice_get machines index ≡ Some actor → IsMachine config words world_then (of_thread past (index + 1)) index actor actor.machine
+        → IsMachine config words_then world_then (of_thread (past ++ []) (index + 1)) index actor actor.machine) → Stored []
     quiet_store others = record {
-      world = u;
+      world = world_then;
       memory_is = counts_then (nat_lt next (image_words config)) refl;
       graph_is = refl;
       legal = tt;
@@ -230,7 +230,7 @@ module _ (change : Change) (config : Config) (words : List ℕ) (block : Plot) (
       now_answer = ap (mixed config words now) (sym is_answer) ∙ now_is
 
       -- the mutator of the answer, once its answer stands in the table
-      thread_then : (actor : Actor) (m : Mutating) → ((raw ≡ 0) × (value ≡ 1) → ⊥) → IsThread config words u (of_thread past (mutator + 1)) mutator actor m → IsThread config words_then u (of_thread (past ++ []) (mutator + 1)) mutator actor m
+      thread_then : (actor : Actor) (m : Mutating) → ((raw ≡ 0) × (value ≡ 1) → ⊥) → IsThread config words world_then (of_thread past (mutator + 1)) mutator actor m → IsThread config words_then world_then (of_thread (past ++ []) (mutator + 1)) mutator actor m
       thread_then actor m not_settled thread = record {
         fixed = thread.fixed;
         number_is = thread.number_is;
@@ -249,15 +249,15 @@ module _ (change : Change) (config : Config) (words : List ℕ) (block : Plot) (
       }
 
       -- once it is settled that the heap is full for it
-      refused_then : (actor : Actor) (m : Mutating) → raw ≡ 0 → value ≡ 1 → (thread : IsThread config words u (of_thread past (mutator + 1)) mutator actor m) → thread.fixed ≡ None
-          → IsThread config words_then u (of_thread (past ++ entries_of mutator actor.command (Some Full)) (mutator + 1)) mutator actor m
+      refused_then : (actor : Actor) (m : Mutating) → raw ≡ 0 → value ≡ 1 → (thread : IsThread config words world_then (of_thread past (mutator + 1)) mutator actor m) → thread.fixed ≡ None
+          → IsThread config words_then world_then (of_thread (past ++ entries_of mutator actor.command (Some Full)) (mutator + 1)) mutator actor m
       refused_then actor m none one thread unsettled =
           let at_1 : mixed config words now (Answer mutator) ≡ 1 = now_answer ∙ one in
           record {
             fixed = Some Full;
             number_is = thread.number_is;
             valid = thread.valid;
-            mine = refused_mine config u m.seat m.made m.kept actor.command (subst (λ j. mixed config words now (Answer j) ≡ 1) (sym thread.number_is) at_1) m.spot (subst (λ f. Mine config u m actor.command f) unsettled thread.mine);
+            mine = refused_mine config world_then m.seat m.made m.kept actor.command (subst (λ mutator. mixed config words now (Answer mutator) ≡ 1) (sym thread.number_is) at_1) m.spot (subst (λ fixed. Mine config world_then m actor.command fixed) unsettled thread.mine);
             seen = record {
               null = λ zero_now. absurd (omega (arith, at_1, zero_now));
               full = λ e. inl (own_answer ∙ one, refl);
@@ -268,14 +268,14 @@ module _ (change : Change) (config : Config) (words : List ℕ) (block : Plot) (
           }
 
       -- the two cases
-      by_test : (actor : Actor) (m : Mutating) → slice_get machines mutator ≡ Some actor → actor.machine ≡ mutating m → IsThread config words u (of_thread past (mutator + 1)) mutator actor m
+      by_test : (actor : Actor) (m : Mutating) → slice_get machines mutator ≡ Some actor → actor.machine ≡ mutating m → IsThread config words world_then (of_thread past (mutator + 1)) mutator actor m
           → (holds : Bool) → ((raw == 0) && (value == 1)) ≡ holds → Stored (entries_of mutator actor.command (if holds then Some Full else None))
       by_test actor m there is thread false not_both = quiet_store (λ k d other there_k known_k. ⊎_elim
           (λ (same : k ≡ mutator).
           let one : d ≡ actor = same_Some d actor (sym there_k ∙ ap (slice_get machines) same ∙ there) in
-          subst (λ j. IsMachine config words_then u (of_thread (past ++ []) (j + 1)) j d d.machine) (sym same)
-          (subst (λ a. IsMachine config words_then u (of_thread (past ++ []) (mutator + 1)) mutator a a.machine) (sym one)
-          (subst (λ machine. IsMachine config words_then u (of_thread (past ++ []) (mutator + 1)) mutator actor machine) (sym is)
+          subst (λ j. IsMachine config words_then world_then (of_thread (past ++ []) (j + 1)) j d d.machine) (sym same)
+          (subst (λ a. IsMachine config words_then world_then (of_thread (past ++ []) (mutator + 1)) mutator a a.machine) (sym one)
+          (subst (λ machine. IsMachine config words_then world_then (of_thread (past ++ []) (mutator + 1)) mutator actor machine) (sym is)
           (thread_then actor m (λ both. false≢true (sym not_both ∙ and_from _ _ (eq-eqb raw 0 both.0) (eq-eqb value 1 both.1))) thread))))
           (λ (differs : k ≡ mutator → ⊥). other_then [] k d other (same_entries k) (other_answer k differs) shared known_k)
           (cases_eq k mutator))
@@ -287,32 +287,32 @@ module _ (change : Change) (config : Config) (words : List ℕ) (block : Plot) (
           (λ (full : (view config words (Answer mutator) ≡ 1) × (thread.fixed ≡ Some Full)). absurd (let at_raw = raw_answer in let full_raw = full.0 in omega (arith, at_raw, full_raw, none)))
           (λ (not_yet : (view config words (Answer mutator) ≡ 0) × (thread.fixed ≡ None)). not_yet.1)
           (thread.seen.full (now_answer ∙ one)) in
-          let own : Mine config u m actor.command None = subst (λ f. Mine config u m actor.command f) unsettled thread.mine in
-          let at_1 : mixed config words now (Answer m.seat) ≡ 1 = ap (λ j. mixed config words now (Answer j)) thread.number_is ∙ now_answer ∙ one in
+          let own : Mine config world_then m actor.command None = subst (λ fixed. Mine config world_then m actor.command fixed) unsettled thread.mine in
+          let at_1 : mixed config words now (Answer m.seat) ≡ 1 = ap (λ mutator. mixed config words now (Answer mutator)) thread.number_is ∙ now_answer ∙ one in
           record {
-            world = u;
+            world = world_then;
             memory_is = counts_then (nat_lt next (image_words config)) refl;
             graph_is = refl;
-            legal = (inr (inl (refused_new config u m.seat m.made m.kept actor.command at_1 m.spot own, refl, refl)), tt);
+            legal = (inr (inl (refused_new config world_then m.seat m.made m.kept actor.command at_1 m.spot own, refl, refl)), tt);
             entries = entries_settled config.mutators mutator actor.command (Some Full) within thread.valid;
             shared = shared;
             promised_to = promised_to;
             own = own_then;
-            others = λ k d other there_k known_k. ⊎_elim
-                (λ (same : k ≡ mutator).
-                let one_actor : d ≡ actor = same_Some d actor (sym there_k ∙ ap (slice_get machines) same ∙ there) in
-                subst (λ j. IsMachine config words_then u (of_thread (past ++ entries_of mutator actor.command (Some Full)) (j + 1)) j d d.machine) (sym same)
-                (subst (λ a. IsMachine config words_then u (of_thread (past ++ entries_of mutator actor.command (Some Full)) (mutator + 1)) mutator a a.machine) (sym one_actor)
-                (subst (λ machine. IsMachine config words_then u (of_thread (past ++ entries_of mutator actor.command (Some Full)) (mutator + 1)) mutator actor machine) (sym is)
+            others = λ number other_actor other there_k known_k. ⊎_elim
+                (λ (same : number ≡ mutator).
+                let one_actor : other_actor ≡ actor = same_Some other_actor actor (sym there_k ∙ ap (slice_get machines) same ∙ there) in
+                subst (λ j. IsMachine config words_then world_then (of_thread (past ++ entries_of mutator actor.command (Some Full)) (j + 1)) j other_actor other_actor.machine) (sym same)
+                (subst (λ a. IsMachine config words_then world_then (of_thread (past ++ entries_of mutator actor.command (Some Full)) (mutator + 1)) mutator a a.machine) (sym one_actor)
+                (subst (λ machine. IsMachine config words_then world_then (of_thread (past ++ entries_of mutator actor.command (Some Full)) (mutator + 1)) mutator actor machine) (sym is)
                 (refused_then actor m none one thread unsettled))))
-                (λ (differs : k ≡ mutator → ⊥). other_then (entries_of mutator actor.command (Some Full)) k d other (other_more past mutator actor.command (Some Full) k differs) (other_answer k differs) shared known_k)
-                (cases_eq k mutator);
+                (λ (differs : number ≡ mutator → ⊥). other_then (entries_of mutator actor.command (Some Full)) number other_actor other (other_more past mutator actor.command (Some Full) number differs) (other_answer number differs) shared known_k)
+                (cases_eq number mutator);
           }
 
       -- so whatever was there
       answer_owes : Stored (told_word machines (Answer mutator) raw value)
       answer_owes =
-          let there = mutator_there config words u past machines seats known mutator within in
+          let there = mutator_there config words world_then past machines seats known mutator within in
           subst (λ k. Stored (entries_of mutator k (if (raw == 0) && (value == 1) then Some Full else None))) (ap command_at (sym there.2))
           (by_test there.0 there.1 there.2 there.3 there.4 ((raw == 0) && (value == 1)) refl)
 

@@ -1,5 +1,6 @@
 -- The handshake and the count where runs begin.
 use Rattle.std.proofs.Common.{◌≡◌, ℕ, ◌<◌, ◌≤◌, true, false, refl, sym, ap, subst, arith}
+use Rattle.heap_words.proofs.Lists.{element_at}
 use Rattle.heap_words.specs.declared.config.Config.{Config}
 use Rattle.heap_words.specs.Words.{Phase, Cset, view}
 use Rattle.heap_words.specs.Steps.{Stage}
@@ -7,7 +8,7 @@ use Rattle.shen_graph.specs.Graph.{Graph}
 use Rattle.handshake.specs.Standing.{idle, control_seat}
 use Rattle.handshake.specs.Shaken.{IsShaken}
 use Rattle.handshake.specs.Left.{AreLeftCounted}
-use Rattle.handshake.proofs.Beginnings.{shaken_begins, counted_begins, there_is}
+use Rattle.handshake.proofs.Beginnings.{shaken_begins, counted_begins}
 use Rattle.mutator.specs.declared.spot.Spot.{Spot}
 use Rattle.mutator.specs.declared.spot.Spot.TheVariants.{Rest, Ended}
 use Rattle.mutator.specs.Orders.{takes_commands}
@@ -27,8 +28,8 @@ rests_left _ takes = absurd (cc (takes))
 
 -- the idle control is idle in the handshake
 control_idle : (config : Config) (phase cset : ℕ) (graph : Graph) (number : ℕ) (machine : Machine) → HasNumber config number machine → IsIdle phase cset graph number machine → number ≡ control_seat config → standing_of machine ≡ idle
-control_idle config phase cset graph number machine has is e =
-    let role = control_of config number machine has e in
+control_idle config phase cset graph number machine has is same =
+    let role = control_of config number machine has same in
     subst (λ x. IsIdle phase cset graph number x → standing_of x ≡ idle) (sym role.1) (λ calm. ap control_standing calm.0) is
 
 -- the mutators have not ended, and no other machine is counted
@@ -38,13 +39,13 @@ mutator_left config phase cset graph number machine has is below =
     subst (λ x. IsIdle phase cset graph number x → is_left_of x ≡ true) (sym role.1) (λ calm. rests_left role.0.spot calm.1) is
 
 other_left : (config : Config) (number : ℕ) (machine : Machine) → HasNumber config number machine → config.mutators ≤ number → is_left_of machine ≡ false
-other_left config number (mutating m) has above = absurd (omega (arith, has.1, above))
+other_left config number (mutating mutator) has above = absurd (omega (arith, has.1, above))
 other_left config number _ has above = refl
 
 module _ (config : Config) (stage : Stage Actor) (graph : Graph) (begins : Begins config stage graph) where
   pub begins_shaken : IsShaken config standing stage
   begins_shaken =
-      let control = there_is stage.machines (control_seat config) (omega (arith, begins.seats)) in
+      let control = element_at stage.machines (control_seat config) (omega (arith, begins.seats)) in
       shaken_begins config standing stage control.0 begins.words begins.seats control.1
       (let new = begins.machines (control_seat config) control.0 control.1 in control_idle config (view config stage.words Phase) (view config stage.words Cset) graph (control_seat config) (control.0).machine new.number_is new.idle refl)
       (λ seat a below here. let new = begins.machines seat a here in idle_outside config (view config stage.words Phase) (view config stage.words Cset) graph seat a.machine new.number_is new.idle below)

@@ -2,6 +2,7 @@
 use Rattle.std.proofs.Common.{◌≡◌, ℕ, ◌≤◌, Bool, true, false, refl, arith, inl, inr, ◌<◌}
 use Rattle.std.specs.Prelude.{nat_eq, nat_lt, if◌then◌else◌}
 use Rattle.std.proofs.lemmas.Bool.{and_parts}
+use Rattle.shen_graph.proofs.Bools.{false_from_flip}
 use Rattle.heap_words.specs.declared.config.Config.{Config}
 use Rattle.heap_words.specs.declared.access.Unit.TheVariants.{Worked, NoneLeft}
 use Rattle.heap_words.specs.Access.{table_index}
@@ -28,7 +29,6 @@ use Rattle.collector_rows.specs.declared.extent.Extent.{Extent}
 use Rattle.collector_rows.specs.Extent.{next_loaded, extent_after}
 use Rattle.collector_rows.specs.ControlReady.{is_ready}
 use Rattle.step_core.specs.Standing.{control_standing}
-use Rattle.step_core.proofs.Helpers.Stable.{is_off}
 use Rattle.heap_words.specs.Ranges.{seat_count}
 
 -- a choice of two spots at which it stands so
@@ -36,7 +36,7 @@ either : (f : Standing → Bool) (holds : Bool) (spot other_spot : ControlSpot) 
 either f true spot other_spot is_x is_y = is_x
 either f false spot other_spot is_x is_y = is_y
 
-stopping_standing : (config : Config) (phase : ℕ) (at : StopSpot) → control_standing (stopping config phase at) ≡ stop_standing at
+stopping_standing : (config : Config) (phase : ℕ) (spot : StopSpot) → control_standing (stopping config phase spot) ≡ stop_standing spot
 stopping_standing config phase stop.Raise = refl
 stopping_standing config phase (stop.Check seat) = refl
 stopping_standing config phase stop.Stopped = refl
@@ -46,14 +46,14 @@ loads_on : (config : Config) (extent : Extent) (index : ℕ) → is_pausing (con
 loads_on config extent index = either is_pausing (nat_lt (next_loaded config extent index) (image_words config)) (LoadWord (next_loaded config extent index) extent) (StoreWord 0 extent) refl refl
 
 -- where it works on a unit, or has done so, no pause is wanted yet
-unit_free : (at : UnitSpot) → is_free (control_standing (after_unit at)) ≡ true
+unit_free : (spot : UnitSpot) → is_free (control_standing (after_unit spot)) ≡ true
 unit_free (Ended Worked) = refl
 unit_free (Ended NoneLeft) = refl
 unit_free _ = refl
 
 -- the access of a unit is of a word of the image
-pub unit_above : (config : Config) (seat : ℕ) (at : UnitSpot) → seat < seat_count config.mutators config.helpers → unit.is_ready config seat at ≡ true → image_start config ≤ table_index (placed config (units.touch_at config seat at))
-unit_above config seat at seated ready = placed_above config (units.touch_at config seat at) (unit_inside config seat at seated ready) (unit_image config seat at)
+pub unit_above : (config : Config) (seat : ℕ) (spot : UnitSpot) → seat < seat_count config.mutators config.helpers → unit.is_ready config seat spot ≡ true → image_start config ≤ table_index (placed config (units.touch_at config seat spot))
+unit_above config seat spot seated ready = placed_above config (units.touch_at config seat spot) (unit_inside config seat spot seated ready) (unit_image config seat spot)
 
 pub control_obeys : (config : Config) (seat phase cset seen next value : ℕ) (spot : ControlSpot) → is_ready config spot ≡ true
     → Obeys config seat (control_standing spot) (access_with config spot value) (λ got. control_standing (next_spot config phase cset seen next spot got))
@@ -64,29 +64,29 @@ control_obeys config seat phase cset seen next value LookAsked ready = record {
   goes_on = λ got. either is_free (begins_pause phase got) (Stopping stop.Raise) (unasked phase cset) refl (either is_free (nat_eq phase 0) LookFree (Working (units.begins phase cset)) refl refl);
 }
 control_obeys config seat phase cset seen next value LookFree ready = record { elsewhere = placed_elsewhere config (touch Free loads) tt refl; goes_on = λ got. either is_free (wants_pause config seen got) (Stopping stop.Raise) LookLeft refl refl }
-control_obeys config seat phase cset seen next value (Working at) ready = record {
-  elsewhere = image_elsewhere config (placed config (units.touch_at config (control_seat config) at)) (unit_above config (control_seat config) at (omega arith) (and_parts _ _ ready).0);
-  goes_on = λ got. unit_free (units.next_at config at got);
+control_obeys config seat phase cset seen next value (Working spot) ready = record {
+  elsewhere = image_elsewhere config (placed config (units.touch_at config (control_seat config) spot)) (unit_above config (control_seat config) spot (omega arith) (and_parts _ _ ready).0);
+  goes_on = λ got. unit_free (units.next_at config spot got);
 }
-control_obeys config seat phase cset seen next value (Stopping at) ready =
-    obeys_same config seat (stop_standing at) _ (λ got. stop_standing (stop_next config at got)) _ (λ got. stopping_standing config phase (stop_next config at got))
-    (stop_obeys config seat at (is_off (is_stopped at) (and_parts (touch_fits config (stop_touch at)) (if is_stopped at then false else true) ready).1))
+control_obeys config seat phase cset seen next value (Stopping spot) ready =
+    obeys_same config seat (stop_standing spot) _ (λ got. stop_standing (stop_next config spot got)) _ (λ got. stopping_standing config phase (stop_next config spot got))
+    (stop_obeys config seat spot (false_from_flip (is_stopped spot) (and_parts (touch_fits config (stop_touch spot)) (if is_stopped spot then false else true) ready).1))
 control_obeys config seat phase cset seen next value (LoadWord index extent) ready = record { elsewhere = image_elsewhere config _ (omega arith); goes_on = λ got. loads_on config (extent_after phase index extent got) index }
 control_obeys config seat phase cset seen next value (StoreWord index extent) ready = record { elsewhere = image_elsewhere config _ (omega arith); goes_on = λ got. either is_pausing (nat_lt next (image_words config)) (StoreWord next extent) Go refl refl }
 control_obeys config seat phase cset seen next value Go ready = go_obeys config seat
 control_obeys config seat phase cset seen next value Gone ready = record { elsewhere = placed_elsewhere config (touch Left loads) tt refl; goes_on = λ got. refl }
 
 -- its steps leave the count of the mutators as it is
-stop_counts : (config : Config) (value : ℕ) (at : StopSpot) → Counts config false (access_with config (Stopping at) value) (λ got. false)
+stop_counts : (config : Config) (value : ℕ) (spot : StopSpot) → Counts config false (access_with config (Stopping spot) value) (λ got. false)
 stop_counts config value stop.Raise = inr (record { not_written = inr (λ e. omega (arith, e)); same = λ got. refl })
 stop_counts config value (stop.Check seat) = inr (record { not_written = inl refl; same = λ got. refl })
 stop_counts config value stop.Stopped = inr (record { not_written = inl refl; same = λ got. refl })
 
 pub control_counts : (config : Config) (value : ℕ) (spot : ControlSpot) → is_ready config spot ≡ true → Counts config false (access_with config spot value) (λ got. false)
 control_counts config value StoreEnd ready = inr (record { not_written = inr (λ e. omega (arith, e)); same = λ got. refl })
-control_counts config value (Working at) ready =
-    inr (record { not_written = inr (image_not_left config (placed config (units.touch_at config (control_seat config) at)) (unit_above config (control_seat config) at (omega arith) (and_parts _ _ ready).0)); same = λ got. refl })
-control_counts config value (Stopping at) ready = stop_counts config value at
+control_counts config value (Working spot) ready =
+    inr (record { not_written = inr (image_not_left config (placed config (units.touch_at config (control_seat config) spot)) (unit_above config (control_seat config) spot (omega arith) (and_parts _ _ ready).0)); same = λ got. refl })
+control_counts config value (Stopping spot) ready = stop_counts config value spot
 control_counts config value (StoreWord index extent) ready = inr (record { not_written = inr (image_not_left config (access_with config (StoreWord index extent) value) (omega arith)); same = λ got. refl })
 control_counts config value Go ready = inr (record { not_written = inr (λ e. omega (arith, e)); same = λ got. refl })
 control_counts config value _ ready = inr (record { not_written = inl refl; same = λ got. refl })

@@ -56,12 +56,12 @@ module _ (config : Config) (mutator : Mutating) (given : Order) where
   first_not order.End given = inr (λ e. omega (arith, e))
   first_not (order.Hint address) given = absurd given
 
-  enter_not : (at : EnterSpot) (next : Entered) → NotEnd (Entering at next)
+  enter_not : (spot : EnterSpot) (next : Entered) → NotEnd (Entering spot next)
   enter_not enter.Raise next = inr (λ e. omega (arith, e))
   enter_not enter.Lower next = inr (λ e. omega (arith, e))
   enter_not _ next = inl refl
 
-  wait_not : (at : WaitSpot) → IsWord config (touch_at config mutator.seat mutator.made mutator.kept given (Waiting at)).word → NotEnd (Waiting at)
+  wait_not : (spot : WaitSpot) → IsWord config (touch_at config mutator.seat mutator.made mutator.kept given (Waiting spot)).word → NotEnd (Waiting spot)
   wait_not wait.StepOut word = inr (λ e. omega (arith, e))
   wait_not wait.Poll word = inl refl
   wait_not wait.StoreRequest word = of_image (Waiting wait.StoreRequest) (waits_in config mutator given wait.StoreRequest refl) word
@@ -74,20 +74,20 @@ module _ (config : Config) (mutator : Mutating) (given : Order) where
   not_end Rest takes going word = first_not given (given_order config mutator given given takes)
   not_end (Ended reply) takes going word = first_not given (given_ended config mutator given reply given takes)
   not_end Gone takes going word = absurd (cc (takes))
-  not_end (Entering at next) takes going word = enter_not at next
-  not_end (Waiting at) takes going word = wait_not at word
+  not_end (Entering spot next) takes going word = enter_not spot next
+  not_end (Waiting spot) takes going word = wait_not spot word
   not_end (Leave reply) takes going word = inr (λ e. omega (arith, e))
   not_end LoadPhase takes going word = of_image LoadPhase (stays_in config mutator given LoadPhase going refl) word
   not_end LoadSet takes going word = of_image LoadSet (stays_in config mutator given LoadSet going refl) word
-  not_end (Loading at) takes going word = of_image (Loading at) (stays_in config mutator given (Loading at) going refl) word
-  not_end (OnField object at) takes going word = of_image (OnField object at) (stays_in config mutator given (OnField object at) going refl) word
-  not_end (Resolving address at next) takes going word = of_image (Resolving address at next) (stays_in config mutator given (Resolving address at next) going refl) word
-  not_end (Recording at address next) takes going word = of_image (Recording at address next) (stays_in config mutator given (Recording at address next) going refl) word
-  not_end (OnNumber object refs at) takes going word = of_image (OnNumber object refs at) (stays_in config mutator given (OnNumber object refs at) going refl) word
-  not_end (Showing value at) takes going word = of_image (Showing value at) (stays_in config mutator given (Showing value at) going refl) word
+  not_end (Loading spot) takes going word = of_image (Loading spot) (stays_in config mutator given (Loading spot) going refl) word
+  not_end (OnField object spot) takes going word = of_image (OnField object spot) (stays_in config mutator given (OnField object spot) going refl) word
+  not_end (Resolving address spot next) takes going word = of_image (Resolving address spot next) (stays_in config mutator given (Resolving address spot next) going refl) word
+  not_end (Recording spot address next) takes going word = of_image (Recording spot address next) (stays_in config mutator given (Recording spot address next) going refl) word
+  not_end (OnNumber object refs spot) takes going word = of_image (OnNumber object refs spot) (stays_in config mutator given (OnNumber object refs spot) going refl) word
+  not_end (Showing value spot) takes going word = of_image (Showing value spot) (stays_in config mutator given (Showing value spot) going refl) word
   not_end (StoreRoot value) takes going word = of_image (StoreRoot value) (stays_in config mutator given (StoreRoot value) going refl) word
-  not_end (Making at) takes going word = of_image (Making at) (stays_in config mutator given (Making at) going refl) word
-  not_end (Pinning value at) takes going word = of_image (Pinning value at) (stays_in config mutator given (Pinning value at) going refl) word
+  not_end (Making spot) takes going word = of_image (Making spot) (stays_in config mutator given (Making spot) going refl) word
+  not_end (Pinning value spot) takes going word = of_image (Pinning value spot) (stays_in config mutator given (Pinning value spot) going refl) word
   not_end AskCycle takes going word = of_image AskCycle (stays_in config mutator given AskCycle going refl) word
 
 -- a choice of two spots at neither of which the control has ended
@@ -95,7 +95,7 @@ neither : (holds : Bool) (spot other_spot : ControlSpot) → is_gone spot ≡ fa
 neither true spot other_spot is_x is_y = is_x
 neither false spot other_spot is_x is_y = is_y
 
-stopping_goes : (config : Config) (phase : ℕ) (at : StopSpot) → is_gone (stopping config phase at) ≡ false
+stopping_goes : (config : Config) (phase : ℕ) (spot : StopSpot) → is_gone (stopping config phase spot) ≡ false
 stopping_goes config phase stop.Raise = refl
 stopping_goes config phase (stop.Check seat) = refl
 stopping_goes config phase stop.Stopped = refl
@@ -103,13 +103,13 @@ stopping_goes config phase stop.Stopped = refl
 loads_go : (config : Config) (extent : Extent) (index : ℕ) → is_gone (after_load config extent index) ≡ false
 loads_go config extent index = neither (nat_lt (next_loaded config extent index) (image_words config)) (control.LoadWord (next_loaded config extent index) extent) (control.StoreWord 0 extent) refl refl
 
-unit_goes : (at : UnitSpot) → is_gone (after_unit at) ≡ false
+unit_goes : (spot : UnitSpot) → is_gone (after_unit spot) ≡ false
 unit_goes (unit.Ended Worked) = refl
 unit_goes (unit.Ended NoneLeft) = refl
 unit_goes _ = refl
 
 module _ (config : Config) (phase cset seen next value : ℕ) where
-  stop_not : (at : StopSpot) → (is_load (access_with config (control.Stopping at) value) ≡ true) ⊎ (table_index (access_with config (control.Stopping at) value) ≢ word_at config End)
+  stop_not : (spot : StopSpot) → (is_load (access_with config (control.Stopping spot) value) ≡ true) ⊎ (table_index (access_with config (control.Stopping spot) value) ≢ word_at config End)
   stop_not stop.Raise = inr (λ e. omega (arith, e))
   stop_not _ = inl refl
 
@@ -122,10 +122,10 @@ module _ (config : Config) (phase cset seen next value : ℕ) where
     same = λ got. neither (begins_pause phase got) (control.Stopping stop.Raise) (unasked phase cset) refl (neither (phase == 0) control.LookFree (control.Working (units.begins phase cset)) refl refl);
   })
   control_keeps_end control.LookFree ready = inr (record { not_written = inl refl; same = λ got. neither (wants_pause config seen got) (control.Stopping stop.Raise) control.LookLeft refl refl })
-  control_keeps_end (control.Working at) ready =
-      let above = unit_above config (control_seat config) at (omega arith) (and_parts _ _ ready).0 in
-      inr (record { not_written = inr (λ e. omega (arith, e, above)); same = λ got. unit_goes (units.next_at config at got) })
-  control_keeps_end (control.Stopping at) ready = inr (record { not_written = stop_not at; same = λ got. stopping_goes config phase (stop_next config at got) })
+  control_keeps_end (control.Working spot) ready =
+      let above = unit_above config (control_seat config) spot (omega arith) (and_parts _ _ ready).0 in
+      inr (record { not_written = inr (λ e. omega (arith, e, above)); same = λ got. unit_goes (units.next_at config spot got) })
+  control_keeps_end (control.Stopping spot) ready = inr (record { not_written = stop_not spot; same = λ got. stopping_goes config phase (stop_next config spot got) })
   control_keeps_end (control.LoadWord index extent) ready = inr (record { not_written = inl refl; same = λ got. loads_go config (extent_after phase index extent got) index })
   control_keeps_end (control.StoreWord index extent) ready =
       inr (record { not_written = inr (λ e. omega (arith, e)); same = λ got. neither (nat_lt next (image_words config)) (control.StoreWord next extent) control.Go refl refl })

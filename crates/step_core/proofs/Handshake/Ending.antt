@@ -28,17 +28,17 @@ unfolding kind
 event_keeps_end change config stage event can actor is = machine_keeps_end change config event.order actor.machine is.takes (can actor is.here)
 
 -- and each event of a run
-each_keeps_end : (change : Change) → PausesByParts change → (config : Config) (graph : Graph) (stage : Stage Actor) (past : List Entry) (es : List (Event Order)) → Goes config graph stage past
-    → EachKeepsEnd config (kind change config) has_ended stage es
+each_keeps_end : (change : Change) → PausesByParts change → (config : Config) (graph : Graph) (stage : Stage Actor) (past : List Entry) (events : List (Event Order)) → Goes config graph stage past
+    → EachKeepsEnd config (kind change config) has_ended stage events
 each_keeps_end change law config graph stage past [] goes = tt
-each_keeps_end change law config graph stage past (e ∷ es) goes = (
-  event_keeps_end change config stage e (λ a is. can_go config stage.words _ _ e.number a a.machine (goes.follows.machines e.number a is)),
-  each_keeps_end change law config graph (act (kind change config) stage e) (past ++ told config stage e) es (goes_event change law config graph stage past e goes),
+each_keeps_end change law config graph stage past (event ∷ events) goes = (
+  event_keeps_end change config stage event (λ actor is. can_go config stage.words _ _ event.number actor actor.machine (goes.follows.machines event.number actor is)),
+  each_keeps_end change law config graph (act (kind change config) stage event) (past ++ told config stage event) events (goes_event change law config graph stage past event goes),
 )
 
 -- who is idle has not ended
 idle_goes : (phase cset : ℕ) (graph : Graph) (number : ℕ) (machine : Machine) → IsIdle phase cset graph number machine → has_ended_of machine ≡ false
-idle_goes phase cset graph number (controlling k) idle = ap is_gone idle.0
+idle_goes phase cset graph number (controlling control) idle = ap is_gone idle.0
 idle_goes phase cset graph number _ idle = refl
 
 -- The word of the end is 1 where the control has ended and 0 where it has not, in each stage that events lead to from one in which it is 0.
@@ -48,7 +48,7 @@ run_ends change law config stage graph begins zero events =
     known_run config (kind change config) has_ended stage events
     (record {
       words = begins.words;
-      one = λ k a there has. absurd (true≢false (sym has ∙ idle_goes (view config stage.words Phase) (view config stage.words Cset) graph k a.machine (begins.machines k a there).idle));
+      one = λ number a there has. absurd (true≢false (sym has ∙ idle_goes (view config stage.words Phase) (view config stage.words Cset) graph number a.machine (begins.machines number a there).idle));
       none = λ no. zero;
     })
     (each_keeps_end change law config graph stage [] events (goes_begins config stage graph begins))

@@ -23,7 +23,7 @@ entered_world world seat Lower = world_with world (write world.memory (State sea
 entered_world world seat _ = world
 
 -- what each of these steps owes, whatever its machine counts on
-pub enters : (config : Config) (world : World) (seat : ℕ) (at : EnterSpot) (facts : World → Type 0) → Shared config world → facts (entered_world world seat at) → PartStep config world seat (enter_touch seat at) facts
+pub enters : (config : Config) (world : World) (seat : ℕ) (spot : EnterSpot) (facts : World → Type 0) → Shared config world → facts (entered_world world seat spot) → PartStep config world seat (enter_touch seat spot) facts
 enters config world seat Raise facts shared own = store_step config world seat (State seat) 1 facts refl (states_stay world seat 1) shared own
 enters config world seat Look facts shared own = load_step config world seat Pause facts shared own
 enters config world seat Lower facts shared own = store_step config world seat (State seat) 0 facts refl (states_stay world seat 0) shared own

@@ -2,6 +2,7 @@
 use Rattle.std.proofs.Common.{◌≡◌, ◌≢◌, ℕ, ◌≤◌, ◌⊎◌, Bool, true, false, refl, arith, inl, inr, ◌+◌, ◌<◌}
 use Rattle.std.specs.Prelude.{nat_eq, if◌then◌else◌}
 use Rattle.std.proofs.lemmas.Bool.{and_parts}
+use Rattle.shen_graph.proofs.Bools.{false_from_flip}
 use Rattle.heap_words.specs.declared.config.Config.{Config}
 use Rattle.heap_words.specs.Access.{table_index}
 use Rattle.heap_words.specs.Words.{End, Phase, Cset, word_at, image_start}
@@ -22,15 +23,14 @@ use Rattle.collector_rows.specs.HelperRows.{is_gone, touch_at, after_enter, afte
 use Rattle.collector_rows.specs.HelperReady.{spot_fits}
 use Rattle.step_core.specs.Standing.{help_standing}
 use Rattle.step_core.proofs.Handshake.Control.{unit_above}
-use Rattle.step_core.proofs.Helpers.Stable.{is_off}
 
 -- where it enters it stands as who enters
-enter_same : (at : EnterSpot) → help_standing (after_enter at) ≡ enter_standing at
+enter_same : (spot : EnterSpot) → help_standing (after_enter spot) ≡ enter_standing spot
 enter_same enter.Inside = refl
 enter_same _ = refl
 
 -- where it works on a unit, or has done so, it is in the heap
-unit_within : (at : UnitSpot) → is_within (help_standing (after_unit at)) ≡ true
+unit_within : (spot : UnitSpot) → is_within (help_standing (after_unit spot)) ≡ true
 unit_within (Ended unit) = refl
 unit_within _ = refl
 
@@ -44,17 +44,17 @@ module _ (config : Config) (seat : ℕ) (seated : seat < config.mutators + confi
   within_both false phase = refl
 
   -- the access of a unit is of a word of the image
-  above : (at : UnitSpot) → spot_fits config seat (Working at) ≡ true → image_start config ≤ table_index (placed config (units.touch_at config seat at))
-  above at fits = unit_above config seat at (omega (arith, seated)) (and_parts _ _ fits).0
+  above : (spot : UnitSpot) → spot_fits config seat (Working spot) ≡ true → image_start config ≤ table_index (placed config (units.touch_at config seat spot))
+  above spot fits = unit_above config seat spot (omega (arith, seated)) (and_parts _ _ fits).0
 
   -- a helper that has not ended obeys
   pub help_obeys : (spot : HelpSpot) → spot_fits config seat spot ≡ true → is_gone spot ≡ false → Obeys config seat (help_standing spot) (placed config (touch_at config seat spot)) (λ got. help_standing (next_spot config spot got))
   help_obeys LoadEnd fits going = inr (record { harmless = inl refl; next_is = λ got. outside_both (nat_eq got 1) })
-  help_obeys (Entering at) fits going =
-      obeys_same config seat (enter_standing at) _ (λ got. enter_standing (enter_next at got)) _ (λ got. enter_same (enter_next at got)) (enter_obeys config seat at (is_off (is_entered at) fits))
+  help_obeys (Entering spot) fits going =
+      obeys_same config seat (enter_standing spot) _ (λ got. enter_standing (enter_next spot got)) _ (λ got. enter_same (enter_next spot got)) (enter_obeys config seat spot (false_from_flip (is_entered spot) fits))
   help_obeys LoadPhase fits going = record { elsewhere = placed_elsewhere config (touch Phase loads) tt refl; goes_on = λ got. within_both (nat_eq got 0) got }
   help_obeys (LoadSet phase) fits going = record { elsewhere = placed_elsewhere config (touch Cset loads) tt refl; goes_on = λ got. refl }
-  help_obeys (Working at) fits going = record { elsewhere = image_elsewhere config (placed config (units.touch_at config seat at)) (above at fits); goes_on = λ got. unit_within (units.next_at config at got) }
+  help_obeys (Working spot) fits going = record { elsewhere = image_elsewhere config (placed config (units.touch_at config seat spot)) (above spot fits); goes_on = λ got. unit_within (units.next_at config spot got) }
   help_obeys Leave fits going = leave_obeys config seat
   help_obeys Gone fits going = absurd (cc (going))
 
@@ -63,7 +63,7 @@ module _ (config : Config) (seat : ℕ) (seated : seat < config.mutators + confi
   help_counts (Entering enter.Raise) fits = inr (record { not_written = inr (λ e. omega (arith, e)); same = λ got. refl })
   help_counts (Entering enter.Lower) fits = inr (record { not_written = inr (λ e. omega (arith, e)); same = λ got. refl })
   help_counts (Entering _) fits = inr (record { not_written = inl refl; same = λ got. refl })
-  help_counts (Working at) fits = inr (record { not_written = inr (image_not_left config (placed config (units.touch_at config seat at)) (above at fits)); same = λ got. refl })
+  help_counts (Working spot) fits = inr (record { not_written = inr (image_not_left config (placed config (units.touch_at config seat spot)) (above spot fits)); same = λ got. refl })
   help_counts Leave fits = inr (record { not_written = inr (λ e. omega (arith, e)); same = λ got. refl })
   help_counts _ fits = inr (record { not_written = inl refl; same = λ got. refl })
 
@@ -72,6 +72,6 @@ module _ (config : Config) (seat : ℕ) (seated : seat < config.mutators + confi
   help_not_end (Entering enter.Raise) fits = inr (λ e. omega (arith, e))
   help_not_end (Entering enter.Lower) fits = inr (λ e. omega (arith, e))
   help_not_end (Entering _) fits = inl refl
-  help_not_end (Working at) fits = inr (λ e. (let high = above at fits in omega (arith, e, high)))
+  help_not_end (Working spot) fits = inr (λ e. (let high = above spot fits in omega (arith, e, high)))
   help_not_end Leave fits = inr (λ e. omega (arith, e))
   help_not_end _ fits = inl refl

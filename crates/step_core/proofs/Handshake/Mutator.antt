@@ -63,24 +63,24 @@ in_heap_left : (spot : Spot) → in_heap spot ≡ true → has_not_ended spot �
 in_heap_left Gone is = absurd (cc (is))
 in_heap_left _ is = refl
 
-entering_left : (next : Entered) (at : EnterSpot) → has_not_ended (after_enter next at) ≡ true
+entering_left : (next : Entered) (spot : EnterSpot) → has_not_ended (after_enter next spot) ≡ true
 entering_left Call Inside = refl
 entering_left Waited Inside = refl
 entering_left next _ = refl
 
-enter_same : (next : Entered) (at : EnterSpot) → standing_at (after_enter next at) ≡ enter_standing at
+enter_same : (next : Entered) (spot : EnterSpot) → standing_at (after_enter next spot) ≡ enter_standing spot
 enter_same Call Inside = refl
 enter_same Waited Inside = refl
 enter_same next _ = refl
 
 -- the words that parts access are of the image
-load_image : (config : Config) (seat made : ℕ) (kept : Kept) (order : Order) (at : LoadSpot) → is_image (touch_at config seat made kept order (Loading at)).word ≡ true
+load_image : (config : Config) (seat made : ℕ) (kept : Kept) (order : Order) (spot : LoadSpot) → is_image (touch_at config seat made kept order (Loading spot)).word ≡ true
 load_image config seat made kept order load.First = refl
 load_image config seat made kept order (load.Second first) = refl
 load_image config seat made kept order (load.Third first second) = refl
 load_image config seat made kept order (load.Shape object second third) = refl
 
-field_image : (config : Config) (seat made object : ℕ) (kept : Kept) (order : Order) (at : FieldSpot) → is_image (touch_at config seat made kept order (OnField object at)).word ≡ true
+field_image : (config : Config) (seat made object : ℕ) (kept : Kept) (order : Order) (spot : FieldSpot) → is_image (touch_at config seat made kept order (OnField object spot)).word ≡ true
 field_image config seat made object kept order fields.Load = refl
 field_image config seat made object kept order (fields.LoadExpected expect value) = refl
 field_image config seat made object kept order (fields.LoadOld value) = refl
@@ -88,7 +88,7 @@ field_image config seat made object kept order (fields.Store value) = refl
 field_image config seat made object kept order (fields.Swap value) = refl
 field_image config seat made object kept order (fields.Exchange found expect value) = refl
 
-record_image : (config : Config) (seat made address : ℕ) (kept : Kept) (order : Order) (at : RememberSpot) (next : Overwritten) → is_image (touch_at config seat made kept order (Recording at address next)).word ≡ true
+record_image : (config : Config) (seat made address : ℕ) (kept : Kept) (order : Order) (spot : RememberSpot) (next : Overwritten) → is_image (touch_at config seat made kept order (Recording spot address next)).word ≡ true
 record_image config seat made address kept order LoadCount next = refl
 record_image config seat made address kept order (LoadEntry entry) next = refl
 record_image config seat made address kept order (MarkEntry entry found) next = refl
@@ -97,25 +97,25 @@ record_image config seat made address kept order (StoreEntry entry) next = refl
 record_image config seat made address kept order (StoreCount entry) next = refl
 record_image config seat made address kept order Recorded next = refl
 
-number_image : (config : Config) (seat made object refs : ℕ) (kept : Kept) (order : Order) (at : NumberSpot) → is_image (touch_at config seat made kept order (OnNumber object refs at)).word ≡ true
+number_image : (config : Config) (seat made object refs : ℕ) (kept : Kept) (order : Order) (spot : NumberSpot) → is_image (touch_at config seat made kept order (OnNumber object refs spot)).word ≡ true
 number_image config seat made object refs kept order number.Load = refl
 number_image config seat made object refs kept order number.Store = refl
 
-show_image : (config : Config) (seat made value : ℕ) (kept : Kept) (order : Order) (at : ShowSpot) → is_image (touch_at config seat made kept order (Showing value at)).word ≡ true
+show_image : (config : Config) (seat made value : ℕ) (kept : Kept) (order : Order) (spot : ShowSpot) → is_image (touch_at config seat made kept order (Showing value spot)).word ≡ true
 show_image config seat made value kept order show.LoadName = refl
 show_image config seat made value kept order (show.StoreRoot reply) = refl
 
-pin_image : (config : Config) (seat made value : ℕ) (kept : Kept) (order : Order) (at : PinSpot) → is_image (touch_at config seat made kept order (Pinning value at)).word ≡ true
+pin_image : (config : Config) (seat made value : ℕ) (kept : Kept) (order : Order) (spot : PinSpot) → is_image (touch_at config seat made kept order (Pinning value spot)).word ≡ true
 pin_image config seat made value kept order pins.Look = refl
 pin_image config seat made value kept order pins.Store = refl
 
-make_image : (config : Config) (seat made : ℕ) (kept : Kept) (order : Order) (at : MakeSpot) → is_image (touch_at config seat made kept order (Making at)).word ≡ true
+make_image : (config : Config) (seat made : ℕ) (kept : Kept) (order : Order) (spot : MakeSpot) → is_image (touch_at config seat made kept order (Making spot)).word ≡ true
 make_image config seat made kept order (make.Taking take) = in_image seat (words_made kept.command) take
 make_image config seat made kept order (make.StoreWord address done) = refl
 make_image config seat made kept order (make.StoreRoot address) = refl
 
 -- a mutator that enters is not inside yet
-not_entered : (at : EnterSpot) → is_still_outside at ≡ true → is_entered at ≡ false
+not_entered : (spot : EnterSpot) → is_still_outside spot ≡ true → is_entered spot ≡ false
 not_entered Inside on = absurd (cc (on))
 not_entered _ on = refl
 
@@ -150,7 +150,7 @@ module _ (config : Config) (mutator : Mutating) (order : Order) where
     pub image : is_image (touch_at config mutator.seat mutator.made mutator.kept order spot).word ≡ true
     pub next : (got : ℕ) → in_heap (next_of config (record mutator { spot = spot }) order got).spot ≡ true
 
-  pub waits_in : (at : WaitSpot) → wait_standing at ≡ inside → StaysIn (Waiting at)
+  pub waits_in : (spot : WaitSpot) → wait_standing spot ≡ inside → StaysIn (Waiting spot)
   waits_in wait.StepOut is = absurd (cc (is))
   waits_in wait.Poll is = absurd (cc (is))
   waits_in wait.LoadAnswer is = record { image = refl; next = λ got. goes_on_in config mutator order got (Waiting wait.LoadAnswer) is }
@@ -159,7 +159,7 @@ module _ (config : Config) (mutator : Mutating) (order : Order) where
   waits_in (wait.StoreRoot address) is = record { image = refl; next = λ got. refl }
   waits_in (wait.ClearAnswer reply) is = record { image = refl; next = λ got. refl }
 
-  not_inside : (at : EnterSpot) → is_still_outside at ≡ true → enter_standing at ≡ inside → ⊥
+  not_inside : (spot : EnterSpot) → is_still_outside spot ≡ true → enter_standing spot ≡ inside → ⊥
   not_inside Inside on is = absurd (cc (on))
   not_inside Raise on is = cc
   not_inside Look on is = cc
@@ -169,18 +169,18 @@ module _ (config : Config) (mutator : Mutating) (order : Order) where
   pub stays_in : (spot : Spot) → numbers_fit config mutator.seat mutator.made mutator.kept spot ≡ true → standing_at spot ≡ inside → StaysIn spot
   stays_in LoadPhase on is = record { image = refl; next = λ got. goes_on_in config mutator order got LoadPhase is }
   stays_in LoadSet on is = record { image = refl; next = λ got. goes_on_in config mutator order got LoadSet is }
-  stays_in (Loading at) on is = record { image = load_image config mutator.seat mutator.made mutator.kept order at; next = λ got. goes_on_in config mutator order got (Loading at) is }
-  stays_in (OnField object at) on is = record { image = field_image config mutator.seat mutator.made object mutator.kept order at; next = λ got. goes_on_in config mutator order got (OnField object at) is }
-  stays_in (Resolving address at next) on is = record { image = resolve_image config mutator.seat address at; next = λ got. goes_on_in config mutator order got (Resolving address at next) is }
-  stays_in (Recording at address next) on is = record { image = record_image config mutator.seat mutator.made address mutator.kept order at next; next = λ got. goes_on_in config mutator order got (Recording at address next) is }
-  stays_in (OnNumber object refs at) on is = record { image = number_image config mutator.seat mutator.made object refs mutator.kept order at; next = λ got. goes_on_in config mutator order got (OnNumber object refs at) is }
-  stays_in (Showing value at) on is = record { image = show_image config mutator.seat mutator.made value mutator.kept order at; next = λ got. goes_on_in config mutator order got (Showing value at) is }
+  stays_in (Loading spot) on is = record { image = load_image config mutator.seat mutator.made mutator.kept order spot; next = λ got. goes_on_in config mutator order got (Loading spot) is }
+  stays_in (OnField object spot) on is = record { image = field_image config mutator.seat mutator.made object mutator.kept order spot; next = λ got. goes_on_in config mutator order got (OnField object spot) is }
+  stays_in (Resolving address spot next) on is = record { image = resolve_image config mutator.seat address spot; next = λ got. goes_on_in config mutator order got (Resolving address spot next) is }
+  stays_in (Recording spot address next) on is = record { image = record_image config mutator.seat mutator.made address mutator.kept order spot next; next = λ got. goes_on_in config mutator order got (Recording spot address next) is }
+  stays_in (OnNumber object refs spot) on is = record { image = number_image config mutator.seat mutator.made object refs mutator.kept order spot; next = λ got. goes_on_in config mutator order got (OnNumber object refs spot) is }
+  stays_in (Showing value spot) on is = record { image = show_image config mutator.seat mutator.made value mutator.kept order spot; next = λ got. goes_on_in config mutator order got (Showing value spot) is }
   stays_in (StoreRoot value) on is = record { image = refl; next = λ got. goes_on_in config mutator order got (StoreRoot value) is }
-  stays_in (Making at) on is = record { image = make_image config mutator.seat mutator.made mutator.kept order at; next = λ got. goes_on_in config mutator order got (Making at) is }
-  stays_in (Pinning value at) on is = record { image = pin_image config mutator.seat mutator.made value mutator.kept order at; next = λ got. goes_on_in config mutator order got (Pinning value at) is }
+  stays_in (Making spot) on is = record { image = make_image config mutator.seat mutator.made mutator.kept order spot; next = λ got. goes_on_in config mutator order got (Making spot) is }
+  stays_in (Pinning value spot) on is = record { image = pin_image config mutator.seat mutator.made value mutator.kept order spot; next = λ got. goes_on_in config mutator order got (Pinning value spot) is }
   stays_in AskCycle on is = record { image = refl; next = λ got. goes_on_in config mutator order got AskCycle is }
-  stays_in (Waiting at) on is = waits_in at is
-  stays_in (Entering at next) on is = absurd (not_inside at on is)
+  stays_in (Waiting spot) on is = waits_in spot is
+  stays_in (Entering spot next) on is = absurd (not_inside spot on is)
   stays_in Rest on is = absurd (cc (is))
   stays_in (Ended reply) on is = absurd (cc (is))
   stays_in Gone on is = absurd (cc (is))
@@ -195,7 +195,7 @@ module _ (config : Config) (mutator : Mutating) (order : Order) where
   polls true = refl
   polls false = refl
 
-  waits_obey : (at : WaitSpot) → IsWord config (touch_at config mutator.seat mutator.made mutator.kept order (Waiting at)).word → ObeysAt (Waiting at)
+  waits_obey : (spot : WaitSpot) → IsWord config (touch_at config mutator.seat mutator.made mutator.kept order (Waiting spot)).word → ObeysAt (Waiting spot)
   waits_obey wait.StepOut word = record { access_is = refl; next_is = λ got. refl }
   waits_obey wait.Poll word = inr (record { harmless = inl refl; next_is = λ got. polls (nat_eq got 0) })
   waits_obey wait.StoreRequest word = on (Waiting wait.StoreRequest) (waits_in wait.StoreRequest refl) word
@@ -220,22 +220,22 @@ module _ (config : Config) (mutator : Mutating) (order : Order) where
   spot_obeys Rest takes going word = begins config (record mutator { spot = Rest }) order (given_order order takes)
   spot_obeys (Ended reply) takes going word = begins config (record mutator { spot = Ended reply }) order (given_ended reply order takes)
   spot_obeys Gone takes going word = absurd (cc (takes))
-  spot_obeys (Entering at next) takes going word =
-      obeys_same config mutator.seat (enter_standing at) _ (λ got. enter_standing (enter_next at got)) _ (λ got. enter_same next (enter_next at got))
-      (enter_obeys config mutator.seat at (not_entered at going))
-  spot_obeys (Waiting at) takes going word = waits_obey at word
+  spot_obeys (Entering spot next) takes going word =
+      obeys_same config mutator.seat (enter_standing spot) _ (λ got. enter_standing (enter_next spot got)) _ (λ got. enter_same next (enter_next spot got))
+      (enter_obeys config mutator.seat spot (not_entered spot going))
+  spot_obeys (Waiting spot) takes going word = waits_obey spot word
   spot_obeys (Leave reply) takes going word = record { access_is = refl; next_is = λ got. refl }
   spot_obeys LoadPhase takes going word = on LoadPhase (stays_in LoadPhase going refl) word
   spot_obeys LoadSet takes going word = on LoadSet (stays_in LoadSet going refl) word
-  spot_obeys (Loading at) takes going word = on (Loading at) (stays_in (Loading at) going refl) word
-  spot_obeys (OnField object at) takes going word = on (OnField object at) (stays_in (OnField object at) going refl) word
-  spot_obeys (Resolving address at next) takes going word = on (Resolving address at next) (stays_in (Resolving address at next) going refl) word
-  spot_obeys (Recording at address next) takes going word = on (Recording at address next) (stays_in (Recording at address next) going refl) word
-  spot_obeys (OnNumber object refs at) takes going word = on (OnNumber object refs at) (stays_in (OnNumber object refs at) going refl) word
-  spot_obeys (Showing value at) takes going word = on (Showing value at) (stays_in (Showing value at) going refl) word
+  spot_obeys (Loading spot) takes going word = on (Loading spot) (stays_in (Loading spot) going refl) word
+  spot_obeys (OnField object spot) takes going word = on (OnField object spot) (stays_in (OnField object spot) going refl) word
+  spot_obeys (Resolving address spot next) takes going word = on (Resolving address spot next) (stays_in (Resolving address spot next) going refl) word
+  spot_obeys (Recording spot address next) takes going word = on (Recording spot address next) (stays_in (Recording spot address next) going refl) word
+  spot_obeys (OnNumber object refs spot) takes going word = on (OnNumber object refs spot) (stays_in (OnNumber object refs spot) going refl) word
+  spot_obeys (Showing value spot) takes going word = on (Showing value spot) (stays_in (Showing value spot) going refl) word
   spot_obeys (StoreRoot value) takes going word = on (StoreRoot value) (stays_in (StoreRoot value) going refl) word
-  spot_obeys (Making at) takes going word = on (Making at) (stays_in (Making at) going refl) word
-  spot_obeys (Pinning value at) takes going word = on (Pinning value at) (stays_in (Pinning value at) going refl) word
+  spot_obeys (Making spot) takes going word = on (Making spot) (stays_in (Making spot) going refl) word
+  spot_obeys (Pinning value spot) takes going word = on (Pinning value spot) (stays_in (Pinning value spot) going refl) word
   spot_obeys AskCycle takes going word = on AskCycle (stays_in AskCycle going refl) word
 
   -- what it does to the count of the mutators that have not ended
@@ -249,7 +249,7 @@ module _ (config : Config) (mutator : Mutating) (order : Order) where
   })
 
   -- a step of no part in the heap that writes a state word or only reads
-  enter_counts : (next : Entered) (at : EnterSpot) → CountsAt (Entering at next)
+  enter_counts : (next : Entered) (spot : EnterSpot) → CountsAt (Entering spot next)
   enter_counts next Raise = inr (record { not_written = inr (λ e. omega (arith, e)); same = λ got. entering_left next Look })
   enter_counts next Look = inr (record { not_written = inl refl; same = λ got. entering_left next (enter_next Look got) })
   enter_counts next Lower = inr (record { not_written = inr (λ e. omega (arith, e)); same = λ got. entering_left next Await })
@@ -260,7 +260,7 @@ module _ (config : Config) (mutator : Mutating) (order : Order) where
   polls_left true = refl
   polls_left false = refl
 
-  waits_count : (at : WaitSpot) → IsWord config (touch_at config mutator.seat mutator.made mutator.kept order (Waiting at)).word → CountsAt (Waiting at)
+  waits_count : (spot : WaitSpot) → IsWord config (touch_at config mutator.seat mutator.made mutator.kept order (Waiting spot)).word → CountsAt (Waiting spot)
   waits_count wait.StepOut word = inr (record { not_written = inr (λ e. omega (arith, e)); same = λ got. refl })
   waits_count wait.Poll word = inr (record { not_written = inl refl; same = λ got. polls_left (nat_eq got 0) })
   waits_count wait.StoreRequest word = counts_in (Waiting wait.StoreRequest) (waits_in wait.StoreRequest refl) refl word
@@ -273,20 +273,20 @@ module _ (config : Config) (mutator : Mutating) (order : Order) where
   spot_counts Rest takes going word = begins_count config (record mutator { spot = Rest }) order (given_order order takes)
   spot_counts (Ended reply) takes going word = begins_count config (record mutator { spot = Ended reply }) order (given_ended reply order takes)
   spot_counts Gone takes going word = absurd (cc (takes))
-  spot_counts (Entering at next) takes going word = enter_counts next at
-  spot_counts (Waiting at) takes going word = waits_count at word
+  spot_counts (Entering spot next) takes going word = enter_counts next spot
+  spot_counts (Waiting spot) takes going word = waits_count spot word
   spot_counts (Leave reply) takes going word = inr (record { not_written = inr (λ e. omega (arith, e)); same = λ got. refl })
   spot_counts LoadPhase takes going word = counts_in LoadPhase (stays_in LoadPhase going refl) refl word
   spot_counts LoadSet takes going word = counts_in LoadSet (stays_in LoadSet going refl) refl word
-  spot_counts (Loading at) takes going word = counts_in (Loading at) (stays_in (Loading at) going refl) refl word
-  spot_counts (OnField object at) takes going word = counts_in (OnField object at) (stays_in (OnField object at) going refl) refl word
-  spot_counts (Resolving address at next) takes going word = counts_in (Resolving address at next) (stays_in (Resolving address at next) going refl) refl word
-  spot_counts (Recording at address next) takes going word = counts_in (Recording at address next) (stays_in (Recording at address next) going refl) refl word
-  spot_counts (OnNumber object refs at) takes going word = counts_in (OnNumber object refs at) (stays_in (OnNumber object refs at) going refl) refl word
-  spot_counts (Showing value at) takes going word = counts_in (Showing value at) (stays_in (Showing value at) going refl) refl word
+  spot_counts (Loading spot) takes going word = counts_in (Loading spot) (stays_in (Loading spot) going refl) refl word
+  spot_counts (OnField object spot) takes going word = counts_in (OnField object spot) (stays_in (OnField object spot) going refl) refl word
+  spot_counts (Resolving address spot next) takes going word = counts_in (Resolving address spot next) (stays_in (Resolving address spot next) going refl) refl word
+  spot_counts (Recording spot address next) takes going word = counts_in (Recording spot address next) (stays_in (Recording spot address next) going refl) refl word
+  spot_counts (OnNumber object refs spot) takes going word = counts_in (OnNumber object refs spot) (stays_in (OnNumber object refs spot) going refl) refl word
+  spot_counts (Showing value spot) takes going word = counts_in (Showing value spot) (stays_in (Showing value spot) going refl) refl word
   spot_counts (StoreRoot value) takes going word = counts_in (StoreRoot value) (stays_in (StoreRoot value) going refl) refl word
-  spot_counts (Making at) takes going word = counts_in (Making at) (stays_in (Making at) going refl) refl word
-  spot_counts (Pinning value at) takes going word = counts_in (Pinning value at) (stays_in (Pinning value at) going refl) refl word
+  spot_counts (Making spot) takes going word = counts_in (Making spot) (stays_in (Making spot) going refl) refl word
+  spot_counts (Pinning value spot) takes going word = counts_in (Pinning value spot) (stays_in (Pinning value spot) going refl) refl word
   spot_counts AskCycle takes going word = counts_in AskCycle (stays_in AskCycle going refl) refl word
 
 -- a mutator that is ready has its numbers in range, and makes an access of a word of the table

@@ -36,13 +36,13 @@ module _ (change : Change) (config : Config) (graph : Graph) (stage : Stage Acto
   abbrev before : Actor
   before = record { machine = helping h; command = command; calls = calls }
 
-  abbrev u : World
-  u = world_of config stage follows.block follows.ghost (after graph past)
+  abbrev world_then : World
+  world_then = world_of config stage follows.block follows.ghost (after graph past)
 
-  abbrev t : Touch
-  t = help_touch config h
+  abbrev touch : Touch
+  touch = help_touch config h
 
-  helper : IsHelper config u number h
+  helper : IsHelper config world_then number h
   helper = follows.machines number before here
 
   below : number < control_number config
@@ -51,18 +51,18 @@ module _ (change : Change) (config : Config) (graph : Graph) (stage : Stage Acto
   not_control : number ≢ control_number config
   not_control = λ e. (let less = below in omega (arith, less, e))
 
-  word : is_word config t.word ≡ true
-  word = is_word_from config t.word (help_word config u number h follows.shared helper)
+  word : is_word config touch.word ≡ true
+  word = is_word_from config touch.word (help_word config world_then number h follows.shared helper)
 
   -- while an image counts it is outside, and its access is of no word of the image
-  left_image : (image : Counting) → held_image config stage ≡ Some image → is_image t.word ≡ false
+  left_image : (image : Counting) → held_image config stage ≡ Some image → is_image touch.word ≡ false
   left_image image held = help_leaves_image config h.seat h.spot (outside_held config stage shaken image held number before below here)
 
   abbrev words_then : List ℕ
-  words_then = words_after config stage.words t
+  words_then = words_after config stage.words touch
 
   image_words_stay : is_within (help_standing h.spot) ≡ false → (i : ℕ) → slice_index words_then (image_start config + i) ≡ slice_index stage.words (image_start config + i)
-  image_words_stay out i = image_kept config stage.words t i word (help_leaves_image config h.seat h.spot out)
+  image_words_stay out i = image_kept config stage.words touch i word (help_leaves_image config h.seat h.spot out)
 
   abbrev new_then : ℕ → Actor
   new_then got = took_of change config before Nothing got (helping h)
@@ -70,14 +70,14 @@ module _ (change : Change) (config : Config) (graph : Graph) (stage : Stage Acto
   pub follows_helper : Follows config graph (moved (kind change config) stage number before Nothing) (past ++ [])
   unfolding kind
   follows_helper =
-      let at : ℕ = table_index (placed config t) in
-      let owes : Owes config stage.words words_then u past number stage.machines (touched u.memory t) [] (new_then (u.memory t.word)) =
-      quiet_owes config stage.words (held_image config stage) follows.block follows.ghost (after graph past) past number stage.machines t follows.words word left_image (new_then (u.memory t.word)) follows.shared follows.promised_to
-      (help_step config u number h follows.shared helper going) (λ k b differs there known. aims_stay config graph stage past follows shaken number before here below words_then image_words_stay k b there) in
-      let found : slice_index stage.words at ≡ u.memory t.word = settled_found config stage.words t (held_image config stage) word left_image in
-      let memory_then : settled config (record { words = words_then; machines = slice_set stage.machines number (new_then (slice_index stage.words at)) }) ≡ touched u.memory t =
-      ap (settled_by config words_then) (other_holds config stage number (new_then (slice_index stage.words at)) not_control) ∙ settled_touched config stage.words t (held_image config stage) word follows.words left_image in
+      let at : ℕ = table_index (placed config touch) in
+      let owes : Owes config stage.words words_then world_then past number stage.machines (touched world_then.memory touch) [] (new_then (world_then.memory touch.word)) =
+      quiet_owes config stage.words (held_image config stage) follows.block follows.ghost (after graph past) past number stage.machines touch follows.words word left_image (new_then (world_then.memory touch.word)) follows.shared follows.promised_to
+      (help_step config world_then number h follows.shared helper going) (λ k b differs there known. aims_stay config graph stage past follows shaken number before here below words_then image_words_stay k b there) in
+      let found : slice_index stage.words at ≡ world_then.memory touch.word = settled_found config stage.words touch (held_image config stage) word left_image in
+      let memory_then : settled config (record { words = words_then; machines = slice_set stage.machines number (new_then (slice_index stage.words at)) }) ≡ touched world_then.memory touch =
+      ap (settled_by config words_then) (other_holds config stage number (new_then (slice_index stage.words at)) not_control) ∙ settled_touched config stage.words touch (held_image config stage) word follows.words left_image in
       follows_owes config graph stage past number before (new_then (slice_index stage.words at)) words_then [] follows
-      (subst (λ memory. Owes config stage.words words_then u past number stage.machines memory [] (new_then (slice_index stage.words at))) (sym memory_then)
-      (subst (λ got. Owes config stage.words words_then u past number stage.machines (touched u.memory t) [] (new_then got)) (sym found) owes))
+      (subst (λ memory. Owes config stage.words words_then world_then past number stage.machines memory [] (new_then (slice_index stage.words at))) (sym memory_then)
+      (subst (λ got. Owes config stage.words words_then world_then past number stage.machines (touched world_then.memory touch) [] (new_then got)) (sym found) owes))
       here (length-set stage.words _ _ ∙ follows.words)

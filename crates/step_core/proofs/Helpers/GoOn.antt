@@ -35,9 +35,9 @@ helper_works_on _ Again is = cc
 -- a helper ends no call
 pub helps_on : (config : Config) (spot : HelpSpot) (got : ℕ) → helpers.says_at config spot got ≡ Done → ⊥
 helps_on config (help.Entering Await) got is = not_done (got == 0) More Again (λ e. cc) (λ e. cc) is
-helps_on config (help.Entering at) got is = cc
+helps_on config (help.Entering spot) got is = cc
 helps_on config help.LoadPhase got is = not_done (got == 0) Again More (λ e. cc) (λ e. cc) is
-helps_on config (help.Working at) got is = helper_works_on (units.next_at config at got) (units.says_at config at got) is
+helps_on config (help.Working spot) got is = helper_works_on (units.next_at config spot got) (units.says_at config spot got) is
 helps_on config _ got is = cc
 
 -- nor does the control
@@ -48,7 +48,7 @@ works_on Again is = cc
 
 pub goes_on : (config : Config) (seen : ℕ) (spot : ControlSpot) (got : ℕ) → says_at config seen spot got ≡ Done → ⊥
 goes_on config seen LookFree got is = not_done (wants_pause config seen got) More Again (λ e. cc) (λ e. cc) is
-goes_on config seen (Working at) got is = works_on (units.says_at config at got) is
+goes_on config seen (Working spot) got is = works_on (units.says_at config spot got) is
 goes_on config seen (Stopping (stop.Check seat)) got is = not_done (got == 0) More Again (λ e. cc) (λ e. cc) is
-goes_on config seen (Stopping at) got is = cc
+goes_on config seen (Stopping spot) got is = cc
 goes_on config seen _ got is = cc

@@ -25,7 +25,7 @@ use Rattle.step_core.proofs.Machines.Roles.{machine_stays}
 promises_stay : (config : Config) (world : World) (seat : ℕ) (touch : Touch) (facts : World → Type 0) → PromisedToMutators config world.block → (step : PartStep config world seat touch facts) → PromisedToMutators config step.world.block
 promises_stay config world seat touch facts promised_to step a other more there = ⊎_elim
     (λ (same : other ≡ seat).
-    promised_to a other more (subst (λ j. world.block a ≡ Some (promised j more)) (sym same) (step.keeps.no_promises a more (subst (λ j. step.world.block a ≡ Some (promised j more)) same there))))
+    promised_to a other more (subst (λ seat. world.block a ≡ Some (promised seat more)) (sym same) (step.keeps.no_promises a more (subst (λ seat. step.world.block a ≡ Some (promised seat more)) same there))))
     (λ (differs : other ≢ seat). promised_to a other more ((step.others other differs).no_promises a more there))
     (cases_eq other seat)
 
@@ -34,16 +34,16 @@ module _ (config : Config) (words : List ℕ) (found : Option Counting) (block :
   abbrev words_then : List ℕ
   words_then = words_after config words touch
 
-  abbrev u : World
-  u = record { memory = settled_by config words found; block = block; ghost = ghost; graph = graph }
+  abbrev world_then : World
+  world_then = record { memory = settled_by config words found; block = block; ghost = ghost; graph = graph }
 
   same_entries : (k : ℕ) → of_thread (past ++ []) (k + 1) ≡ of_thread past (k + 1)
   same_entries k = ap (λ es. of_thread es (k + 1)) (append-nil past)
 
-  pub quiet_owes : Shared config u → PromisedToMutators config block → (step : PartStep config u number touch (λ w. IsMachine config words_then w (of_thread past (number + 1)) number new new.machine))
-      → ((index : ℕ) (actor : Actor) → index ≢ number → slice_get machines index ≡ Some actor → IsMachine config words u (of_thread past (index + 1)) index actor actor.machine → (control : Controlling) → actor.machine ≡ controlling control
+  pub quiet_owes : Shared config world_then → PromisedToMutators config block → (step : PartStep config world_then number touch (λ w. IsMachine config words_then w (of_thread past (number + 1)) number new new.machine))
+      → ((index : ℕ) (actor : Actor) → index ≢ number → slice_get machines index ≡ Some actor → IsMachine config words world_then (of_thread past (index + 1)) index actor actor.machine → (control : Controlling) → actor.machine ≡ controlling control
       → IsAim config words control.spot control.image → IsAim config words_then control.spot control.image)
-      → Owes config words words_then u past number machines (touched u.memory touch) [] new
+      → Owes config words words_then world_then past number machines (touched world_then.memory touch) [] new
   quiet_owes shared promised_to step aims = record {
     world = step.world;
     memory_is = step.memory;
@@ -51,14 +51,14 @@ module _ (config : Config) (words : List ℕ) (found : Option Counting) (block :
     legal = tt;
     entries = All-nil (IsSettled config.mutators);
     shared = step.shared;
-    promised_to = promises_stay config u number touch (λ w. IsMachine config words_then w (of_thread past (number + 1)) number new new.machine) promised_to step;
+    promised_to = promises_stay config world_then number touch (λ w. IsMachine config words_then w (of_thread past (number + 1)) number new new.machine) promised_to step;
     own = subst (λ es. IsMachine config words_then step.world es number new new.machine) (sym (same_entries number)) step.own;
     others = λ index actor differs there known.
-        machine_stays config words words_then u step.world (of_thread past (index + 1)) (of_thread (past ++ []) (index + 1)) index actor actor.machine shared
+        machine_stays config words words_then world_then step.world (of_thread past (index + 1)) (of_thread (past ++ []) (index + 1)) index actor actor.machine shared
         (record {
           rely = step.others index differs;
-          answer = other_raw config words found touch u step.world refl step.memory long is held found refl index (step.others index differs);
-          counts = other_counts config words found touch u step.world refl step.memory long is held (λ image held_so. step.graph) found refl index;
+          answer = other_raw config words found touch world_then step.world refl step.memory long is held found refl index (step.others index differs);
+          counts = other_counts config words found touch world_then step.world refl step.memory long is held (λ image held_so. step.graph) found refl index;
           aims = λ control same. aims index actor differs there known control same;
         })
         (same_entries index) known;

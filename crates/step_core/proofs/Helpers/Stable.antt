@@ -1,6 +1,5 @@
 -- What holds of helpers and of the control by where they stand: it stays while others step, and outside the heap they rest.
-use Rattle.std.proofs.Common.{◌≡◌, ℕ, ◌+◌, ◌<◌, Bool, true, false, refl, sym, ◌∙◌, subst, arith}
-use Rattle.std.specs.Prelude.{if◌then◌else◌}
+use Rattle.std.proofs.Common.{◌≡◌, ℕ, ◌+◌, ◌<◌, true, false, refl, sym, ◌∙◌, subst, arith}
 use Rattle.heap_words.specs.declared.config.Config.{Config}
 use Rattle.heap_words.specs.Words.{IsWord, is_image}
 use Rattle.handshake.specs.declared.enter_spot.EnterSpot.TheVariants as enter
@@ -20,36 +19,31 @@ use Rattle.step_core.proofs.Control.Due.{due_stays}
 use Rattle.step_core.proofs.Machines.Owed.{IsResting, HelpFacts, ControlFacts, IsHelper}
 use Rattle.step_core.proofs.Helpers.Units.{rests_on, work_stays, work_fits}
 
--- a test that has to be off is false
-pub is_off : (holds : Bool) → (if holds then false else true) ≡ true → holds ≡ false
-is_off true off = absurd (cc (off))
-is_off false off = refl
-
 -- what a helper counts on stays
-pub help_stays : (config : Config) (world other_world : World) (seat : ℕ) (spot : HelpSpot) → Shared config world → Rely config seat world other_world → HelpFacts config world seat spot → HelpFacts config other_world seat spot
-help_stays config world other_world seat (Working at) shared rely facts = work_stays config world other_world seat at shared rely facts
-help_stays config world other_world seat (LoadSet phase) shared rely facts = (rests_on config world other_world seat rely facts.0, facts.1, facts.2 ∙ sym rely.marks.keeps.phase)
-help_stays config world other_world seat _ shared rely facts = rests_on config world other_world seat rely facts
+pub help_stays : (config : Config) (world next_world : World) (seat : ℕ) (spot : HelpSpot) → Shared config world → Rely config seat world next_world → HelpFacts config world seat spot → HelpFacts config next_world seat spot
+help_stays config world next_world seat (Working spot) shared rely facts = work_stays config world next_world seat spot shared rely facts
+help_stays config world next_world seat (LoadSet phase) shared rely facts = (rests_on config world next_world seat rely facts.0, facts.1, facts.2 ∙ sym rely.marks.keeps.phase)
+help_stays config world next_world seat _ shared rely facts = rests_on config world next_world seat rely facts
 
 -- and so does what the control counts on
-pub control_stays : (config : Config) (world other_world : World) (seat : ℕ) (spot : ControlSpot) → Shared config world → Rely config seat world other_world → ControlFacts config world seat spot → ControlFacts config other_world seat spot
-control_stays config world other_world seat (control.Working at) shared rely facts = work_stays config world other_world seat at shared rely facts
-control_stays config world other_world seat control.LookFree shared rely facts = (rests_on config world other_world seat rely facts.0, rely.marks.keeps.phase ∙ facts.1)
-control_stays config world other_world seat (control.Stopping at) shared rely facts = (rests_on config world other_world seat rely facts.0, due_stays config world other_world seat rely facts.1)
-control_stays config world other_world seat (control.LoadWord index extent) shared rely facts = (rests_on config world other_world seat rely facts.0, due_stays config world other_world seat rely facts.1)
-control_stays config world other_world seat _ shared rely facts = rests_on config world other_world seat rely facts
+pub control_stays : (config : Config) (world next_world : World) (seat : ℕ) (spot : ControlSpot) → Shared config world → Rely config seat world next_world → ControlFacts config world seat spot → ControlFacts config next_world seat spot
+control_stays config world next_world seat (control.Working spot) shared rely facts = work_stays config world next_world seat spot shared rely facts
+control_stays config world next_world seat control.LookFree shared rely facts = (rests_on config world next_world seat rely facts.0, rely.marks.keeps.phase ∙ facts.1)
+control_stays config world next_world seat (control.Stopping spot) shared rely facts = (rests_on config world next_world seat rely facts.0, due_stays config world next_world seat rely facts.1)
+control_stays config world next_world seat (control.LoadWord index extent) shared rely facts = (rests_on config world next_world seat rely facts.0, due_stays config world next_world seat rely facts.1)
+control_stays config world next_world seat _ shared rely facts = rests_on config world next_world seat rely facts
 
 -- a helper that is not in the heap rests
 pub rests_outside : (config : Config) (world : World) (seat : ℕ) (spot : HelpSpot) → is_within (help_standing spot) ≡ false → HelpFacts config world seat spot → IsResting world seat
 rests_outside config world seat LoadEnd out facts = facts
-rests_outside config world seat (Entering at) out facts = facts
+rests_outside config world seat (Entering spot) out facts = facts
 rests_outside config world seat Gone out facts = facts
 rests_outside config world seat _ out facts = absurd (cc (out))
 
 -- and that is all that it counts on
 pub help_outside : (config : Config) (world : World) (seat : ℕ) (spot : HelpSpot) → is_within (help_standing spot) ≡ false → IsResting world seat → HelpFacts config world seat spot
 help_outside config world seat LoadEnd out rests = rests
-help_outside config world seat (Entering at) out rests = rests
+help_outside config world seat (Entering spot) out rests = rests
 help_outside config world seat Gone out rests = rests
 help_outside config world seat _ out rests = absurd (cc (out))
 
@@ -74,7 +68,7 @@ spot_word config seat (Entering enter.Await) below fits = tt
 spot_word config seat (Entering enter.Inside) below fits = tt
 spot_word config seat LoadPhase below fits = tt
 spot_word config seat (LoadSet phase) below fits = tt
-spot_word config seat (Working at) below fits = unit_inside config seat at (omega (arith, below)) (and_parts _ _ fits).0
+spot_word config seat (Working spot) below fits = unit_inside config seat spot (omega (arith, below)) (and_parts _ _ fits).0
 spot_word config seat Leave below fits = below
 spot_word config seat Gone below fits = tt
 
@@ -83,7 +77,7 @@ help_word config world number helper shared is = spot_word config helper.seat he
 
 -- a word that it finds is fit
 spot_found : (config : Config) (world : World) (seat : ℕ) (spot : HelpSpot) → Shared config world → spot_fits config seat spot ≡ true → HelpFacts config world seat spot → UnitGoesOn config seat spot (world.memory (touch_at config seat spot).word)
-spot_found config world seat (Working at) shared fits facts = work_fits config world seat shared at (and_parts _ _ fits).0 facts
+spot_found config world seat (Working spot) shared fits facts = work_fits config world seat shared spot (and_parts _ _ fits).0 facts
 spot_found config world seat _ shared fits facts = tt
 
 pub help_fits : (config : Config) (world : World) (number : ℕ) (helper : Helping) → Shared config world → IsHelper config world number helper → UnitGoesOn config helper.seat helper.spot (world.memory (touch_at config helper.seat helper.spot).word)
@@ -91,5 +85,5 @@ help_fits config world number helper shared is = spot_found config world helper.
 
 -- and outside the heap each word is
 pub help_fits_outside : (config : Config) (seat : ℕ) (spot : HelpSpot) (got : ℕ) → is_within (help_standing spot) ≡ false → UnitGoesOn config seat spot got
-help_fits_outside config seat (Working at) got out = absurd (cc (out))
+help_fits_outside config seat (Working spot) got out = absurd (cc (out))
 help_fits_outside config seat _ got out = tt

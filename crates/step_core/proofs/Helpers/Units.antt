@@ -1,6 +1,7 @@
 -- What the steps of a unit owe, of a helper or of the control: where one begins, goes on and ends.
 use Rattle.std.proofs.Common.{◌≡◌, ◌≢◌, ℕ, ◌+◌, ◌<◌, ◌≤◌, true, false, refl, sym, ap, ◌∙◌, arith}
 use Rattle.std.proofs.lemmas.Bool.{and_parts, eqb-false, eqb-true}
+use Rattle.shen_graph.proofs.Bools.{false_from_flip}
 use Rattle.heap_words.specs.declared.config.Config.{Config}
 use Rattle.heap_words.specs.declared.access.Unit.{Unit}
 use Rattle.heap_words.specs.declared.access.Unit.TheVariants.{Worked, NoneLeft}
@@ -22,7 +23,6 @@ use Rattle.unit_part.specs.declared.spot.UnitSpot.{UnitSpot}
 use Rattle.unit_part.specs.declared.spot.UnitSpot.TheVariants.{Scanning, Evacuating, Updating, Ended}
 use Rattle.unit_part.specs.Rows.{begins, touch_at, next_at, is_ended, scanned, evacuated, updated}
 use Rattle.unit_part.specs.Ready.{is_ready, IsFit}
-use Rattle.unit_part.proofs.Inside.{not_ended}
 use Rattle.unit_part.proofs.Left.{by_phase, evac_left, update_left}
 use Rattle.cycle_steps.proofs.Parts.{scanning_steps}
 use Rattle.cycle_steps.specs.Evacuation.Facts.{HasNothing, CanEvacuate}
@@ -39,7 +39,7 @@ use Rattle.step_core.proofs.Machines.Owed.{IsResting, Scans, CanWork}
 
 -- in a phase that is none of 0, 1 and 2 references are updated
 phase_three : (phase : ℕ) → phase ≤ 3 → phase ≢ 0 → phase ≢ 1 → phase ≢ 2 → phase ≡ 3
-phase_three phase small some other last = grind (arith, small, some, other, last)
+phase_three phase small positive other last = grind (arith, small, positive, other, last)
 
 -- a step from which more follows for who has the part inside
 pub step_with : (config : Config) (world : World) (seat : ℕ) (touch : Touch) (some more : World → Type 0) (step : PartStep config world seat touch some) → more step.world → PartStep config world seat touch more
@@ -54,27 +54,27 @@ step_with config world seat touch some more step own = record {
 }
 
 -- room that is free words of a buffer stays so
-spares_on : (config : Config) (world other_world : World) (seat : ℕ) → Rely config seat world other_world → OnlySpares world seat → OnlySpares other_world seat
-spares_on config world other_world seat rely spares a x is room = spares a x (rely.no_rooms a x is room) room
+spares_on : (config : Config) (world next_world : World) (seat : ℕ) → Rely config seat world next_world → OnlySpares world seat → OnlySpares next_world seat
+spares_on config world next_world seat rely spares a x is room = spares a x (rely.no_rooms a x is room) room
 
 -- who rests goes on to rest
-pub rests_on : (config : Config) (world other_world : World) (seat : ℕ) → Rely config seat world other_world → IsResting world seat → IsResting other_world seat
-rests_on config world other_world seat rely rests = record {
+pub rests_on : (config : Config) (world next_world : World) (seat : ℕ) → Rely config seat world next_world → IsResting world seat → IsResting next_world seat
+rests_on config world next_world seat rely rests = record {
   records_none = rely.marks.recording ∙ rests.records_none;
   scans_none = rely.marks.scanning ∙ rests.scans_none;
   copies_none = rely.copies.copying ∙ rests.copies_none;
   works_none = rely.copies.working ∙ rests.works_none;
-  rooms = spares_on config world other_world seat rely rests.rooms;
+  rooms = spares_on config world next_world seat rely rests.rooms;
 }
 
 -- what a machine counts on in its unit stays while others step
-pub work_stays : (config : Config) (world other_world : World) (seat : ℕ) (at : UnitSpot) → Shared config world → Rely config seat world other_world → CanWork config world seat at → CanWork config other_world seat at
-work_stays config world other_world seat (Scanning at) shared rely can =
-    (((scanning_steps.steps config seat).stands world at tt can.0).stays other_world rely, rely.copies.copying ∙ can.1, rely.copies.working ∙ can.2, spares_on config world other_world seat rely can.3)
-work_stays config world other_world seat (Evacuating cset at) shared rely can = ((evacuating_steps.steps config seat cset).stands world at shared can).stays other_world rely
-work_stays config world other_world seat (Updating cset at) shared rely can = ((updating_steps.steps config seat cset).stands world at shared can).stays other_world rely
-work_stays config world other_world seat (Ended Worked) shared rely can = rests_on config world other_world seat rely can
-work_stays config world other_world seat (Ended NoneLeft) shared rely can = (rests_on config world other_world seat rely can.0, due_stays config world other_world seat rely can.1)
+pub work_stays : (config : Config) (world next_world : World) (seat : ℕ) (spot : UnitSpot) → Shared config world → Rely config seat world next_world → CanWork config world seat spot → CanWork config next_world seat spot
+work_stays config world next_world seat (Scanning spot) shared rely can =
+    (((scanning_steps.steps config seat).stands world spot tt can.0).stays next_world rely, rely.copies.copying ∙ can.1, rely.copies.working ∙ can.2, spares_on config world next_world seat rely can.3)
+work_stays config world next_world seat (Evacuating cset spot) shared rely can = ((evacuating_steps.steps config seat cset).stands world spot shared can).stays next_world rely
+work_stays config world next_world seat (Updating cset spot) shared rely can = ((updating_steps.steps config seat cset).stands world spot shared can).stays next_world rely
+work_stays config world next_world seat (Ended Worked) shared rely can = rests_on config world next_world seat rely can
+work_stays config world next_world seat (Ended NoneLeft) shared rely can = (rests_on config world next_world seat rely can.0, due_stays config world next_world seat rely can.1)
 
 module _ (config : Config) (world : World) (seat : ℕ) (shared : Shared config world) where
   -- who rests has nothing
@@ -83,17 +83,17 @@ module _ (config : Config) (world : World) (seat : ℕ) (shared : Shared config 
 
   -- who rests may begin a unit of the phase, which is not 0
   pub work_begins : (phase : ℕ) → seat < seat_count config.mutators config.helpers → phase ≢ 0 → phase ≡ world.memory Phase → IsResting world seat → CanWork config world seat (begins phase (world.memory Cset))
-  work_begins phase seated some same rests = by_phase (CanWork config world seat) phase (world.memory Cset)
+  work_begins phase seated positive same rests = by_phase (CanWork config world seat) phase (world.memory Cset)
       (λ one. (scanning_steps.begins config world seat seated (sym same ∙ eqb-true _ _ one) rests.records_none rests.scans_none (no_hand world seat rests.rooms), rests.copies_none, rests.works_none, rests.rooms))
       (λ other two. evacuating_steps.begins config world seat seated (sym same ∙ eqb-true _ _ two) rests.works_none (has_nothing rests))
       (λ other last. updating_steps.begins config world seat seated
-      (phase_three _ shared.phased.phase_is (λ none. some (same ∙ none)) (λ one. eqb-false _ _ other (same ∙ one)) (λ two. eqb-false _ _ last (same ∙ two))) rests.works_none (has_nothing rests))
+      (phase_three _ shared.phased.phase_is (λ none. positive (same ∙ none)) (λ one. eqb-false _ _ other (same ∙ one)) (λ two. eqb-false _ _ last (same ∙ two))) rests.works_none (has_nothing rests))
 
   -- a word that it finds is fit
-  pub work_fits : (at : UnitSpot) → is_ready config seat at ≡ true → CanWork config world seat at → IsFit config seat at (world.memory (touch_at config seat at).word)
-  work_fits (Scanning at) ready can = ((scanning_steps.steps config seat).goes world at (not_ended (scans.is_ended at) (and_parts _ _ ready).1) shared can.0).fits
-  work_fits (Evacuating cset at) ready can = ((evacuating_steps.steps config seat cset).goes world at (not_ended (evacs.is_ended at) (and_parts _ _ ready).1) shared can).fits
-  work_fits (Updating cset at) ready can = ((updating_steps.steps config seat cset).goes world at (not_ended (updates.is_ended at) (and_parts _ _ ready).1) shared can).fits
+  pub work_fits : (spot : UnitSpot) → is_ready config seat spot ≡ true → CanWork config world seat spot → IsFit config seat spot (world.memory (touch_at config seat spot).word)
+  work_fits (Scanning spot) ready can = ((scanning_steps.steps config seat).goes world spot (false_from_flip (scans.is_ended spot) (and_parts _ _ ready).1) shared can.0).fits
+  work_fits (Evacuating cset spot) ready can = ((evacuating_steps.steps config seat cset).goes world spot (false_from_flip (evacs.is_ended spot) (and_parts _ _ ready).1) shared can).fits
+  work_fits (Updating cset spot) ready can = ((updating_steps.steps config seat cset).goes world spot (false_from_flip (updates.is_ended spot) (and_parts _ _ ready).1) shared can).fits
   work_fits (Ended unit) ready can = tt
 
   -- once all regions are claimed, they are after a step
@@ -101,16 +101,16 @@ module _ (config : Config) (world : World) (seat : ℕ) (shared : Shared config 
   claims_then touch stands step claimed = (step.others (seat + 1) (λ e. omega (arith, e))).fields.claims claimed
 
   -- where no unit was left, all regions are claimed
-  evac_claimed : (at : EvacSpot) → evac_ends.HasNoneLeft config at (world.memory (evacs.touch_at config seat at).word) → config.regions ≤ world.memory Claim
+  evac_claimed : (spot : EvacSpot) → evac_ends.HasNoneLeft config spot (world.memory (evacs.touch_at config seat spot).word) → config.regions ≤ world.memory Claim
   evac_claimed evac.LoadClaim none = none
   evac_claimed _ none = absurd none
 
-  update_claimed : (at : UpdateSpot) → update_ends.HasNoneLeft config at (world.memory (updates.touch_at config at).word) → config.regions ≤ world.memory Claim
+  update_claimed : (spot : UpdateSpot) → update_ends.HasNoneLeft config spot (world.memory (updates.touch_at config spot).word) → config.regions ≤ world.memory Claim
   update_claimed update.LoadClaim none = none
   update_claimed _ none = absurd none
 
   -- where a scan goes on, or has ended
-  scans_then : (world : World) (at : ScanSpot) → Scans config world seat at → CanWork config world seat (scanned at)
+  scans_then : (world : World) (spot : ScanSpot) → Scans config world seat spot → CanWork config world seat (scanned spot)
   scans_then world (scan.Ended Worked) can = record { records_none = can.0.records_none; scans_none = can.0.scanning; copies_none = can.1; works_none = can.2; rooms = can.3 }
   scans_then world (scan.Ended NoneLeft) can = (
     record { records_none = can.0.records_none; scans_none = can.0.scanning; copies_none = can.1; works_none = can.2; rooms = can.3 },
@@ -128,7 +128,7 @@ module _ (config : Config) (world : World) (seat : ℕ) (shared : Shared config 
     rooms = can.facts.rooms;
   }
 
-  evacuates_then : (world : World) (cset : ℕ) (at : EvacSpot) → (at ≡ evac.Ended NoneLeft → config.regions ≤ world.memory Claim) → CanEvacuate config world seat cset at → CanWork config world seat (evacuated cset at)
+  evacuates_then : (world : World) (cset : ℕ) (spot : EvacSpot) → (spot ≡ evac.Ended NoneLeft → config.regions ≤ world.memory Claim) → CanEvacuate config world seat cset spot → CanWork config world seat (evacuated cset spot)
   evacuates_then world cset (evac.Ended Worked) left can = evacuated_rests world cset Worked can
   evacuates_then world cset (evac.Ended NoneLeft) left can = (evacuated_rests world cset NoneLeft can, claimed_due config world.memory (left refl))
   evacuates_then world cset _ left can = can
@@ -137,27 +137,27 @@ module _ (config : Config) (world : World) (seat : ℕ) (shared : Shared config 
   updated_rests : (world : World) (cset : ℕ) (unit : Unit) → CanUpdate config world seat cset (update.Ended unit) → IsResting world seat
   updated_rests world cset unit can = record { records_none = can.records_none; scans_none = can.scanning; copies_none = can.copying; works_none = can.working; rooms = can.rooms }
 
-  updates_then : (world : World) (cset : ℕ) (at : UpdateSpot) → (at ≡ update.Ended NoneLeft → config.regions ≤ world.memory Claim) → CanUpdate config world seat cset at → CanWork config world seat (updated cset at)
+  updates_then : (world : World) (cset : ℕ) (spot : UpdateSpot) → (spot ≡ update.Ended NoneLeft → config.regions ≤ world.memory Claim) → CanUpdate config world seat cset spot → CanWork config world seat (updated cset spot)
   updates_then world cset (update.Ended Worked) left can = updated_rests world cset Worked can
   updates_then world cset (update.Ended NoneLeft) left can = (updated_rests world cset NoneLeft can, claimed_due config world.memory (left refl))
   updates_then world cset _ left can = can
 
   -- What a step of a unit owes.
   abbrev pub WorkStep : UnitSpot → Type 0
-  WorkStep at = PartStep config world seat (touch_at config seat at) (λ w. CanWork config w seat (next_at config at (world.memory (touch_at config seat at).word)))
+  WorkStep spot = PartStep config world seat (touch_at config seat spot) (λ w. CanWork config w seat (next_at config spot (world.memory (touch_at config seat spot).word)))
 
-  pub work_step : (at : UnitSpot) → is_ready config seat at ≡ true → is_ended at ≡ false → CanWork config world seat at → WorkStep at
-  work_step (Scanning at) ready going can =
-      let step = ((scanning_steps.steps config seat).goes world at (not_ended (scans.is_ended at) (and_parts _ _ ready).1) shared can.0).step in
-      step_with config world seat (scans.touch_at config at) _ _ step (scans_then step.world _ (step.own.0, step.own.1.copying ∙ can.1, step.own.1.working ∙ can.2, λ a x is. can.3 a x (ap (λ plot. plot a) (sym step.own.2) ∙ is)))
-  work_step (Evacuating cset at) ready going can =
-      let on = not_ended (evacs.is_ended at) (and_parts _ _ ready).1 in
-      let step = ((evacuating_steps.steps config seat cset).goes world at on shared can).step in
-      step_with config world seat (evacs.touch_at config seat at) _ _ step
-      (evacuates_then step.world cset _ (λ none. claims_then (evacs.touch_at config seat at) _ step (evac_claimed at ((evac_left config cset at _ on).0 none))) step.own)
-  work_step (Updating cset at) ready going can =
-      let on = not_ended (updates.is_ended at) (and_parts _ _ ready).1 in
-      let step = ((updating_steps.steps config seat cset).goes world at on shared can).step in
-      step_with config world seat (updates.touch_at config at) _ _ step
-      (updates_then step.world cset _ (λ none. claims_then (updates.touch_at config at) _ step (update_claimed at ((update_left config cset at _ on).0 none))) step.own)
+  pub work_step : (spot : UnitSpot) → is_ready config seat spot ≡ true → is_ended spot ≡ false → CanWork config world seat spot → WorkStep spot
+  work_step (Scanning spot) ready going can =
+      let step = ((scanning_steps.steps config seat).goes world spot (false_from_flip (scans.is_ended spot) (and_parts _ _ ready).1) shared can.0).step in
+      step_with config world seat (scans.touch_at config spot) _ _ step (scans_then step.world _ (step.own.0, step.own.1.copying ∙ can.1, step.own.1.working ∙ can.2, λ address x is. can.3 address x (ap (λ plot. plot address) (sym step.own.2) ∙ is)))
+  work_step (Evacuating cset spot) ready going can =
+      let on = false_from_flip (evacs.is_ended spot) (and_parts _ _ ready).1 in
+      let step = ((evacuating_steps.steps config seat cset).goes world spot on shared can).step in
+      step_with config world seat (evacs.touch_at config seat spot) _ _ step
+      (evacuates_then step.world cset _ (λ none. claims_then (evacs.touch_at config seat spot) _ step (evac_claimed spot ((evac_left config cset spot _ on).0 none))) step.own)
+  work_step (Updating cset spot) ready going can =
+      let on = false_from_flip (updates.is_ended spot) (and_parts _ _ ready).1 in
+      let step = ((updating_steps.steps config seat cset).goes world spot on shared can).step in
+      step_with config world seat (updates.touch_at config spot) _ _ step
+      (updates_then step.world cset _ (λ none. claims_then (updates.touch_at config spot) _ step (update_claimed spot ((update_left config cset spot _ on).0 none))) step.own)
   work_step (Ended unit) ready going can = absurd (cc (going))

@@ -5,6 +5,7 @@ use Rattle.std.specs.Prelude.{◌==◌, ◌&&◌, slice_get, slice_index, sum_by
 use Rattle.std.proofs.lemmas.Bool.{cases_eq, and_parts, eqb-true, eq-eqb, ne_eqb}
 use Rattle.std.proofs.lemmas.List.{append-nil, length-map}
 use Rattle.std.proofs.lemmas.List.Elements.{All-nil}
+use Rattle.shen_graph.proofs.Lists.{append_right}
 use Rattle.heap_words.specs.declared.config.Config.{Config}
 use Rattle.heap_words.specs.Rows.{name_of}
 use Rattle.heap_words.specs.Words.{Word, Answer, IsWord, view, image_start}
@@ -45,7 +46,7 @@ use Rattle.step_core.specs.Standing.{standing_at}
 use Rattle.step_core.proofs.Machines.Stepped.{IsPolling, IsAnswered, IsAsking, Mine}
 use Rattle.step_core.proofs.Control.Asked.{promised_given}
 use Rattle.step_core.proofs.Theorem.Beginning.{goes_begins}
-use Rattle.step_core.proofs.History.Crowds.{get_right, sum_below_le, open_of, open_below, next_is, crowded_longer, crowded_none, crowded_one}
+use Rattle.step_core.proofs.History.CrowdsGrow.{sum_below_le, open_of, open_below, next_is, crowded_longer, crowded_none, crowded_one}
 use Rattle.step_core.proofs.Machines.Owed.{IsThread, IsControl, words_promised, Follows}
 use Rattle.step_core.proofs.History.Growing.{begun_many, begun_is, begun_grows}
 use Rattle.step_core.proofs.Control.Held.{held_image, outside_held}
@@ -94,8 +95,8 @@ module _ (config : Config) (world : World) (seat made : ℕ) (kept : Kept) (comm
   outside_promised Rest out mine = no_answer Rest (mine.seated.unasked refl)
   outside_promised (Ended reply) out mine = no_answer (Ended reply) (mine.seated.unasked refl)
   outside_promised Gone out mine = no_answer Gone (mine.seated.unasked refl)
-  outside_promised (Entering at Call) out mine = no_answer (Entering at Call) (mine.seated.unasked refl)
-  outside_promised (Entering at Waited) out mine = answered_promised (Entering at Waited) refl mine.facts
+  outside_promised (Entering spot Call) out mine = no_answer (Entering spot Call) (mine.seated.unasked refl)
+  outside_promised (Entering spot Waited) out mine = answered_promised (Entering spot Waited) refl mine.facts
   outside_promised (Waiting wait.Poll) out mine = polls_promised (Waiting wait.Poll) refl mine.facts
   outside_promised (Waiting wait.StoreRequest) out mine = cc
   outside_promised (Waiting wait.AskRoom) out mine = cc
@@ -107,27 +108,27 @@ module _ (config : Config) (world : World) (seat made : ℕ) (kept : Kept) (comm
 
 -- the next command of calls that have ended, and one that is in progress
 next_of_calls : (calls : List Entry) (command : Command) → slice_get (commands_of calls ++ command ∷ []) (length calls) ≡ Some command
-next_of_calls calls command = get_right (commands_of calls) (command ∷ []) (length calls) 0 (let same = length-map calls (λ x. x.command) in omega (arith, same))
+next_of_calls calls command = append_right (commands_of calls) (command ∷ []) (length calls) 0 (let same = length-map calls (λ x. x.command) in omega (arith, same))
 
 -- A stage in which an image counts, and all but the control are outside.
 module _ (config : Config) (graph : Graph) (stage : Stage Actor) (past : List Entry) (follows : Follows config graph stage past)
     (outside : (k : ℕ) (b : Actor) → k < control_number config → slice_get stage.machines k ≡ Some b → is_within (standing_of b.machine) ≡ false) where
-  abbrev u : World
-  u = world_of config stage follows.block follows.ghost (after graph past)
+  abbrev world_then : World
+  world_then = world_of config stage follows.block follows.ghost (after graph past)
 
   -- what a thread asks for, in a call of which nothing is settled
-  promised_open : (mutator : ℕ) → mutator < config.mutators → words_promised u.memory mutator ≤ words_asked (next_command (scripts_begun config stage) past (mutator + 1))
+  promised_open : (mutator : ℕ) → mutator < config.mutators → words_promised world_then.memory mutator ≤ words_asked (next_command (scripts_begun config stage) past (mutator + 1))
   promised_open mutator below =
-      let there = mutator_there config stage.words u past stage.machines follows.seats follows.machines mutator below in
+      let there = mutator_there config stage.words world_then past stage.machines follows.seats follows.machines mutator below in
       let a = there.0 in
       let m = there.1 in
       let thread = there.4 in
       let out : is_within (standing_at m.spot) ≡ false = ap (λ machine. is_within (standing_of machine)) (sym there.3) ∙ outside mutator a (omega (arith, below)) there.2 in
-      let promised = subst (λ j. (words_promised u.memory j ≡ 0) ⊎ IsForCall (words_promised u.memory j) a.command thread.fixed m.spot) thread.number_is
-      (outside_promised config u m.seat m.made m.kept a.command thread.fixed m.spot out thread.mine) in
+      let promised = subst (λ j. (words_promised world_then.memory j ≡ 0) ⊎ IsForCall (words_promised world_then.memory j) a.command thread.fixed m.spot) thread.number_is
+      (outside_promised config world_then m.seat m.made m.kept a.command thread.fixed m.spot out thread.mine) in
       ⊎_elim
-      (λ (none : words_promised u.memory mutator ≡ 0). omega (arith, none))
-      (λ (has : IsForCall (words_promised u.memory mutator) a.command thread.fixed m.spot).
+      (λ (none : words_promised world_then.memory mutator ≡ 0). omega (arith, none))
+      (λ (has : IsForCall (words_promised world_then.memory mutator) a.command thread.fixed m.spot).
       let entries : of_thread past (mutator + 1) ≡ a.calls = thread.entries_are ∙ ap (λ f. a.calls ++ entries_of mutator a.command f) has.unsettled ∙ append-nil a.calls in
       let begun_then : begun_by a ≡ commands_of a.calls ++ a.command ∷ [] =
       ap (λ machine. commands_of a.calls ++ (if is_resting machine then [] else a.command ∷ [])) there.3 ∙ ap (λ b. commands_of a.calls ++ (if b then [] else a.command ∷ [])) has.in_call in
@@ -136,7 +137,7 @@ module _ (config : Config) (graph : Graph) (stage : Stage Actor) (past : List En
       ∙ ap (λ xs. slice_get xs (length (of_thread past (mutator + 1)))) (begun_is config stage follows.seats mutator a below there.2 ∙ begun_then)
       ∙ ap (λ es. slice_get (commands_of a.calls ++ a.command ∷ []) (length es)) entries
       ∙ next_of_calls a.calls a.command in
-      let same : words_promised u.memory mutator ≡ words_asked (next_command (scripts_begun config stage) past (mutator + 1)) = has.words_are ∙ ap words_asked (sym next) in
+      let same : words_promised world_then.memory mutator ≡ words_asked (next_command (scripts_begun config stage) past (mutator + 1)) = has.words_are ∙ ap words_asked (sym next) in
       omega (arith, same))
       promised
 
@@ -153,7 +154,7 @@ module _ (config : Config) (graph : Graph) (stage : Stage Actor) (past : List En
       (cases_eq k t)
 
   -- who is refused then is crowded out
-  refused_crowded : (other_mutator : ℕ) (actor : Actor) (mutator : Mutating) → IsThread config stage.words u (of_thread past (other_mutator + 1)) other_mutator actor mutator → u.memory (Answer other_mutator) ≡ 1 → view config stage.words (Answer other_mutator) ≡ 0
+  refused_crowded : (other_mutator : ℕ) (actor : Actor) (mutator : Mutating) → IsThread config stage.words world_then (of_thread past (other_mutator + 1)) other_mutator actor mutator → world_then.memory (Answer other_mutator) ≡ 1 → view config stage.words (Answer other_mutator) ≡ 0
       → IsCrowded config.regions config.region_words graph (scripts_begun config stage) past (entry_of other_mutator actor.command Full)
   refused_crowded other_mutator actor mutator thread full none =
       let unsettled : thread.fixed ≡ None = ⊎_elim
@@ -162,8 +163,8 @@ module _ (config : Config) (graph : Graph) (stage : Stage Actor) (past : List En
       (thread.seen.full full) in
       let short = thread.short full unsettled in
       let live : ℕ = sum_by (λ n. size (named (after graph past) (Some n))) short.names in
-      let sums : sum_below (λ k. if k == other_mutator then 0 else words_promised u.memory k) config.mutators ≤ sum_below (λ k. open_of (scripts_begun config stage) past (other_mutator + 1) (k + 1)) config.mutators =
-      sum_below_le _ _ config.mutators (λ k below. either_less (k == other_mutator) ((k + 1) == (other_mutator + 1)) _ _ (same_test other_mutator k) (promised_open k below)) in
+      let sums : sum_below (λ k. if k == other_mutator then 0 else words_promised world_then.memory k) config.mutators ≤ sum_below (λ k. open_of (scripts_begun config stage) past (other_mutator + 1) (k + 1)) config.mutators =
+      sum_below_le _ _ config.mutators (λ mutator below. either_less (mutator == other_mutator) ((mutator + 1) == (other_mutator + 1)) _ _ (same_test other_mutator mutator) (promised_open mutator below)) in
       let many : sum_below (λ k. open_of (scripts_begun config stage) past (other_mutator + 1) (k + 1)) (length (scripts_begun config stage)) ≡ sum_below (λ k. open_of (scripts_begun config stage) past (other_mutator + 1) (k + 1)) config.mutators =
       ap (sum_below (λ k. open_of (scripts_begun config stage) past (other_mutator + 1) (k + 1))) (begun_many config stage follows.seats) in
       let open_is = open_below (scripts_begun config stage) past (other_mutator + 1) in
@@ -222,7 +223,7 @@ module _ (change : Change) (config : Config) (graph : Graph) (stage : Stage Acto
 
     -- into any word
     by_word : (word : Word) → name_of config at ≡ word → Crowded (told_word stage.machines word (slice_index stage.words at) (slice_index image index))
-    by_word (Answer t) is = at_answer t is
+    by_word (Answer mutator) is = at_answer mutator is
     by_word _ is = none
 
   -- a step of the control
@@ -234,8 +235,8 @@ module _ (change : Change) (config : Config) (graph : Graph) (stage : Stage Acto
   -- a step of any machine
   by_role : (number : ℕ) (order : Order) (command : Command) (calls : List Entry) (machine : Machine) → slice_get stage.machines number ≡ Some (record { machine = machine; command = command; calls = calls })
       → Crowded (told_by config stage (record { machine = machine; command = command; calls = calls }) order machine)
-  by_role number order command calls (mutating m) here = quiet _ (mutator_not_full (settled config stage) m (command_by order command))
-  by_role number order command calls (controlling k) here = by_spot number k.seen k.phase k.cset k.hints k.image command calls k.spot here
+  by_role number order command calls (mutating mutator) here = quiet _ (mutator_not_full (settled config stage) mutator (command_by order command))
+  by_role number order command calls (controlling control) here = by_spot number control.seen control.phase control.cset control.hints control.image command calls control.spot here
   by_role number order command calls _ here = none
 
   told_crowded : (event : Event Order) → Crowded (told config stage event)
@@ -251,14 +252,14 @@ module _ (change : Change) (config : Config) (graph : Graph) (stage : Stage Acto
       by_machine (Some actor) here = by_order actor (takes_of actor.machine event.order) here
 
 -- a run from a stage that follows a history of such entries
-goes_crowded : (change : Change) → PausesByParts change → (config : Config) (graph : Graph) (stage : Stage Actor) (past : List Entry) (es : List (Event Order)) → Goes config graph stage past → AreCrowded config.regions config.region_words graph (scripts_begun config stage) past
-    → AreCrowded config.regions config.region_words graph (scripts_begun config (go (kind change config) stage es)) (past ++ history change config stage es)
+goes_crowded : (change : Change) → PausesByParts change → (config : Config) (graph : Graph) (stage : Stage Actor) (past : List Entry) (events : List (Event Order)) → Goes config graph stage past → AreCrowded config.regions config.region_words graph (scripts_begun config stage) past
+    → AreCrowded config.regions config.region_words graph (scripts_begun config (go (kind change config) stage events)) (past ++ history change config stage events)
 unfolding go history
 goes_crowded change law config graph stage past [] goes crowded = subst (λ h. AreCrowded config.regions config.region_words graph (scripts_begun config stage) h) (sym (append-nil past)) crowded
-goes_crowded change law config graph stage past (e ∷ es) goes crowded =
-    subst (λ h. AreCrowded config.regions config.region_words graph (scripts_begun config (go (kind change config) (act (kind change config) stage e) es)) h) (append_assoc past (told config stage e) (history change config (act (kind change config) stage e) es))
-    (goes_crowded change law config graph (act (kind change config) stage e) (past ++ told config stage e) es (goes_event change law config graph stage past e goes)
-    (crowded_longer config.regions config.region_words graph (scripts_begun config stage) (scripts_begun config (act (kind change config) stage e)) (past ++ told config stage e) (begun_grows change config stage e goes.follows.seats) (told_crowded change config graph stage past goes crowded e)))
+goes_crowded change law config graph stage past (event ∷ events) goes crowded =
+    subst (λ h. AreCrowded config.regions config.region_words graph (scripts_begun config (go (kind change config) (act (kind change config) stage event) events)) h) (append_assoc past (told config stage event) (history change config (act (kind change config) stage event) events))
+    (goes_crowded change law config graph (act (kind change config) stage event) (past ++ told config stage event) events (goes_event change law config graph stage past event goes)
+    (crowded_longer config.regions config.region_words graph (scripts_begun config stage) (scripts_begun config (act (kind change config) stage event)) (past ++ told config stage event) (begun_grows change config stage event goes.follows.seats) (told_crowded change config graph stage past goes crowded event)))
 
 -- Who is refused in a run from a stage that begins a graph was crowded out.
 pub run_crowded : (change : Change) → PausesByParts change → (config : Config) (stage : Stage Actor) (graph : Graph) → Begins config stage graph → (events : List (Event Order))

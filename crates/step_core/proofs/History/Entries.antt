@@ -22,13 +22,13 @@ use Rattle.step_core.proofs.Machines.Stepped.{graph_by, LegalBy}
 -- the graph after two histories
 pub after-append : (graph : Graph) (past more : List Entry) → after graph (past ++ more) ≡ after (after graph past) more
 after-append graph [] more = refl
-after-append graph (e ∷ past) more = after-append (after_entry graph e) past more
+after-append graph (entry ∷ past) more = after-append (after_entry graph entry) past more
 
 -- two legal histories are one
 pub legal-append : (regions region_words : ℕ) (graph : Graph) (past more : List Entry)
     → EachIsLegal regions region_words graph past → EachIsLegal regions region_words (after graph past) more → EachIsLegal regions region_words graph (past ++ more)
 legal-append regions region_words graph [] more legal rest = rest
-legal-append regions region_words graph (e ∷ past) more legal rest = (legal.0, legal-append regions region_words (after_entry graph e) past more legal.1 rest)
+legal-append regions region_words graph (entry ∷ past) more legal rest = (legal.0, legal-append regions region_words (after_entry graph entry) past more legal.1 rest)
 
 -- the entry that a step of a mutator settles leads to the graph that it says
 pub graph_settled : (graph : Graph) (seat : ℕ) (command : Command) (found : Option Reply) → graph_by graph seat command found ≡ after graph (entries_of seat command found)
@@ -65,7 +65,7 @@ begun_valid _ made command takes = cc
 -- so is that of a call after any order that is taken
 pub command_valid : (spot : Spot) (made : ℕ) (order : Order) (command : Command) → takes_at spot made order ≡ true → is_valid command ≡ true → is_valid (command_by order command) ≡ true
 command_valid spot made Nothing command takes valid = valid
-command_valid spot made (Begin k) command takes valid = begun_valid spot made k takes
+command_valid spot made (Begin other_command) command takes valid = begun_valid spot made other_command takes
 command_valid spot made End command takes valid = valid
 command_valid spot made (Hint address) command takes valid = valid
 

@@ -5,10 +5,11 @@ use Rattle.std.specs.Option.{option_map}
 use Rattle.std.proofs.lemmas.Bool.{cases_eq}
 use Rattle.std.proofs.lemmas.List.{append-nil, map-append, length-map, length-take-le, length-set, get_or-take}
 use Rattle.std.proofs.lemmas.Option.{slice_get-map, slice_get_within, slice_get-get_or, get_or_from_slice_get}
+use Rattle.shen_graph.proofs.Lists.{append_left}
+use Rattle.heap_words.proofs.Lists.{slice_get-set_other, slice_get-set_same}
 use Rattle.heap_words.specs.declared.config.Config.{Config}
 use Rattle.heap_words.specs.Ranges.{seat_count}
 use Rattle.heap_words.specs.Steps.{Stage, Event, accessed, moved, act_of, act}
-use Rattle.heap_words.proofs.Places.{slice_get-set_same, slice_get-set_other}
 use Rattle.shen_graph.specs.declared.command.Command.{Command}
 use Rattle.shen_graph.specs.declared.order.Order.{Order}
 use Rattle.shen_graph.specs.declared.order.Order.TheVariants.{Nothing, Begin, End, Hint}
@@ -33,14 +34,14 @@ use Rattle.step_core.specs.Begun.{begun_by, scripts_begun}
 use Rattle.step_core.specs.Machines.{takes_of, plan_of, took_of, kind}
 use Rattle.step_core.specs.Standing.{standing_at}
 use Rattle.step_core.proofs.Machines.Roles.{takes_no_command}
-use Rattle.step_core.proofs.History.Crowds.{get_left, Extends, AreLonger}
+use Rattle.step_core.proofs.History.CrowdsGrow.{Extends, AreLonger}
 use Rattle.step_core.proofs.Mutators.Within.{IsIn, goes_on_in}
 
-extends_same : (xs ys : List Command) → xs ≡ ys → Extends xs ys
-extends_same xs ys same i k there = ap (λ zs. slice_get zs i) (sym same) ∙ there
+extends_same : (script other_script : List Command) → script ≡ other_script → Extends script other_script
+extends_same script other_script same i k there = ap (λ zs. slice_get zs i) (sym same) ∙ there
 
-extends_more : (xs ys : List Command) → Extends xs (xs ++ ys)
-extends_more xs ys i k there = get_left xs ys i (slice_get_within xs i k there) ∙ there
+extends_more : (script other_script : List Command) → Extends script (script ++ other_script)
+extends_more script other_script i k there = append_left script other_script i (slice_get_within script i k there) ∙ there
 
 -- a spot in the heap is none between two calls
 in_not_between : (spot : Spot) → IsIn spot → is_between_calls spot ≡ false
@@ -50,7 +51,7 @@ in_not_between Gone within = absurd (cc (within))
 in_not_between _ within = refl
 
 -- nor is one at which a mutator enters or waits
-enter_not_between : (next : Entered) (at : EnterSpot) → is_between_calls (after_enter next at) ≡ false
+enter_not_between : (next : Entered) (spot : EnterSpot) → is_between_calls (after_enter next spot) ≡ false
 enter_not_between Call Inside = refl
 enter_not_between Waited Inside = refl
 enter_not_between Call _ = refl
@@ -60,7 +61,7 @@ either_not_between : (holds : Bool) (spot other_spot : Spot) → is_between_call
 either_not_between true spot other_spot one other = one
 either_not_between false spot other_spot one other = other
 
-wait_not_between : (seat made : ℕ) (at : WaitSpot) (got : ℕ) → is_between_calls (wait_next seat made at got) ≡ false
+wait_not_between : (seat made : ℕ) (spot : WaitSpot) (got : ℕ) → is_between_calls (wait_next seat made spot got) ≡ false
 wait_not_between seat made wait.Poll got = either_not_between (got == 0) _ _ refl refl
 wait_not_between seat made _ got = refl
 
@@ -76,7 +77,7 @@ module _ (config : Config) (mutator : Mutating) (order : Order) (got : ℕ) (com
   in_progress : (order : Order) → order ≡ Nothing → (holds : Bool) → holds ≡ false → Extends (commands_of calls ++ command ∷ []) (commands_of (calls ++ []) ++ (if holds then [] else command_by order command ∷ []))
   in_progress Nothing is true no_call = absurd (cc (no_call))
   in_progress Nothing is false no_call = extends_same _ _ (ap (λ es. commands_of es ++ command ∷ []) (sym (append-nil calls)))
-  in_progress (Begin k) is holds no_call = absurd (cc (is))
+  in_progress (Begin asked) is holds no_call = absurd (cc (is))
   in_progress End is holds no_call = absurd (cc (is))
   in_progress (Hint address) is holds no_call = absurd (cc (is))
 
@@ -87,8 +88,8 @@ module _ (config : Config) (mutator : Mutating) (order : Order) (got : ℕ) (com
   -- between two calls
   rest_grows : (order : Order) → takes_at Rest mutator.made order ≡ true → Extends (commands_of calls ++ []) (commands_of (calls ++ []) ++ (if is_between_calls (next_at config mutator order got Rest).spot then [] else command_by order command ∷ []))
   rest_grows Nothing takes = absurd (cc (takes))
-  rest_grows (Begin k) takes =
-      subst (λ xs. Extends xs (commands_of (calls ++ []) ++ k ∷ [])) (ap commands_of (append-nil calls) ∙ sym (append-nil (commands_of calls))) (extends_more (commands_of (calls ++ [])) (k ∷ []))
+  rest_grows (Begin asked) takes =
+      subst (λ xs. Extends xs (commands_of (calls ++ []) ++ asked ∷ [])) (ap commands_of (append-nil calls) ∙ sym (append-nil (commands_of calls))) (extends_more (commands_of (calls ++ [])) (asked ∷ []))
   rest_grows End takes = extends_same _ _ (ap (λ es. commands_of es ++ []) (sym (append-nil calls)))
   rest_grows (Hint address) takes = absurd (cc (takes))
 
@@ -106,19 +107,19 @@ module _ (config : Config) (mutator : Mutating) (order : Order) (got : ℕ) (com
   grows_at (Ended reply) takes = rest_grows order takes
   grows_at Gone takes = absurd (cc (takes))
   grows_at (Leave reply) takes = leave_grows (entry_of mutator.seat command reply) refl
-  grows_at (Entering at next) takes = call_grows (Entering at next) refl takes (enter_not_between next (enter_next at got))
-  grows_at (Waiting at) takes = call_grows (Waiting at) refl takes (wait_not_between mutator.seat mutator.made at got)
+  grows_at (Entering spot next) takes = call_grows (Entering spot next) refl takes (enter_not_between next (enter_next spot got))
+  grows_at (Waiting spot) takes = call_grows (Waiting spot) refl takes (wait_not_between mutator.seat mutator.made spot got)
   grows_at LoadPhase takes = call_grows LoadPhase refl takes (stays_in_call LoadPhase refl)
   grows_at LoadSet takes = call_grows LoadSet refl takes (stays_in_call LoadSet refl)
-  grows_at (Loading at) takes = call_grows (Loading at) refl takes (stays_in_call (Loading at) refl)
-  grows_at (OnField object at) takes = call_grows (OnField object at) refl takes (stays_in_call (OnField object at) refl)
-  grows_at (Resolving address at next) takes = call_grows (Resolving address at next) refl takes (stays_in_call (Resolving address at next) refl)
-  grows_at (Recording at address next) takes = call_grows (Recording at address next) refl takes (stays_in_call (Recording at address next) refl)
-  grows_at (OnNumber object refs at) takes = call_grows (OnNumber object refs at) refl takes (stays_in_call (OnNumber object refs at) refl)
-  grows_at (Showing value at) takes = call_grows (Showing value at) refl takes (stays_in_call (Showing value at) refl)
+  grows_at (Loading spot) takes = call_grows (Loading spot) refl takes (stays_in_call (Loading spot) refl)
+  grows_at (OnField object spot) takes = call_grows (OnField object spot) refl takes (stays_in_call (OnField object spot) refl)
+  grows_at (Resolving address spot next) takes = call_grows (Resolving address spot next) refl takes (stays_in_call (Resolving address spot next) refl)
+  grows_at (Recording spot address next) takes = call_grows (Recording spot address next) refl takes (stays_in_call (Recording spot address next) refl)
+  grows_at (OnNumber object refs spot) takes = call_grows (OnNumber object refs spot) refl takes (stays_in_call (OnNumber object refs spot) refl)
+  grows_at (Showing value spot) takes = call_grows (Showing value spot) refl takes (stays_in_call (Showing value spot) refl)
   grows_at (StoreRoot value) takes = call_grows (StoreRoot value) refl takes (stays_in_call (StoreRoot value) refl)
-  grows_at (Making at) takes = call_grows (Making at) refl takes (stays_in_call (Making at) refl)
-  grows_at (Pinning value at) takes = call_grows (Pinning value at) refl takes (stays_in_call (Pinning value at) refl)
+  grows_at (Making spot) takes = call_grows (Making spot) refl takes (stays_in_call (Making spot) refl)
+  grows_at (Pinning value spot) takes = call_grows (Pinning value spot) refl takes (stays_in_call (Pinning value spot) refl)
   grows_at AskCycle takes = call_grows AskCycle refl takes (stays_in_call AskCycle refl)
 
 -- who begins no command begins nothing
@@ -129,7 +130,7 @@ others_grow order command calls same =
 -- the commands of a machine
 machine_grows : (change : Change) (config : Config) (order : Order) (got : ℕ) (command : Command) (calls : List Entry) (machine : Machine) → takes_of machine order ≡ true
     → Extends (begun_by (record { machine = machine; command = command; calls = calls })) (begun_by (took_of change config (record { machine = machine; command = command; calls = calls }) order got machine))
-machine_grows change config order got command calls (mutating m) takes = grows_at config m order got command calls m.spot takes
+machine_grows change config order got command calls (mutating mutator) takes = grows_at config mutator order got command calls mutator.spot takes
 machine_grows change config order got command calls other takes = others_grow order command calls (takes_no_command other order command refl takes)
 
 -- The scripts of a stage, by the numbers of its mutators.
@@ -163,10 +164,10 @@ grows_one config stage number old new words seats here grows =
           let is : slice_index_or (scripts_begun config stage) t [] ≡ begun_by old = begun_is config stage seats t old below (ap (slice_get stage.machines) same ∙ here) in
           subst (λ xs. Extends xs (slice_index_or (scripts_begun config stage_then) t [])) (sym is) (subst (λ ys. Extends (begun_by old) ys) (sym then_is) grows))
           (λ (differs : t ≡ number → ⊥).
-          let a : Actor = get_or stage.machines t old in
-          let there : slice_get stage.machines t ≡ Some a = slice_get-get_or stage.machines t old (let enough = few config stage seats in omega (arith, below, enough)) in
-          let then_is : slice_index_or (scripts_begun config stage_then) t [] ≡ begun_by a = begun_is config stage_then seats_then t a below (slice_get-set_other stage.machines number t new differs ∙ there) in
-          extends_same _ _ (begun_is config stage seats t a below there ∙ sym then_is))
+          let actor : Actor = get_or stage.machines t old in
+          let there : slice_get stage.machines t ≡ Some actor = slice_get-get_or stage.machines t old (let enough = few config stage seats in omega (arith, below, enough)) in
+          let then_is : slice_index_or (scripts_begun config stage_then) t [] ≡ begun_by actor = begun_is config stage_then seats_then t actor below (slice_get-set_other stage.machines number t new differs ∙ there) in
+          extends_same _ _ (begun_is config stage seats t actor below there ∙ sym then_is))
           (cases_eq t number);
     }
 

@@ -55,13 +55,13 @@ if_else true reply not e = absurd cc
 if_else false reply not e = not (some_same reply Full e)
 
 -- what an access settles is no Full
-load_not_full : (memory : Word → ℕ) (seat : ℕ) (command : Command) (at : LoadSpot) → load_told memory seat command at ≢ Some Full
+load_not_full : (memory : Word → ℕ) (seat : ℕ) (command : Command) (spot : LoadSpot) → load_told memory seat command spot ≢ Some Full
 load_not_full memory seat command load.First = if_then (lacks_object command (memory (Root seat (command_root command 0)))) Bad (λ h. absurd cc)
 load_not_full memory seat command (load.Second first) = second_not_full memory command first (memory (Root seat (command_root command 1)))
 load_not_full memory seat command (load.Third first second) = λ e. absurd cc
 load_not_full memory seat command (load.Shape object second third) = if_else (has_part command (memory (Heap (object + 1)))) Bad (λ h. absurd cc)
 
-field_not_full : (memory : Word → ℕ) (object : ℕ) (command : Command) (at : FieldSpot) → field_told memory object command at ≢ Some Full
+field_not_full : (memory : Word → ℕ) (object : ℕ) (command : Command) (spot : FieldSpot) → field_told memory object command spot ≢ Some Full
 field_not_full memory object command fields.Load = λ e. shown_not_full memory (memory (Heap (object + 3 + index_of command))) (some_same _ Full e)
 field_not_full memory object command (fields.LoadExpected expect value) = if_else (name_the_same memory (memory (Heap (object + 3 + index_of command))) expect) No (λ h. absurd cc)
 field_not_full memory object command (fields.LoadOld value) = λ e. absurd cc
@@ -73,27 +73,27 @@ reply_not_full : (command : Command) (value : ℕ) → pin_reply command value �
 reply_not_full (Pin slot obj) value e = absurd cc
 reply_not_full _ value e = absurd cc
 
-pin_not_full : (memory : Word → ℕ) (seat value : ℕ) (command : Command) (at : PinSpot) → pin_told memory seat value command at ≢ Some Full
+pin_not_full : (memory : Word → ℕ) (seat value : ℕ) (command : Command) (spot : PinSpot) → pin_told memory seat value command spot ≢ Some Full
 pin_not_full memory seat value command pins.Look = if_else (fits_slot command (memory (words.Pin seat (slot_of command)))) Bad (λ h. absurd cc)
 pin_not_full memory seat value command pins.Store = λ e. reply_not_full command value (some_same _ Full e)
 
 told_not_full : (memory : Word → ℕ) (seat made : ℕ) (kept : Kept) (spot : Spot) → told_at memory seat made kept spot ≢ Some Full
-told_not_full memory seat made kept (Loading at) = load_not_full memory seat kept.command at
-told_not_full memory seat made kept (OnField object at) = field_not_full memory object kept.command at
+told_not_full memory seat made kept (Loading spot) = load_not_full memory seat kept.command spot
+told_not_full memory seat made kept (OnField object spot) = field_not_full memory object kept.command spot
 told_not_full memory seat made kept (OnNumber object refs numbers.Load) = λ e. absurd cc
 told_not_full memory seat made kept (OnNumber object refs numbers.Store) = λ e. absurd cc
 told_not_full memory seat made kept (StoreRoot value) = λ e. absurd cc
 told_not_full memory seat made kept (Making (make.StoreRoot address)) = λ e. absurd cc
-told_not_full memory seat made kept (Making at) = λ e. absurd cc
+told_not_full memory seat made kept (Making spot) = λ e. absurd cc
 told_not_full memory seat made kept (Waiting (wait.StoreRoot address)) = λ e. absurd cc
-told_not_full memory seat made kept (Waiting at) = λ e. absurd cc
-told_not_full memory seat made kept (Pinning value at) = pin_not_full memory seat value kept.command at
+told_not_full memory seat made kept (Waiting spot) = λ e. absurd cc
+told_not_full memory seat made kept (Pinning value spot) = pin_not_full memory seat value kept.command spot
 told_not_full memory seat made kept AskCycle = λ e. absurd cc
 told_not_full memory seat made kept _ = λ e. absurd cc
 
 entries_not_full : (seat : ℕ) (command : Command) (found : Option Reply) → found ≢ Some Full → IsWithoutFull (entries_of seat command found)
 entries_not_full seat command None not = All-nil (λ e. e.reply ≢ Full)
-entries_not_full seat command (Some r) not = All-cons (λ e. e.reply ≢ Full) _ [] (λ e. not (ap (λ (reply : Reply). Some reply) e)) (All-nil (λ e. e.reply ≢ Full))
+entries_not_full seat command (Some other_reply) not = All-cons (λ e. e.reply ≢ Full) _ [] (λ e. not (ap (λ (reply : Reply). Some reply) e)) (All-nil (λ e. e.reply ≢ Full))
 
 -- so the entries that the step of a mutator settles have no Full
 pub mutator_not_full : (memory : Word → ℕ) (mutator : Mutating) (command : Command) → IsWithoutFull (entries_of mutator.seat command (told_of memory mutator))

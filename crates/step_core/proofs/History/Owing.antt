@@ -5,10 +5,10 @@ use Rattle.std.proofs.lemmas.List.{length-set}
 use Rattle.std.proofs.lemmas.List.Elements.{All-append}
 use Rattle.std.proofs.lemmas.Option.{same_Some}
 use Rattle.std.proofs.lemmas.Bool.{cases_eq}
+use Rattle.heap_words.proofs.Lists.{slice_get-set_other, slice_get-set_same}
 use Rattle.heap_words.specs.declared.config.Config.{Config}
 use Rattle.heap_words.specs.Words.{table_words}
 use Rattle.heap_words.specs.Steps.{Stage}
-use Rattle.heap_words.proofs.Places.{slice_get-set_same, slice_get-set_other}
 use Rattle.shen_graph.specs.Graph.{Graph}
 use Rattle.shen_graph.specs.History.{Entry, after, of_thread}
 use Rattle.heap_world.specs.World.{World, Shared}
@@ -23,7 +23,7 @@ use Rattle.step_core.proofs.History.Entries.{after-append, legal-append}
 
 -- two worlds of equal parts are equal
 same_world : (world other_world : World) → world.memory ≡ other_world.memory → world.block ≡ other_world.block → world.ghost ≡ other_world.ghost → world.graph ≡ other_world.graph → world ≡ other_world
-same_world world other_world memory block ghost graph = λ i. record { memory = memory i; block = block i; ghost = ghost i; graph = graph i }
+same_world world other_world memory block ghost graph = λ address. record { memory = memory address; block = block address; ghost = ghost address; graph = graph address }
 
 module _ (config : Config) (graph : Graph) (stage : Stage Actor) (past : List Entry) (number : ℕ) (old new : Actor) (words : List ℕ) (settles : List Entry) where
   -- the stage after the event

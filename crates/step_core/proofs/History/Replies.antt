@@ -78,8 +78,8 @@ module _ (config : Config) (world : World) (seat made : ℕ) (kept : Kept) (comm
       ∙ not_one config world shared found expect (Some others.name) (world.graph.root (seat + 1) cas.expected) others.is cas.expect_is.stands others
 
   same_name_words : (found object expect value : ℕ) → IsCas config world seat command object (index_of kept.command) expect value → found ≢ 0 → NameTheSame world.block found expect → name_the_same world.memory found expect ≡ true
-  same_name_words found object expect value cas some (inl null) = absurd (some null.0)
-  same_name_words found object expect value cas some (inr both) =
+  same_name_words found object expect value cas positive (inl null) = absurd (positive null.0)
+  same_name_words found object expect value cas positive (inr both) =
       names_agree config world shared found expect (Some both.0) (world.graph.root (seat + 1) cas.expected) both.1 cas.expect_is.stands
       ∙ one_reference config world shared found expect (Some both.0) (world.graph.root (seat + 1) cas.expected) both.1 cas.expect_is.stands (inr both)
 
@@ -88,8 +88,8 @@ module _ (config : Config) (world : World) (seat made : ℕ) (kept : Kept) (comm
   unsettled_before Rest before facts = facts
   unsettled_before (Ended reply) before facts = facts
   unsettled_before Gone before facts = facts
-  unsettled_before (Entering at Call) before facts = facts.unsettled
-  unsettled_before (Entering at Waited) before facts = waits_unsettled world seat made kept.command command fixed raw seen before (answered_polls world seat made kept.command command fixed facts)
+  unsettled_before (Entering spot Call) before facts = facts.unsettled
+  unsettled_before (Entering spot Waited) before facts = waits_unsettled world seat made kept.command command fixed raw seen before (answered_polls world seat made kept.command command fixed facts)
   unsettled_before LoadPhase before facts = facts.unsettled
   unsettled_before LoadSet before facts = facts.unsettled
   unsettled_before (Loading load.First) before facts = facts.0.unsettled
@@ -102,14 +102,14 @@ module _ (config : Config) (world : World) (seat made : ℕ) (kept : Kept) (comm
   unsettled_before (OnField object (fields.Store value)) before facts = facts.0
   unsettled_before (OnField object (fields.Swap value)) before facts = facts.0
   unsettled_before (OnField object (fields.Exchange found expect value)) before facts = facts.0
-  unsettled_before (Resolving address at ForRoot) before facts = absurd (cc (before))
+  unsettled_before (Resolving address spot ForRoot) before facts = absurd (cc (before))
   unsettled_before (Resolving address at (ToCompare object expect value)) before facts = ⊎_elim
       (λ no. let apart = others_apart address object expect value facts.1.is_cas no.1 in absurd (cc (before, apart)))
       (λ same. same.0)
       facts.1.settled
   unsettled_before (Recording at address (overwrites.Set object value)) before facts = facts.1.0
-  unsettled_before (Recording at address overwrites.Xchg) before facts = absurd (cc (before))
-  unsettled_before (Recording at address overwrites.Cas) before facts = absurd (cc (before))
+  unsettled_before (Recording spot address overwrites.Xchg) before facts = absurd (cc (before))
+  unsettled_before (Recording spot address overwrites.Cas) before facts = absurd (cc (before))
   unsettled_before (OnNumber object refs numbers.Load) before facts = facts.0
   unsettled_before (OnNumber object refs numbers.Store) before facts = facts.0
   unsettled_before (StoreRoot value) before facts = facts.0
@@ -126,12 +126,12 @@ module _ (config : Config) (world : World) (seat made : ℕ) (kept : Kept) (comm
   unsettled_before (Waiting wait.LoadAnswer) before facts = waits_unsettled world seat made kept.command command fixed raw seen before (answered_polls world seat made kept.command command fixed facts)
   unsettled_before (Waiting (wait.StoreRoot address)) before facts = facts.0.0.unsettled
   unsettled_before (Waiting (wait.ClearAnswer reply)) before facts = absurd (cc (before))
-  unsettled_before (Showing value at) before facts = absurd (cc (before))
+  unsettled_before (Showing value spot) before facts = absurd (cc (before))
   unsettled_before (Leave reply) before facts = absurd (cc (before))
 
   -- and behind it there is one
   pub settled_after : (spot : Spot) → has_settled world.memory raw spot ≡ true → SpotFacts config world seat made kept command fixed spot → fixed ≢ None
-  settled_after (Resolving address at ForRoot) behind facts = λ none. absurd (let it = facts.1.settled in cc)
+  settled_after (Resolving address spot ForRoot) behind facts = λ none. absurd (let it = facts.1.settled in cc)
   settled_after (Resolving address at (ToCompare object expect value)) behind facts = λ none. ⊎_elim
       (λ no. absurd (let it = no.0 in cc (it, none)))
       (λ same. let one = same_name_words address object expect value facts.1.is_cas facts.1.some same.1 in absurd (cc (behind, one)))
@@ -139,11 +139,11 @@ module _ (config : Config) (world : World) (seat made : ℕ) (kept : Kept) (comm
   settled_after (Showing value show.LoadName) behind facts = λ none. absurd (let it = facts.0.settled in cc)
   settled_after (Showing value (show.StoreRoot reply)) behind facts = λ none. absurd (let it = facts.0 in cc)
   settled_after (Recording at address (overwrites.Set object value)) behind facts = absurd (cc (behind))
-  settled_after (Recording at address overwrites.Xchg) behind facts = λ none. absurd (let it = facts.1.settled in cc)
-  settled_after (Recording at address overwrites.Cas) behind facts = λ none. absurd (let it = facts.1 in cc)
+  settled_after (Recording spot address overwrites.Xchg) behind facts = λ none. absurd (let it = facts.1.settled in cc)
+  settled_after (Recording spot address overwrites.Cas) behind facts = λ none. absurd (let it = facts.1 in cc)
   settled_after (Leave reply) behind facts = λ none. absurd cc
-  settled_after (Entering at Waited) behind facts = waits_settled world seat made kept.command command fixed raw seen behind (answered_polls world seat made kept.command command fixed facts)
-  settled_after (Entering at Call) behind facts = absurd (cc (behind))
+  settled_after (Entering spot Waited) behind facts = waits_settled world seat made kept.command command fixed raw seen behind (answered_polls world seat made kept.command command fixed facts)
+  settled_after (Entering spot Call) behind facts = absurd (cc (behind))
   settled_after (Waiting wait.Poll) behind facts = waits_settled world seat made kept.command command fixed raw seen behind facts
   settled_after (Waiting wait.LoadAnswer) behind facts = waits_settled world seat made kept.command command fixed raw seen behind (answered_polls world seat made kept.command command fixed facts)
   settled_after (Waiting (wait.ClearAnswer reply)) behind facts = λ none. absurd (let it = facts.0 in cc)

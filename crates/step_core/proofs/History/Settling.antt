@@ -12,15 +12,15 @@ use Rattle.step_core.specs.Actor.{entry_of}
 use Rattle.step_core.proofs.Machines.Stepped.{LegalBy, graph_by}
 
 -- where a command pins no object, the graph after it is the outcome's
-after_unpinned : (graph : Graph) (t : ℕ) (command : Command) (r : Reply) → pinned_by graph t command ≡ None → after_reply graph t command r ≡ (outcome graph t command).graph
+after_unpinned : (graph : Graph) (t : ℕ) (command : Command) (answer : Reply) → pinned_by graph t command ≡ None → after_reply graph t command answer ≡ (outcome graph t command).graph
 after_unpinned graph t (Pin slot obj) (reply.At place) none = ap (λ v. with_pinned graph t slot v place) none
 after_unpinned graph t (Pin slot obj) _ none = refl
-after_unpinned graph t _ r none = refl
+after_unpinned graph t _ answer none = refl
 
 -- the outcome's own answer is legal, where the command pins no object
-pub legal_answer : (config : Config) (graph : Graph) (seat : ℕ) (command : Command) (r : Reply) → is_full r ≡ false → pinned_by graph (seat + 1) command ≡ None → (outcome graph (seat + 1) command).reply ≡ r → LegalBy config graph seat command (Some r)
-legal_answer config graph seat command r other none is = inl (none, ap (λ x. answers x (after_entry graph (entry_of seat command r))) (sym is) ∙ rw (other, after_unpinned graph (seat + 1) command r none) refl)
+pub legal_answer : (config : Config) (graph : Graph) (seat : ℕ) (command : Command) (answer : Reply) → is_full answer ≡ false → pinned_by graph (seat + 1) command ≡ None → (outcome graph (seat + 1) command).reply ≡ answer → LegalBy config graph seat command (Some answer)
+legal_answer config graph seat command answer other none is = inl (none, ap (λ x. answers x (after_entry graph (entry_of seat command answer))) (sym is) ∙ rw (other, after_unpinned graph (seat + 1) command answer none) refl)
 
 -- and leads to the outcome's graph
-pub graph_answer : (graph : Graph) (seat : ℕ) (command : Command) (r : Reply) → is_full r ≡ false → pinned_by graph (seat + 1) command ≡ None → graph_by graph seat command (Some r) ≡ (outcome graph (seat + 1) command).graph
-graph_answer graph seat command r other none = rw (other, after_unpinned graph (seat + 1) command r none) refl
+pub graph_answer : (graph : Graph) (seat : ℕ) (command : Command) (answer : Reply) → is_full answer ≡ false → pinned_by graph (seat + 1) command ≡ None → graph_by graph seat command (Some answer) ≡ (outcome graph (seat + 1) command).graph
+graph_answer graph seat command answer other none = rw (other, after_unpinned graph (seat + 1) command answer none) refl

@@ -31,7 +31,7 @@ pub record AreAlike (memory other_memory : Word → ℕ) : Type 0 where
   pub answers : (mutator : ℕ) → other_memory (Answer mutator) ≡ memory (Answer mutator)
   pub counts : (mutator : ℕ) → other_memory (Count mutator) ≡ memory (Count mutator)
   pub buffers : (mutator index : ℕ) → other_memory (Buffer mutator index) ≡ memory (Buffer mutator index)
-  pub greys : (n : ℕ) → other_memory (Grey n) ≡ memory (Grey n)
+  pub greys : (number : ℕ) → other_memory (Grey number) ≡ memory (Grey number)
   pub heap : (address : ℕ) → other_memory (Heap address) ≡ memory (Heap address)
 
 -- whether a word is one of the handshake
@@ -53,7 +53,7 @@ alike_written memory Pause value is = record {
   free = refl;
   tops = λ r. refl;
   tams = λ r. refl;
-  limits = λ r. refl;
+  limits = λ region. refl;
   currents = λ seat. refl;
   roots = λ t i. refl;
   pins = λ t i. refl;
@@ -73,7 +73,7 @@ alike_written memory Left value is = record {
   free = refl;
   tops = λ r. refl;
   tams = λ r. refl;
-  limits = λ r. refl;
+  limits = λ region. refl;
   currents = λ seat. refl;
   roots = λ t i. refl;
   pins = λ t i. refl;
@@ -93,7 +93,7 @@ alike_written memory End value is = record {
   free = refl;
   tops = λ r. refl;
   tams = λ r. refl;
-  limits = λ r. refl;
+  limits = λ region. refl;
   currents = λ seat. refl;
   roots = λ t i. refl;
   pins = λ t i. refl;
@@ -113,7 +113,7 @@ alike_written memory (State other) value is = record {
   free = refl;
   tops = λ r. refl;
   tams = λ r. refl;
-  limits = λ r. refl;
+  limits = λ region. refl;
   currents = λ seat. refl;
   roots = λ t i. refl;
   pins = λ t i. refl;
@@ -138,13 +138,13 @@ module _ (config : Config) (world : World) (memory : Word → ℕ) (seat : ℕ) 
   keeps_alike : Keeps config seat world (world_with world memory world.graph)
   keeps_alike = record {
     names = λ a name is. is;
-    targets = λ a refs nums name is. targets_alike a refs nums name is;
+    targets = λ address refs nums name is. targets_alike address refs nums name is;
     promises = λ a words is. is;
-    no_promises = λ a words is. is;
-    promise_words = λ a words k is below. alike.heap (a + k);
+    no_promises = λ address words is. is;
+    promise_words = λ address words k is below. alike.heap (address + k);
     root_words = λ i. alike.roots seat i;
     roots = λ i. refl;
-    pin_words = λ i. alike.pins seat i;
+    pin_words = λ index. alike.pins seat index;
     pins = λ i. refl;
     count = refl;
     wait = alike.waits seat;
@@ -157,13 +157,13 @@ module _ (config : Config) (world : World) (memory : Word → ℕ) (seat : ℕ) 
   rely_alike : memory (State seat) ≡ world.memory (State seat) → Rely config seat world (world_with world memory world.graph)
   rely_alike state = record {
     names = λ a name is. is;
-    targets = λ a refs nums name is. targets_alike a refs nums name is;
+    targets = λ address refs nums name is. targets_alike address refs nums name is;
     rooms = λ a x is room. is;
     no_rooms = λ a x is room. is;
     room_words = λ a k x is room below. alike.heap (a + k);
     promises = λ a words is. is;
-    no_promises = λ a words is. is;
-    promise_words = λ a words k is below. alike.heap (a + k);
+    no_promises = λ address words is. is;
+    promise_words = λ address words k is below. alike.heap (address + k);
     current = alike.currents seat;
     opens = λ r is. record {
       within = is.within;
@@ -171,11 +171,11 @@ module _ (config : Config) (world : World) (memory : Word → ℕ) (seat : ℕ) 
       nobodys = is.nobodys;
       outside = λ inside. is.outside (subst (λ set. IsIn set r) alike.cset inside);
     };
-    owners = λ r is. is;
+    owners = λ region is. is;
     tops = λ r is. alike.tops r;
     root_words = λ i. alike.roots seat i;
     roots = λ i. refl;
-    pin_words = λ i. alike.pins seat i;
+    pin_words = λ index. alike.pins seat index;
     pins = λ i. refl;
     count = refl;
     wait = alike.waits seat;
@@ -196,7 +196,7 @@ load_step config world seat word facts shared own = record {
   shared = shared;
   own = own;
   keeps = keeps_of config seat world world (rely_same config seat world);
-  others = λ k differs. rely_same config k world;
+  others = λ seat differs. rely_same config seat world;
 }
 
 -- and of a store into a word of the handshake, which is no state word of another machine

@@ -28,7 +28,7 @@ touched_promises memory touch mutator outside =
     ap (λ n. if nat_le n 1 then 0 else object_words (touched memory touch (Heap (n + 1)))) (touched_image memory touch (Answer mutator) outside refl)
     ∙ ap (λ n. if nat_le (memory (Answer mutator)) 1 then 0 else object_words n) (touched_image memory touch (Heap (memory (Answer mutator) + 1)) outside refl)
 
-module _ (config : Config) (words : List ℕ) (found : Option Counting) (touch : Touch) (world other_world : World) (before : world.memory ≡ settled_by config words found) (after : other_world.memory ≡ touched world.memory touch) (long : length words ≡ table_words config)
+module _ (config : Config) (words : List ℕ) (found : Option Counting) (touch : Touch) (world next_world : World) (before : world.memory ≡ settled_by config words found) (after : next_world.memory ≡ touched world.memory touch) (long : length words ≡ table_words config)
     (is : is_word config touch.word ≡ true) where
   abbrev words_then : List ℕ
   words_then = words_after config words touch
@@ -38,7 +38,7 @@ module _ (config : Config) (words : List ℕ) (found : Option Counting) (touch :
   whole_before none mutator = ap (λ x. settled_by config words x (Answer mutator)) (sym none) ∙ ap (λ memory. memory (Answer mutator)) (sym before)
 
   -- and it does then
-  pub whole_then : found ≡ None → (mutator : ℕ) → view config words_then (Answer mutator) ≡ other_world.memory (Answer mutator)
+  pub whole_then : found ≡ None → (mutator : ℕ) → view config words_then (Answer mutator) ≡ next_world.memory (Answer mutator)
   whole_then none mutator =
       ap (λ memory. memory (Answer mutator))
       (view-placed config words touch is long ∙ ap (λ x. touched (settled_by config words x) touch) (sym none) ∙ ap (λ memory. touched memory touch) (sym before) ∙ sym after)
@@ -48,20 +48,20 @@ module _ (config : Config) (words : List ℕ) (found : Option Counting) (touch :
   raw_stays outside mutator = ap (λ memory. memory (Answer mutator)) (view-placed config words touch is long) ∙ touched_image (view config words) touch (Answer mutator) outside refl
 
   -- so do those that count
-  pub now_stays : is_image touch.word ≡ false → (mutator : ℕ) → other_world.memory (Answer mutator) ≡ world.memory (Answer mutator)
+  pub now_stays : is_image touch.word ≡ false → (mutator : ℕ) → next_world.memory (Answer mutator) ≡ world.memory (Answer mutator)
   now_stays outside mutator = ap (λ memory. memory (Answer mutator)) after ∙ touched_image world.memory touch (Answer mutator) outside refl
 
   -- and nothing changes by which crowding is measured
-  pub counts_same : other_world.graph ≡ world.graph → is_image touch.word ≡ false → CountsTheSame world other_world
-  counts_same graph outside = record { graph = graph; promised = λ v. ap (λ memory. words_promised memory v) after ∙ touched_promises world.memory touch v outside }
+  pub counts_same : next_world.graph ≡ world.graph → is_image touch.word ≡ false → CountsTheSame world next_world
+  counts_same graph outside = record { graph = graph; promised = λ mutator. ap (λ memory. words_promised memory mutator) after ∙ touched_promises world.memory touch mutator outside }
 
   module _ (held : (image : Counting) → found ≡ Some image → is_image touch.word ≡ false) where
     -- the answer in the table of a machine that can rely on the step
-    pub other_raw : (x : Option Counting) → found ≡ x → (mutator : ℕ) → Rely config mutator world other_world → view config words_then (Answer mutator) ≡ view config words (Answer mutator)
+    pub other_raw : (x : Option Counting) → found ≡ x → (mutator : ℕ) → Rely config mutator world next_world → view config words_then (Answer mutator) ≡ view config words (Answer mutator)
     other_raw None none mutator rely = whole_then none mutator ∙ rely.answer ∙ sym (whole_before none mutator)
     other_raw (Some image) is_held mutator rely = raw_stays (held image is_held) mutator
 
     -- that is the answer that counts, or nothing changes by which crowding is measured
-    pub other_counts : ((image : Counting) → found ≡ Some image → other_world.graph ≡ world.graph) → (x : Option Counting) → found ≡ x → (mutator : ℕ) → (view config words (Answer mutator) ≡ world.memory (Answer mutator)) ⊎ CountsTheSame world other_world
+    pub other_counts : ((image : Counting) → found ≡ Some image → next_world.graph ≡ world.graph) → (x : Option Counting) → found ≡ x → (mutator : ℕ) → (view config words (Answer mutator) ≡ world.memory (Answer mutator)) ⊎ CountsTheSame world next_world
     other_counts graph None none mutator = inl (whole_before none mutator)
     other_counts graph (Some image) is_held mutator = inr (counts_same (graph image is_held) (held image is_held))

@@ -3,10 +3,10 @@ use Rattle.std.proofs.Common.{◌≡◌, ◌≢◌, ℕ, ◌+◌, ◌-◌, ◌<�
 use Rattle.std.specs.Prelude.{◌&&◌, min, is_some, slice_get, slice_set, slice_index, if◌then◌else◌}
 use Rattle.std.proofs.lemmas.Bool.{cases_eq, eq-eqb, ne_eqb}
 use Rattle.std.proofs.lemmas.Option.{same_Some}
+use Rattle.heap_words.proofs.Lists.{slice_get-set_other, slice_get-set_same}
 use Rattle.heap_words.specs.declared.config.Config.{Config}
 use Rattle.heap_words.specs.Access.{table_index, got_of}
 use Rattle.heap_words.specs.Steps.{Stage, Event, act_of, act, go, moved}
-use Rattle.heap_words.proofs.Places.{slice_get-set_same, slice_get-set_other}
 use Rattle.shen_graph.specs.declared.order.Order.{Order}
 use Rattle.shen_graph.specs.declared.order.Order.TheVariants.{Nothing, Begin, End, Hint}
 use Rattle.shen_graph.specs.Order.{hint_in}
@@ -32,18 +32,18 @@ mutator_takes _ made address = refl
 -- what a machine keeps after a step under an order that it takes
 counts_step : (change : Change) (config : Config) (order : Order) (got : ℕ) (machine : Machine) → takes_of machine order ≡ true → hints_of machine < 2 ^ 64
     → hints_of (machine_after change config order got machine) ≡ min (hints_of machine + weight (is_some (hint_in order))) (2 ^ 64 - 1)
-counts_step change config (Hint address) got (mutating m) takes few = absurd (let no = mutator_takes m.spot m.made address in cc (takes, no))
-counts_step change config Nothing got (mutating m) takes few = refl
-counts_step change config (Begin command) got (mutating m) takes few = refl
-counts_step change config End got (mutating m) takes few = refl
-counts_step change config (Hint address) got (helping h) takes few = refl
-counts_step change config Nothing got (helping h) takes few = omega (arith, few)
-counts_step change config (Begin command) got (helping h) takes few = absurd (cc (takes))
-counts_step change config End got (helping h) takes few = absurd (cc (takes))
-counts_step change config (Hint address) got (controlling k) takes few = refl
-counts_step change config Nothing got (controlling k) takes few = omega (arith, few)
-counts_step change config (Begin command) got (controlling k) takes few = absurd (cc (takes))
-counts_step change config End got (controlling k) takes few = absurd (cc (takes))
+counts_step change config (Hint address) got (mutating mutator) takes below = absurd (let no = mutator_takes mutator.spot mutator.made address in cc (takes, no))
+counts_step change config Nothing got (mutating mutator) takes below = refl
+counts_step change config (Begin command) got (mutating mutator) takes below = refl
+counts_step change config End got (mutating mutator) takes below = refl
+counts_step change config (Hint address) got (helping helper) takes below = refl
+counts_step change config Nothing got (helping helper) takes below = omega (arith, below)
+counts_step change config (Begin command) got (helping helper) takes below = absurd (cc (takes))
+counts_step change config End got (helping helper) takes below = absurd (cc (takes))
+counts_step change config (Hint address) got (controlling control) takes below = refl
+counts_step change config Nothing got (controlling control) takes below = omega (arith, below)
+counts_step change config (Begin command) got (controlling control) takes below = absurd (cc (takes))
+counts_step change config End got (controlling control) takes below = absurd (cc (takes))
 
 module _ (change : Change) (config : Config) (stage : Stage Actor) (number : ℕ) (event : Event Order) (before : Actor) (here : slice_get stage.machines number ≡ Some before) (few : hints_of before.machine < 2 ^ 64) where
   -- an event of another machine

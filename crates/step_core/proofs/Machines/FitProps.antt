@@ -32,35 +32,35 @@ whole_is_prop config phase (control.LoadWord index extent) image got = hlevel
 whole_is_prop config phase _ image got = hlevel
 
 -- of a resolving
-leaves_is_prop : (at : ResolveSpot) (got : ℕ) → IsProp (LeavesFit at got)
+leaves_is_prop : (spot : ResolveSpot) (got : ℕ) → IsProp (LeavesFit spot got)
 leaves_is_prop (Leaving answer) got = hlevel
 leaves_is_prop _ got = hlevel
 
 -- of a unit of evacuation
 evacuation_is_prop : (config : Config) (seat : ℕ) (spot : EvacSpot) (got : ℕ) → IsProp (units.PartFit config seat spot got)
 evacuation_is_prop config seat (evac.LoadTop region) got = hlevel Bool-set
-evacuation_is_prop config seat (evac.Resolving address end next at) got = hlevel (Bool-set, leaves_is_prop at got)
+evacuation_is_prop config seat (evac.Resolving address end next spot) got = hlevel (Bool-set, leaves_is_prop spot got)
 evacuation_is_prop config seat _ got = hlevel
 
 -- of a unit, of the control and of a helper
-work_is_prop : (config : Config) (seat : ℕ) (at : UnitSpot) (got : ℕ) → IsProp (unit.IsFit config seat at got)
-work_is_prop config seat (Scanning at) got = hlevel Bool-set
-work_is_prop config seat (Evacuating cset at) got = hlevel (Bool-set, evacuation_is_prop config seat at got)
-work_is_prop config seat (Updating cset at) got = hlevel Bool-set
+work_is_prop : (config : Config) (seat : ℕ) (spot : UnitSpot) (got : ℕ) → IsProp (unit.IsFit config seat spot got)
+work_is_prop config seat (Scanning spot) got = hlevel Bool-set
+work_is_prop config seat (Evacuating cset spot) got = hlevel (Bool-set, evacuation_is_prop config seat spot got)
+work_is_prop config seat (Updating cset spot) got = hlevel Bool-set
 work_is_prop config seat (Ended ended) got = hlevel
 
 pub unit_is_prop : (config : Config) (spot : ControlSpot) (got : ℕ) → IsProp (UnitGoesOn config spot got)
-unit_is_prop config (control.Working at) got = work_is_prop config (control_seat config) at got
+unit_is_prop config (control.Working spot) got = work_is_prop config (control_seat config) spot got
 unit_is_prop config _ got = hlevel
 
 pub helpers_is_prop : (config : Config) (seat : ℕ) (spot : HelpSpot) (got : ℕ) → IsProp (helpers.UnitGoesOn config seat spot got)
-helpers_is_prop config seat (help.Working at) got = work_is_prop config seat at got
+helpers_is_prop config seat (help.Working spot) got = work_is_prop config seat spot got
 helpers_is_prop config seat _ got = hlevel
 
 -- of a part of a call
 pub part_is_prop : (config : Config) (seat : ℕ) (kept : Kept) (spot : Spot) (got : ℕ) → IsProp (PartFit config seat kept spot got)
-part_is_prop config seat kept (OnField object at) got = hlevel Bool-set
-part_is_prop config seat kept (Resolving address at next) got = hlevel (Bool-set, leaves_is_prop at got)
+part_is_prop config seat kept (OnField object spot) got = hlevel Bool-set
+part_is_prop config seat kept (Resolving address spot next) got = hlevel (Bool-set, leaves_is_prop spot got)
 part_is_prop config seat kept _ got = hlevel
 
 pub ends_is_prop : (order : Order) (got : ℕ) → IsProp (EndsFit order got)

@@ -86,73 +86,73 @@ by_greyed None = 0
 by_greyed (Some address) = 2
 
 -- the parts of a call
-enter_kind : (at : EnterSpot) → kind (enters.place_at at) ≡ 0
+enter_kind : (spot : EnterSpot) → kind (enters.place_at spot) ≡ 0
 enter_kind enter.Raise = refl
 enter_kind _ = refl
 
-take_kind : (at : TakeSpot) → kind (takes.place_at at) ≡ 0
+take_kind : (spot : TakeSpot) → kind (takes.place_at spot) ≡ 0
 take_kind take.LoadBuffer = refl
 take_kind _ = refl
 
-room_kind : (at : RoomSpot) → kind (rooms.place_at at) ≡ 0
+room_kind : (spot : RoomSpot) → kind (rooms.place_at spot) ≡ 0
 room_kind room.Outside = refl
 room_kind _ = refl
 
-copy_kind : (at : CopySpot) → kind (resolves.copy_place at) ≡ 0
+copy_kind : (spot : CopySpot) → kind (resolves.copy_place spot) ≡ 0
 copy_kind (copy.LoadWord words index) = refl
 copy_kind _ = refl
 
-resolve_kind : (at : ResolveSpot) → kind (resolves.place_at at) ≡ 0
-resolve_kind (resolve.Entering at) = room_kind at
-resolve_kind (resolve.Taking words at) = take_kind at
-resolve_kind (resolve.Copying copy end at) = copy_kind at
-resolve_kind (resolve.Stopping at) = room_kind at
+resolve_kind : (spot : ResolveSpot) → kind (resolves.place_at spot) ≡ 0
+resolve_kind (resolve.Entering spot) = room_kind spot
+resolve_kind (resolve.Taking words spot) = take_kind spot
+resolve_kind (resolve.Copying copy end spot) = copy_kind spot
+resolve_kind (resolve.Stopping spot) = room_kind spot
 resolve_kind _ = refl
 
-load_kind : (at : LoadSpot) → kind (mutators.load_place at) ≡ 0
+load_kind : (spot : LoadSpot) → kind (mutators.load_place spot) ≡ 0
 load_kind load.First = refl
 load_kind _ = refl
 
-field_kind : (at : FieldSpot) → kind (mutators.field_place at) ≡ 0
+field_kind : (spot : FieldSpot) → kind (mutators.field_place spot) ≡ 0
 field_kind fields.Load = refl
 field_kind _ = refl
 
-number_kind : (at : NumberSpot) → kind (mutators.number_place at) ≡ 0
+number_kind : (spot : NumberSpot) → kind (mutators.number_place spot) ≡ 0
 number_kind number.Load = refl
 number_kind _ = refl
 
-show_kind : (at : ShowSpot) → kind (mutators.show_place at) ≡ 0
+show_kind : (spot : ShowSpot) → kind (mutators.show_place spot) ≡ 0
 show_kind show.LoadName = refl
 show_kind _ = refl
 
-pin_kind : (at : PinSpot) → kind (mutators.pin_place at) ≡ 0
+pin_kind : (spot : PinSpot) → kind (mutators.pin_place spot) ≡ 0
 pin_kind pins.Look = refl
 pin_kind pins.Store = refl
 
-make_kind : (at : MakeSpot) → kind (mutators.make_place at) ≡ 0
+make_kind : (spot : MakeSpot) → kind (mutators.make_place spot) ≡ 0
 make_kind (make.Taking take) = take_kind take
 make_kind _ = refl
 
-wait_kind : (at : WaitSpot) → kind (wait_place at) ≡ 0
+wait_kind : (spot : WaitSpot) → kind (wait_place spot) ≡ 0
 wait_kind wait.StoreRequest = refl
 wait_kind _ = refl
 
-remember_kind : (at : RememberSpot) → kind (satb.place_at at) ≡ by_greyed (satb.greys_at at)
+remember_kind : (spot : RememberSpot) → kind (satb.place_at spot) ≡ by_greyed (satb.greys_at spot)
 remember_kind remember.LoadCount = refl
 remember_kind _ = refl
 
 -- a mutator
 spot_kind : (spot : Spot) → kind (mutators.place_at Nothing spot) ≡ by_greyed (mutators.greys_at spot)
-spot_kind (Entering at next) = enter_kind at
-spot_kind (Loading at) = load_kind at
-spot_kind (OnField object at) = field_kind at
-spot_kind (Resolving address at next) = resolve_kind at
-spot_kind (Recording at address next) = remember_kind at
-spot_kind (OnNumber object refs at) = number_kind at
-spot_kind (Showing value at) = show_kind at
-spot_kind (Making at) = make_kind at
-spot_kind (Pinning value at) = pin_kind at
-spot_kind (Waiting at) = wait_kind at
+spot_kind (Entering spot next) = enter_kind spot
+spot_kind (Loading spot) = load_kind spot
+spot_kind (OnField object spot) = field_kind spot
+spot_kind (Resolving address spot next) = resolve_kind spot
+spot_kind (Recording spot address next) = remember_kind spot
+spot_kind (OnNumber object refs spot) = number_kind spot
+spot_kind (Showing value spot) = show_kind spot
+spot_kind (Making spot) = make_kind spot
+spot_kind (Pinning value spot) = pin_kind spot
+spot_kind (Waiting spot) = wait_kind spot
 spot_kind _ = refl
 
 -- the kind that goes with who works on a unit: it claims, or makes an address grey, or neither
@@ -160,43 +160,43 @@ abbrev by_work : Bool → Option ℕ → ℕ
 by_work true greyed = 1
 by_work false greyed = by_greyed greyed
 
-evac_kind : (at : EvacSpot) → kind (evacs.place_at at) ≡ 0
-evac_kind (evac.Resolving address end next at) = resolve_kind at
+evac_kind : (spot : EvacSpot) → kind (evacs.place_at spot) ≡ 0
+evac_kind (evac.Resolving address end next spot) = resolve_kind spot
 evac_kind _ = refl
 
-update_kind : (at : UpdateSpot) → kind (updates.place_at at) ≡ 0
+update_kind : (spot : UpdateSpot) → kind (updates.place_at spot) ≡ 0
 update_kind (update.Ended Worked) = refl
 update_kind (update.Ended NoneLeft) = refl
 update_kind _ = refl
 
-scan_kind : (at : ScanSpot) → not (scans.is_ended at) ≡ true → kind (scans.place_at at) ≡ by_work (units.takes_hint (Scanning at)) (scans.greys_at at)
+scan_kind : (spot : ScanSpot) → not (scans.is_ended spot) ≡ true → kind (scans.place_at spot) ≡ by_work (units.takes_hint (Scanning spot)) (scans.greys_at spot)
 scan_kind (scan.Ended unit) goes = absurd (cc (goes))
 scan_kind _ goes = refl
 
-unit_kind : (at : UnitSpot) → scans_on at ≡ true → kind (units.place_at at) ≡ by_work (units.takes_hint at) (units.greys_at at)
-unit_kind (Scanning at) goes = scan_kind at goes
-unit_kind (Evacuating cset at) goes = evac_kind at
-unit_kind (Updating cset at) goes = update_kind at
+unit_kind : (spot : UnitSpot) → scans_on spot ≡ true → kind (units.place_at spot) ≡ by_work (units.takes_hint spot) (units.greys_at spot)
+unit_kind (Scanning spot) goes = scan_kind spot goes
+unit_kind (Evacuating cset spot) goes = evac_kind spot
+unit_kind (Updating cset spot) goes = update_kind spot
 unit_kind (Ended unit) goes = refl
 
-stop_kind : (at : StopSpot) → kind (stops.place_at at) ≡ 0
+stop_kind : (spot : StopSpot) → kind (stops.place_at spot) ≡ 0
 stop_kind stop.Raise = refl
 stop_kind _ = refl
 
 help_kind : (spot : HelpSpot) → scans_on (help_unit spot) ≡ true → kind (helpers.place_at spot) ≡ by_work (helpers.takes_hint spot) (helpers.greys_at spot)
-help_kind (help.Working at) goes = unit_kind at goes
-help_kind (help.Entering at) goes = enter_kind at
+help_kind (help.Working spot) goes = unit_kind spot goes
+help_kind (help.Entering spot) goes = enter_kind spot
 help_kind _ goes = refl
 
 control_kind : (spot : ControlSpot) → scans_on (control_unit spot) ≡ true → kind (controls.control_place spot) ≡ by_work (controls.takes_hint spot) (controls.greys_at spot)
-control_kind (control.Working at) goes = unit_kind at goes
-control_kind (control.Stopping at) goes = stop_kind at
+control_kind (control.Working spot) goes = unit_kind spot goes
+control_kind (control.Stopping spot) goes = stop_kind spot
 control_kind _ goes = refl
 
 -- a machine
 machine_kind : (machine : Machine) → scans_on (unit_in machine) ≡ true → kind (place_in Nothing machine) ≡ by_work (takes_hint machine) (greys_of machine)
-machine_kind (mutating m) goes = spot_kind m.spot
-machine_kind (helping h) goes = help_kind h.spot goes
+machine_kind (mutating mutator) goes = spot_kind mutator.spot
+machine_kind (helping helper) goes = help_kind helper.spot goes
 machine_kind (controlling k) goes = control_kind k.spot goes
 
 claims_by : (holds : Bool) (greyed : Option ℕ) → by_work holds greyed ≡ 1 → holds ≡ true
@@ -211,7 +211,7 @@ taken_there machine goes = (
 )
 
 -- where a scan has ended no address is made grey either
-scan_greys : (at : ScanSpot) → (scans.greys_at at ≡ None) ↔ (scans.place_at at ≡ GO → ⊥)
+scan_greys : (spot : ScanSpot) → (scans.greys_at spot ≡ None) ↔ (scans.place_at spot ≡ GO → ⊥)
 scan_greys (scan.SetGrey address field refs found) = ((λ none. absurd (cc (none))), (λ not_there. absurd (not_there refl)))
 scan_greys (scan.Ended Worked) = ((λ none there. cc), (λ not_there. refl))
 scan_greys (scan.Ended NoneLeft) = ((λ none there. cc), (λ not_there. refl))
@@ -221,25 +221,25 @@ greyed_by : (place : Place) (greyed : Option ℕ) → kind place ≡ by_greyed g
 greyed_by place None is = ((λ none there. (let a = is in let two = ap kind there in omega (arith, a, two))), (λ not_there. refl))
 greyed_by place (Some address) is = ((λ none. absurd (cc (none))), (λ not_there. absurd (not_there (kind_greys place is))))
 
-unit_greys : (at : UnitSpot) → (units.greys_at at ≡ None) ↔ (units.place_at at ≡ GO → ⊥)
-unit_greys (Scanning at) = scan_greys at
-unit_greys (Evacuating cset at) = greyed_by (evacs.place_at at) None (evac_kind at)
-unit_greys (Updating cset at) = greyed_by (updates.place_at at) None (update_kind at)
+unit_greys : (spot : UnitSpot) → (units.greys_at spot ≡ None) ↔ (units.place_at spot ≡ GO → ⊥)
+unit_greys (Scanning spot) = scan_greys spot
+unit_greys (Evacuating cset spot) = greyed_by (evacs.place_at spot) None (evac_kind spot)
+unit_greys (Updating cset spot) = greyed_by (updates.place_at spot) None (update_kind spot)
 unit_greys (Ended unit) = greyed_by KX None refl
 
 help_greys : (spot : HelpSpot) → (helpers.greys_at spot ≡ None) ↔ (helpers.place_at spot ≡ GO → ⊥)
-help_greys (help.Working at) = unit_greys at
-help_greys (help.Entering at) = greyed_by (enters.place_at at) None (enter_kind at)
+help_greys (help.Working spot) = unit_greys spot
+help_greys (help.Entering spot) = greyed_by (enters.place_at spot) None (enter_kind spot)
 help_greys spot = greyed_by (helpers.place_at spot) None refl
 
 control_greys : (spot : ControlSpot) → (controls.greys_at spot ≡ None) ↔ (controls.control_place spot ≡ GO → ⊥)
-control_greys (control.Working at) = unit_greys at
-control_greys (control.Stopping at) = greyed_by (stops.place_at at) None (stop_kind at)
+control_greys (control.Working spot) = unit_greys spot
+control_greys (control.Stopping spot) = greyed_by (stops.place_at spot) None (stop_kind spot)
 control_greys spot = greyed_by (controls.control_place spot) None refl
 
 greyed_there : (machine : Machine) → (greys_of machine ≡ None) ↔ (place_in Nothing machine ≡ GO → ⊥)
-greyed_there (mutating m) = greyed_by (mutators.place_at Nothing m.spot) (mutators.greys_at m.spot) (spot_kind m.spot)
-greyed_there (helping h) = help_greys h.spot
+greyed_there (mutating mutator) = greyed_by (mutators.place_at Nothing mutator.spot) (mutators.greys_at mutator.spot) (spot_kind mutator.spot)
+greyed_there (helping helper) = help_greys helper.spot
 greyed_there (controlling k) = control_greys k.spot
 
 pub places_of_hints : HintsHavePlaces

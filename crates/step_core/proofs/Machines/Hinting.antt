@@ -24,29 +24,29 @@ use Rattle.step_core.proofs.Machines.Owed.{CanWork, HelpFacts, ControlFacts, IsH
 
 module _ (config : Config) (world : World) (seat : ℕ) where
   -- in a unit
-  scan_hinted : (address : ℕ) (at : ScanSpot) → CanWork config world seat (Scanning at) → CanWork config world seat (units.hinted_by config (Some address) (Scanning at))
+  scan_hinted : (address : ℕ) (spot : ScanSpot) → CanWork config world seat (Scanning spot) → CanWork config world seat (units.hinted_by config (Some address) (Scanning spot))
   scan_hinted address scan.LoadClaim can = (scanning_steps.hinted config world seat address can.0, can.1, can.2, can.3)
-  scan_hinted address (scan.ClaimUnit k) can = can
+  scan_hinted address (scan.ClaimUnit unit) can = can
   scan_hinted address (scan.LoadGrey word) can = can
   scan_hinted address (scan.LoadBlack word grey) can = can
-  scan_hinted address (scan.SetBlack a) can = can
-  scan_hinted address (scan.LoadShape a) can = can
-  scan_hinted address (scan.LoadField a field refs) can = can
-  scan_hinted address (scan.SetGrey a field refs found) can = can
+  scan_hinted address (scan.SetBlack other_address) can = can
+  scan_hinted address (scan.LoadShape other_address) can = can
+  scan_hinted address (scan.LoadField other_address field refs) can = can
+  scan_hinted address (scan.SetGrey other_address field refs found) can = can
   scan_hinted address (scan.Ended which) can = can
 
-  pub work_hinted : (hint : Option ℕ) (at : UnitSpot) → CanWork config world seat at → CanWork config world seat (units.hinted_by config hint at)
-  work_hinted None at can = can
-  work_hinted (Some address) (Scanning at) can = scan_hinted address at can
-  work_hinted (Some address) (Evacuating cset at) can = can
-  work_hinted (Some address) (Updating cset at) can = can
+  pub work_hinted : (hint : Option ℕ) (spot : UnitSpot) → CanWork config world seat spot → CanWork config world seat (units.hinted_by config hint spot)
+  work_hinted None spot can = can
+  work_hinted (Some address) (Scanning spot) can = scan_hinted address spot can
+  work_hinted (Some address) (Evacuating cset spot) can = can
+  work_hinted (Some address) (Updating cset spot) can = can
   work_hinted (Some address) (Ended which) can = can
 
   -- wherever a helper stands
   help_facts : (hint : Option ℕ) (spot : HelpSpot) → HelpFacts config world seat spot → HelpFacts config world seat (helpers.hinted_by config hint spot)
-  help_facts hint (help.Working at) facts = work_hinted hint at facts
+  help_facts hint (help.Working spot) facts = work_hinted hint spot facts
   help_facts hint help.LoadEnd facts = facts
-  help_facts hint (help.Entering at) facts = facts
+  help_facts hint (help.Entering spot) facts = facts
   help_facts hint help.LoadPhase facts = facts
   help_facts hint (help.LoadSet phase) facts = facts
   help_facts hint help.Leave facts = facts
@@ -78,9 +78,9 @@ module _ (config : Config) (world : World) (seat : ℕ) where
 module _ (config : Config) where
   -- where they stand is the same
   help_stands : (hint : Option ℕ) (spot : HelpSpot) → help_standing (helpers.hinted_by config hint spot) ≡ help_standing spot
-  help_stands hint (help.Working at) = refl
+  help_stands hint (help.Working spot) = refl
   help_stands hint help.LoadEnd = refl
-  help_stands hint (help.Entering at) = refl
+  help_stands hint (help.Entering spot) = refl
   help_stands hint help.LoadPhase = refl
   help_stands hint (help.LoadSet phase) = refl
   help_stands hint help.Leave = refl

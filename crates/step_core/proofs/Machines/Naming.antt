@@ -89,7 +89,7 @@ module _ (config : Config) (world : World) (shared : Shared config world) where
       let first : at_a.0 ≡ name = same_Some at_a.0 name (sym (ap name_at at_a.3.piece) ∙ is_a) in
       let second : at_b.0 ≡ name = same_Some at_b.0 other_name (sym (ap name_at at_b.3.piece) ∙ is_b) ∙ sym same in
       shared.contents.objects.once address other_address at_a.1 at_a.2 at_b.1 at_b.2 name
-      (at_a.3.piece ∙ ap (λ x. Some (thing x at_a.1 at_a.2)) first) (at_b.3.piece ∙ ap (λ x. Some (thing x at_b.1 at_b.2)) second))
+      (at_a.3.piece ∙ ap (λ name. Some (thing name at_a.1 at_a.2)) first) (at_b.3.piece ∙ ap (λ name. Some (thing name at_b.1 at_b.2)) second))
       usable_b)
       usable_a
 
@@ -98,22 +98,22 @@ module _ (config : Config) (world : World) (shared : Shared config world) where
   same_words address other_address None None usable_a usable_b is_a is_b = eq-eqb address other_address (is_a ∙ sym is_b)
   same_words address other_address None (Some n) usable_a usable_b is_a is_b = ne_eqb address other_address (λ e. none-some n (sym (null_if_0 config _ world.block shared.parsable.plotted other_address (Some n) is_b (sym e ∙ is_a))))
   same_words address other_address (Some m) None usable_a usable_b is_a is_b = ne_eqb address other_address (λ e. none-some m (sym (null_if_0 config _ world.block shared.parsable.plotted address (Some m) is_a (e ∙ is_b))))
-  same_words address other_address (Some m) (Some n) usable_a usable_b is_a is_b = ⊎_elim
-      (λ (same : same_name m n ≡ true). eq-eqb address other_address (same_targets address other_address m n usable_a usable_b is_a is_b (same_name-true m n same)) ∙ sym same)
-      (λ (differs : same_name m n ≡ false).
+  same_words address other_address (Some name) (Some other_name) usable_a usable_b is_a is_b = ⊎_elim
+      (λ (same : same_name name other_name ≡ true). eq-eqb address other_address (same_targets address other_address name other_name usable_a usable_b is_a is_b (same_name-true name other_name same)) ∙ sym same)
+      (λ (differs : same_name name other_name ≡ false).
       ne_eqb address other_address (λ e.
-      let is : m ≡ n = same_Some m n (sym is_a ∙ ap (λ x. name_at (world.block x)) e ∙ is_b) in
-      let same : same_name m n ≡ true = ap (λ x. same_name x n) is ∙ same_name-itself n in
+      let is : name ≡ other_name = same_Some name other_name (sym is_a ∙ ap (λ address. name_at (world.block address)) e ∙ is_b) in
+      let same : same_name name other_name ≡ true = ap (λ x. same_name x other_name) is ∙ same_name-itself other_name in
       absurd (cc))
       ∙ sym differs)
-      (cases_Bool (same_name m n))
+      (cases_Bool (same_name name other_name))
 
   -- two words name the same where they stand for one reference
   pub named_as_one : (address other_address : ℕ) (reference other_reference : Reference) → Points world.block address reference → Points world.block other_address other_reference → same_reference reference other_reference ≡ true → NameTheSame world.block address other_address
   named_as_one address other_address None None is_a is_b same = inl (is_a, is_b)
   named_as_one address other_address None (Some n) is_a is_b same = absurd (cc (same))
   named_as_one address other_address (Some m) None is_a is_b same = absurd (cc (same))
-  named_as_one address other_address (Some m) (Some n) is_a is_b same = inr (m, is_a, is_b ∙ ap (λ x. Some x) (sym (same_name-true m n same)))
+  named_as_one address other_address (Some name) (Some n) is_a is_b same = inr (name, is_a, is_b ∙ ap (λ x. Some x) (sym (same_name-true name n same)))
 
   -- and the other way round
   pub one_reference : (address other_address : ℕ) (reference other_reference : Reference) → Points world.block address reference → Points world.block other_address other_reference → NameTheSame world.block address other_address → same_reference reference other_reference ≡ true
@@ -121,41 +121,41 @@ module _ (config : Config) (world : World) (shared : Shared config world) where
       rw (null_if_0 config _ world.block shared.parsable.plotted address reference is_a null.0, null_if_0 config _ world.block shared.parsable.plotted other_address other_reference is_b null.1) refl
   one_reference address other_address None reference is_a is_b (inr both) = absurd (none-some both.0 (sym (null_if_0 config _ world.block shared.parsable.plotted address (Some both.0) both.1 is_a)))
   one_reference address other_address (Some m) None is_a is_b (inr both) = absurd (none-some both.0 (sym (null_if_0 config _ world.block shared.parsable.plotted other_address (Some both.0) both.2 is_b)))
-  one_reference address other_address (Some m) (Some n) is_a is_b (inr both) =
-      let is : m ≡ n = same_Some m both.0 (sym is_a ∙ both.1) ∙ sym (same_Some n both.0 (sym is_b ∙ both.2)) in
-      ap (λ x. same_name x n) is ∙ same_name-itself n
+  one_reference address other_address (Some m) (Some name) is_a is_b (inr both) =
+      let is : m ≡ name = same_Some m both.0 (sym is_a ∙ both.1) ∙ sym (same_Some name both.0 (sym is_b ∙ both.2)) in
+      ap (λ x. same_name x name) is ∙ same_name-itself name
 
   -- a word that is not null, and does not stand for the reference of another one, names an object that the other one does not
   pub named_otherwise : (address other_address : ℕ) (reference other_reference : Reference) → address ≢ 0 → Points world.block address reference → Points world.block other_address other_reference → same_reference reference other_reference ≡ false → NameOthers world.block address other_address
-  named_otherwise address other_address None reference some is_a is_b differs = absurd (some is_a)
-  named_otherwise address other_address (Some m) None some is_a is_b differs = record { name = m; is = is_a; other = inl is_b }
-  named_otherwise address other_address (Some m) (Some n) some is_a is_b differs = record {
+  named_otherwise address other_address None reference positive is_a is_b differs = absurd (positive is_a)
+  named_otherwise address other_address (Some m) None positive is_a is_b differs = record { name = m; is = is_a; other = inl is_b }
+  named_otherwise address other_address (Some m) (Some name) positive is_a is_b differs = record {
     name = m;
     is = is_a;
-    other = inr (n, is_b, λ same. (let itself : same_name m n ≡ true = ap (λ x. same_name x n) same ∙ same_name-itself n in absurd (cc)));
+    other = inr (name, is_b, λ same. (let itself : same_name m name ≡ true = ap (λ x. same_name x name) same ∙ same_name-itself name in absurd (cc)));
   }
 
   -- the reply that shows a word shows the reference that it stands for
   pub shown_is : (value : ℕ) (reference : Reference) → Points world.block value reference → shown_word world.memory value ≡ shown reference
   shown_is value None is = cond-true (value == 0) _ _ (eq-eqb value 0 is)
-  shown_is value (Some n) is =
-      let other : (value == 0) ≡ false = ne_eqb value 0 (λ e. none-some n (sym (null_if_0 config _ world.block shared.parsable.plotted value (Some n) is e))) in
-      let word = name_there value n is in
-      cond-false (value == 0) _ _ other ∙ ap (λ w. reply.Ref (name_in w)) word.0 ∙ ap (λ m. reply.Ref m) (name_read n word.1)
+  shown_is value (Some name) is =
+      let other : (value == 0) ≡ false = ne_eqb value 0 (λ e. none-some name (sym (null_if_0 config _ world.block shared.parsable.plotted value (Some name) is e))) in
+      let word = name_there value name is in
+      cond-false (value == 0) _ _ other ∙ ap (λ w. reply.Ref (name_in w)) word.0 ∙ ap (λ m. reply.Ref m) (name_read name word.1)
 
   -- and otherwise they do not stand for one
   pub not_one : (address other_address : ℕ) (reference other_reference : Reference) → Points world.block address reference → Points world.block other_address other_reference → NameOthers world.block address other_address → same_reference reference other_reference ≡ false
   not_one address other_address None reference is_a is_b others = absurd (none-some others.name (sym (null_if_0 config _ world.block shared.parsable.plotted address (Some others.name) others.is is_a)))
   not_one address other_address (Some m) None is_a is_b others = refl
-  not_one address other_address (Some m) (Some n) is_a is_b others = ⊎_elim
-      (λ (same : same_name m n ≡ true).
-      let is : others.name ≡ n = same_Some others.name m (sym others.is ∙ is_a) ∙ same_name-true m n same in
+  not_one address other_address (Some name) (Some n) is_a is_b others = ⊎_elim
+      (λ (same : same_name name n ≡ true).
+      let is : others.name ≡ n = same_Some others.name name (sym others.is ∙ is_a) ∙ same_name-true name n same in
       absurd (⊎_elim
       (λ (null : other_address ≡ 0). none-some n (sym (null_if_0 config _ world.block shared.parsable.plotted other_address (Some n) is_b null)))
       (λ more. more.2 (is ∙ sym (same_Some more.0 n (sym more.1 ∙ is_b))))
       others.other))
-      (λ (differs : same_name m n ≡ false). differs)
-      (cases_Bool (same_name m n))
+      (λ (differs : same_name name n ≡ false). differs)
+      (cases_Bool (same_name name n))
 
   -- a copy of an object stands for what another copy of it stands for
   pub copied : (address other_address : ℕ) (name : Name) (reference : Reference) → name_at (world.block address) ≡ Some name → name_at (world.block other_address) ≡ Some name → Points world.block address reference → Points world.block other_address reference
@@ -169,16 +169,16 @@ module _ (config : Config) (world : World) (shared : Shared config world) where
       cond-true ((address == 0) || (other_address == 0)) _ _ (rw (eq-eqb address 0 is_a) refl) ∙ ne_eqb address other_address (λ e. none-some n (sym (null_if_0 config _ world.block shared.parsable.plotted other_address (Some n) is_b (sym e ∙ is_a))))
   names_agree address other_address (Some m) None is_a is_b =
       cond-true ((address == 0) || (other_address == 0)) _ _ (grind (arith, nat_tests)) ∙ ne_eqb address other_address (λ e. none-some m (sym (null_if_0 config _ world.block shared.parsable.plotted address (Some m) is_a (e ∙ is_b))))
-  names_agree address other_address (Some m) (Some n) is_a is_b =
-      let some_a : (address == 0) ≡ false = ne_eqb address 0 (λ e. none-some m (sym (null_if_0 config _ world.block shared.parsable.plotted address (Some m) is_a e))) in
-      let some_b : (other_address == 0) ≡ false = ne_eqb other_address 0 (λ e. none-some n (sym (null_if_0 config _ world.block shared.parsable.plotted other_address (Some n) is_b e))) in
-      let word_a = name_there address m is_a in
-      let word_b = name_there other_address n is_b in
-      cond-false ((address == 0) || (other_address == 0)) _ _ (rw (some_a, some_b) refl) ∙ rw (word_a.0, word_b.0) (same_codes m n word_a.1 word_b.1)
+  names_agree address other_address (Some name) (Some other_name) is_a is_b =
+      let some_a : (address == 0) ≡ false = ne_eqb address 0 (λ e. none-some name (sym (null_if_0 config _ world.block shared.parsable.plotted address (Some name) is_a e))) in
+      let some_b : (other_address == 0) ≡ false = ne_eqb other_address 0 (λ e. none-some other_name (sym (null_if_0 config _ world.block shared.parsable.plotted other_address (Some other_name) is_b e))) in
+      let word_a = name_there address name is_a in
+      let word_b = name_there other_address other_name is_b in
+      cond-false ((address == 0) || (other_address == 0)) _ _ (rw (some_a, some_b) refl) ∙ rw (word_a.0, word_b.0) (same_codes name other_name word_a.1 word_b.1)
 
   -- the graph's object of an object in hand
   pub object_in : (seat root object : ℕ) (has : HasObject config world seat root object)
-      → (o : Object) × (world.graph.object has.name ≡ Some o) × IsThing (λ a. world.memory (Heap a)) world.block object has.refs has.nums has.name o
+      → (o : Object) × (world.graph.object has.name ≡ Some o) × IsThing (λ address. world.memory (Heap address)) world.block object has.refs has.nums has.name o
   object_in seat root object has = shared.contents.objects.each object has.refs has.nums has.name has.target.piece
 
   -- a reference field of an object in hand
@@ -198,8 +198,8 @@ module _ (config : Config) (world : World) (shared : Shared config world) where
       ap (λ x. slice_get x.nums index) (named_object world.graph (seat + 1) root has.name o.0 has.root_is o.1) ∙ there ∙ ap (λ n. Some n) (sym (o.2.numbers index _ there))
 
   -- the words of an object in hand are words of the heap
-  pub word_in : (seat root object at k : ℕ) (has : HasObject config world seat root object) → k < 3 + has.refs + has.nums → at ≡ object + k → is_word config (Heap at) ≡ true
-  word_in seat root object at k has below is = ap (λ a. is_word config (Heap a)) is ∙ piece_word config _ world.block shared.parsable.plotted object k (thing has.name has.refs has.nums) has.target.piece below
+  pub word_in : (seat root object address k : ℕ) (has : HasObject config world seat root object) → k < 3 + has.refs + has.nums → address ≡ object + k → is_word config (Heap address) ≡ true
+  word_in seat root object at k has below is = ap (λ address. is_word config (Heap address)) is ∙ piece_word config _ world.block shared.parsable.plotted object k (thing has.name has.refs has.nums) has.target.piece below
 
   -- there is no field and no number past the last
   no_field_in : (seat root object field : ℕ) (has : HasObject config world seat root object) → has.refs ≤ field → field_at world.graph (seat + 1) root field ≡ None

@@ -86,21 +86,21 @@ IsResting world seat = Rests world.ghost world.block seat
 
 -- it scans a unit of marking, neither copies nor works on a unit of evacuation, and has no room but free words of its buffer
 abbrev pub Scans : Config → World → ℕ → ScanSpot → Type 0
-Scans config world seat at = CanScan config world seat at × (world.ghost.copying seat ≡ false) × (world.ghost.working seat ≡ None) × OnlySpares world seat
+Scans config world seat spot = CanScan config world seat spot × (world.ghost.copying seat ≡ false) × (world.ghost.working seat ≡ None) × OnlySpares world seat
 
 -- What who works on a unit counts on by where the work stands: it can go on; or once the unit has ended it rests, and where none was left
 -- a pause is due.
 abbrev pub CanWork : Config → World → ℕ → UnitSpot → Type 0
-CanWork config world seat (Scanning at) = Scans config world seat at
-CanWork config world seat (Evacuating cset at) = CanEvacuate config world seat cset at
-CanWork config world seat (Updating cset at) = CanUpdate config world seat cset at
+CanWork config world seat (Scanning spot) = Scans config world seat spot
+CanWork config world seat (Evacuating cset spot) = CanEvacuate config world seat cset spot
+CanWork config world seat (Updating cset spot) = CanUpdate config world seat cset spot
 CanWork config world seat (Ended Worked) = IsResting world seat
 CanWork config world seat (Ended NoneLeft) = IsResting world seat × IsDue config world.memory
 
 -- What a helper counts on by where it stands: between the two loads it knows the phase, which is not 0, and in a unit it can go on;
 -- elsewhere it rests.
 abbrev pub HelpFacts : Config → World → ℕ → HelpSpot → Type 0
-HelpFacts config world seat (help.Working at) = CanWork config world seat at
+HelpFacts config world seat (help.Working spot) = CanWork config world seat spot
 HelpFacts config world seat (help.LoadSet phase) = IsResting world seat × (phase ≢ 0) × (phase ≡ world.memory Phase)
 HelpFacts config world seat _ = IsResting world seat
 
@@ -115,9 +115,9 @@ pub record IsHelper (config : Config) (world : World) (number : ℕ) (helper : H
 -- What the control counts on by where it stands: in a unit it can go on, and elsewhere it rests. It looks at the free word in phase 0
 -- alone, and where it has begun a pause and until it has read the image, that pause is due.
 abbrev pub ControlFacts : Config → World → ℕ → ControlSpot → Type 0
-ControlFacts config world number (Working at) = CanWork config world number at
+ControlFacts config world number (Working spot) = CanWork config world number spot
 ControlFacts config world number LookFree = IsResting world number × (world.memory Phase ≡ 0)
-ControlFacts config world number (Stopping at) = IsResting world number × IsDue config world.memory
+ControlFacts config world number (Stopping spot) = IsResting world number × IsDue config world.memory
 ControlFacts config world number (LoadWord index extent) = IsResting world number × IsDue config world.memory
 ControlFacts config world number _ = IsResting world number
 
@@ -133,9 +133,9 @@ pub record IsControl (config : Config) (words : List ℕ) (world : World) (numbe
 
 -- what holds of a machine, by the words of the table and the world
 abbrev pub IsMachine : Config → List ℕ → World → List Entry → ℕ → Actor → Machine → Type 0
-IsMachine config words world entries number actor (mutating m) = IsThread config words world entries number actor m
-IsMachine config words world entries number actor (helping h) = IsHelper config world number h
-IsMachine config words world entries number actor (controlling k) = IsControl config words world number k
+IsMachine config words world entries number actor (mutating mutator) = IsThread config words world entries number actor mutator
+IsMachine config words world entries number actor (helping helper) = IsHelper config world number helper
+IsMachine config words world entries number actor (controlling control) = IsControl config words world number control
 
 -- The stage stands for the graph after the history of a run that began with a graph, the history is legal and of the heap's
 -- threads, and each machine is where it should be.
@@ -157,14 +157,14 @@ pub record Follows (config : Config) (graph : Graph) (stage : Stage Actor) (past
 -- the entries that it settles, which may be of any threads; that the entries are legal and of the heap's threads; what all
 -- machines share; what holds of the machine itself, as it is then; and that what holds of each other machine stays.
 -- `words` is the table before it, `words_then` the table after it.
-pub record Owes (config : Config) (words words_then : List ℕ) (u : World) (past : List Entry) (number : ℕ) (machines : List Actor) (memory : Word → ℕ) (settles : List Entry) (new : Actor) : Type 0 where
+pub record Owes (config : Config) (words words_then : List ℕ) (next_world : World) (past : List Entry) (number : ℕ) (machines : List Actor) (memory : Word → ℕ) (settles : List Entry) (new : Actor) : Type 0 where
   pub world : World
   pub memory_is : world.memory ≡ memory
-  pub graph_is : world.graph ≡ after u.graph settles
-  pub legal : EachIsLegal config.regions config.region_words u.graph settles
+  pub graph_is : world.graph ≡ after next_world.graph settles
+  pub legal : EachIsLegal config.regions config.region_words next_world.graph settles
   pub entries : All (IsSettled config.mutators) settles
   pub shared : Shared config world
   pub promised_to : PromisedToMutators config world.block
   pub own : IsMachine config words_then world (of_thread (past ++ settles) (number + 1)) number new new.machine
   pub others : (index : ℕ) (actor : Actor) → index ≢ number → slice_get machines index ≡ Some actor
-      → IsMachine config words u (of_thread past (index + 1)) index actor actor.machine → IsMachine config words_then world (of_thread (past ++ settles) (index + 1)) index actor actor.machine
+      → IsMachine config words next_world (of_thread past (index + 1)) index actor actor.machine → IsMachine config words_then world (of_thread (past ++ settles) (index + 1)) index actor actor.machine

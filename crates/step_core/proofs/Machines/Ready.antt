@@ -94,13 +94,13 @@ module _ (config : Config) (seat made : ℕ) (kept : Kept) (command : Command) (
 
   module _ (top : ℕ → ℕ) (block : Plot) (plotted : IsPlotted config top block) (address : ℕ) (room : block address ≡ Some (hand seat (3 + refs + nums))) (mutator : seat < config.mutators) where
     -- the words of the object can be stored
-    pub word_ready : (k : ℕ) → k < 3 + refs + nums → is_ready config seat made kept (Making (make.StoreWord address k)) ≡ true
-    word_ready k below =
+    pub word_ready : (done : ℕ) → done < 3 + refs + nums → is_ready config seat made kept (Making (make.StoreWord address done)) ≡ true
+    word_ready done below =
         let few : seat < 8 = (let most = config.in_range.most_mutators in omega (arith, mutator, most)) in
         and_from _ _
         (and_from _ _
-        (piece_word config top block plotted address k (hand seat (3 + refs + nums)) room below)
-        (lt-ltb _ _ (fresh_small seat made refs nums k few making.few making.few_refs making.few_nums)))
+        (piece_word config top block plotted address done (hand seat (3 + refs + nums)) room below)
+        (lt-ltb _ _ (fresh_small seat made refs nums done few making.few making.few_refs making.few_nums)))
         (and_from _ _ object_fits (lt-ltb _ _ below))
 
     -- its address can be stored into a root

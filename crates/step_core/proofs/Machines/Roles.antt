@@ -7,6 +7,7 @@ use Rattle.std.proofs.lemmas.Bool.Decides.{nat_tests}
 use Rattle.std.proofs.lemmas.Option.{slice_get-get_or}
 use Rattle.std.proofs.Math.Path.{fun_ext}
 use Rattle.std.proofs.lemmas.List.{append-nil}
+use Rattle.shen_graph.proofs.Bools.{false_from_flip}
 use Rattle.heap_words.specs.declared.config.Config.{Config}
 use Rattle.heap_words.specs.Words.{Phase, Cset, Evac, Root, Answer, view, Word, Free, is_word, is_image}
 use Rattle.heap_words.specs.Ranges.{seat_count}
@@ -57,7 +58,7 @@ use Rattle.step_core.specs.Settled.{control_number}
 use Rattle.step_core.specs.Standing.{standing_at, help_standing}
 use Rattle.step_core.proofs.Machines.Stepped.{HasMarkingBy, HasCopyingBy, Mine}
 use Rattle.step_core.proofs.Machines.Owed.{IsSeen, IsShort, IsThread, IsHelper, IsResting, HelpFacts, ControlFacts, IsAim, IsOfExtent, IsMachine, words_promised}
-use Rattle.step_core.proofs.Helpers.Stable.{help_stays, control_stays, rests_outside, help_outside, help_word, help_leaves_image, is_off}
+use Rattle.step_core.proofs.Helpers.Stable.{help_stays, control_stays, rests_outside, help_outside, help_word, help_leaves_image}
 use Rattle.step_core.proofs.Mutators.Ordered.{order_word}
 use Rattle.step_core.proofs.Mutators.Outside.{outside_touch}
 use Rattle.step_core.proofs.Helpers.GoOn.{helps_on, goes_on}
@@ -78,9 +79,9 @@ pub record CountsTheSame (world other_world : World) : Type 0 where
   pub promised : (t : ℕ) → words_promised other_world.memory t ≡ words_promised world.memory t
 
 -- so crowding stays
-pub short_stays : (config : Config) (world other_world : World) (thread words : ℕ) → CountsTheSame world other_world → IsShort config world.memory world.graph thread words → IsShort config other_world.memory other_world.graph thread words
-short_stays config world other_world thread words same short =
-    let sums : sum_below (λ t. if t == thread then 0 else words_promised other_world.memory t) config.mutators ≡ sum_below (λ t. if t == thread then 0 else words_promised world.memory t) config.mutators =
+pub short_stays : (config : Config) (world next_world : World) (thread words : ℕ) → CountsTheSame world next_world → IsShort config world.memory world.graph thread words → IsShort config next_world.memory next_world.graph thread words
+short_stays config world next_world thread words same short =
+    let sums : sum_below (λ t. if t == thread then 0 else words_promised next_world.memory t) config.mutators ≡ sum_below (λ t. if t == thread then 0 else words_promised world.memory t) config.mutators =
     ap (λ f. sum_below (λ t. if t == thread then 0 else f t) config.mutators) (fun_ext same.promised) in
     record {
       names = short.names;
@@ -94,15 +95,15 @@ short_stays config world other_world thread words same short =
 
 -- What holds of a machine stays while another leads to a world that it can rely on. Its answer in the table stays, and either
 -- that is the one that counts, or nothing changes by which crowding is measured; and what the control has read or written stays so.
-pub record StaysWith (config : Config) (words words_then : List ℕ) (world other_world : World) (mutator : ℕ) (machine : Machine) : Type 0 where
-  pub rely : Rely config mutator world other_world
+pub record StaysWith (config : Config) (words words_then : List ℕ) (world next_world : World) (mutator : ℕ) (machine : Machine) : Type 0 where
+  pub rely : Rely config mutator world next_world
   pub answer : view config words_then (Answer mutator) ≡ view config words (Answer mutator)
-  pub counts : (view config words (Answer mutator) ≡ world.memory (Answer mutator)) ⊎ CountsTheSame world other_world
+  pub counts : (view config words (Answer mutator) ≡ world.memory (Answer mutator)) ⊎ CountsTheSame world next_world
   pub aims : (control : Controlling) → machine ≡ controlling control → IsAim config words control.spot control.image → IsAim config words_then control.spot control.image
 
 -- an answer stays with what is settled of it
 pub seen_stays : (raw raw_then now now_then : ℕ) (fixed : Option Reply) → raw_then ≡ raw → now_then ≡ now → IsSeen raw now fixed → IsSeen raw_then now_then fixed
-seen_stays raw raw_then now now_then fixed raws nows seen = subst (λ n. IsSeen n now_then fixed) (sym raws) (subst (λ n. IsSeen raw n fixed) (sym nows) seen)
+seen_stays raw raw_then now now_then fixed raws nows seen = subst (λ raw. IsSeen raw now_then fixed) (sym raws) (subst (λ n. IsSeen raw n fixed) (sym nows) seen)
 
 -- an answer that the heap is full, which counts and stands in the table, is settled
 pub full_settled : (raw now : ℕ) (fixed : Option Reply) → IsSeen raw now fixed → raw ≡ now → now ≡ 1 → fixed ≡ None → ⊥
@@ -111,62 +112,62 @@ full_settled raw now fixed seen same full unsettled = ⊎_elim
     (λ (none : (raw ≡ 0) × (fixed ≡ None)). omega (arith, none.0, same, full))
     (seen.full full)
 
-pub machine_stays : (config : Config) (words words_then : List ℕ) (world other_world : World) (entries more : List Entry) (mutator : ℕ) (actor : Actor) (machine : Machine) → Shared config world
-    → StaysWith config words words_then world other_world mutator machine → more ≡ entries → IsMachine config words world entries mutator actor machine → IsMachine config words_then other_world more mutator actor machine
-machine_stays config words words_then world other_world entries more mutator actor (mutating n) shared stays same is = record {
+pub machine_stays : (config : Config) (words words_then : List ℕ) (world next_world : World) (entries more : List Entry) (mutator : ℕ) (actor : Actor) (machine : Machine) → Shared config world
+    → StaysWith config words words_then world next_world mutator machine → more ≡ entries → IsMachine config words world entries mutator actor machine → IsMachine config words_then next_world more mutator actor machine
+machine_stays config words words_then world next_world entries more mutator actor (mutating other_mutator) shared stays same is = record {
   fixed = is.fixed;
   number_is = is.number_is;
   valid = is.valid;
-  mine = mine_stays config world other_world n actor.command is.fixed shared (subst (λ j. Rely config j world other_world) (sym is.number_is) stays.rely) is.mine;
+  mine = mine_stays config world next_world other_mutator actor.command is.fixed shared (subst (λ seat. Rely config seat world next_world) (sym is.number_is) stays.rely) is.mine;
   seen = seen_stays _ _ _ _ is.fixed stays.answer stays.rely.answer is.seen;
   short = λ full unsettled. ⊎_elim
       (λ (whole : view config words (Answer mutator) ≡ world.memory (Answer mutator)). absurd (full_settled _ _ is.fixed is.seen whole (sym stays.rely.answer ∙ full) unsettled))
-      (λ (counts : CountsTheSame world other_world). short_stays config world other_world mutator (words_asked (Some actor.command)) counts (is.short (sym stays.rely.answer ∙ full) unsettled))
+      (λ (counts : CountsTheSame world next_world). short_stays config world next_world mutator (words_asked (Some actor.command)) counts (is.short (sym stays.rely.answer ∙ full) unsettled))
       stays.counts;
   entries_are = same ∙ is.entries_are;
 }
-machine_stays config words words_then world other_world entries more mutator actor (helping h) shared stays same is =
+machine_stays config words words_then world next_world entries more mutator actor (helping helper) shared stays same is =
     record {
       number_is = is.number_is;
       ready = is.ready;
-      facts = help_stays config world other_world mutator h.spot shared stays.rely is.facts;
+      facts = help_stays config world next_world mutator helper.spot shared stays.rely is.facts;
       least = is.least;
       below = is.below;
     }
-machine_stays config words words_then world other_world entries more mutator actor (controlling h) shared stays same is =
+machine_stays config words words_then world next_world entries more mutator actor (controlling control) shared stays same is =
     record {
       number_is = is.number_is;
       ready = is.ready;
       phase_is = is.phase_is ∙ sym stays.rely.marks.keeps.phase;
       set_is = is.set_is ∙ sym stays.rely.copies.keeps.cset;
-      facts = control_stays config world other_world mutator h.spot shared stays.rely is.facts;
-      aims = stays.aims h refl is.aims;
+      facts = control_stays config world next_world mutator control.spot shared stays.rely is.facts;
+      aims = stays.aims control refl is.aims;
       extent_is = is.extent_is;
     }
 
 -- a machine has a number of its role
 pub number_of : (config : Config) (words : List ℕ) (world : World) (entries : List Entry) (k : ℕ) (actor : Actor) (machine : Machine) → IsMachine config words world entries k actor machine → HasNumber config k machine
-number_of config words world entries k actor (mutating n) is = (is.number_is, subst (λ j. j < config.mutators) is.number_is is.mine.seated.below)
-number_of config words world entries k actor (helping h) is = (is.number_is, is.least, is.below)
-number_of config words world entries k actor (controlling h) is = is.number_is
+number_of config words world entries k actor (mutating mutator) is = (is.number_is, subst (λ j. j < config.mutators) is.number_is is.mine.seated.below)
+number_of config words world entries k actor (helping helper) is = (is.number_is, is.least, is.below)
+number_of config words world entries k actor (controlling control) is = is.number_is
 
 -- that of a mutator's number is a mutator
 pub mutator_of : (config : Config) (other_mutator : ℕ) (machine : Machine) → HasNumber config other_mutator machine → other_mutator < config.mutators → (mutator : Mutating) × (machine ≡ mutating mutator)
 mutator_of config other_mutator (mutating mutator) number below = (mutator, refl)
-mutator_of config mutator (helping h) number below = absurd (omega (arith, number.1, below))
-mutator_of config mutator (controlling h) number below = absurd (omega (arith, number, below))
+mutator_of config mutator (helping helper) number below = absurd (omega (arith, number.1, below))
+mutator_of config mutator (controlling control) number below = absurd (omega (arith, number, below))
 
 -- and that of the control's number is the control
 pub control_of : (config : Config) (k : ℕ) (machine : Machine) → HasNumber config k machine → k ≡ config.mutators + config.helpers → (control : Controlling) × (machine ≡ controlling control)
-control_of config k (mutating m) number is = absurd (let below = number.1 in omega (arith, below, is))
-control_of config k (helping h) number is = absurd (let below = number.2 in omega (arith, below, is))
-control_of config k (controlling h) number is = (h, refl)
+control_of config k (mutating mutator) number is = absurd (let below = number.1 in omega (arith, below, is))
+control_of config k (helping helper) number is = absurd (let below = number.2 in omega (arith, below, is))
+control_of config k (controlling control) number is = (control, refl)
 
 -- a machine is a mutator where its number is one of a mutator, and nowhere else
 pub role_of : (config : Config) (number : ℕ) (machine : Machine) → HasNumber config number machine → is_mutating machine ≡ nat_lt number config.mutators
-role_of config number (mutating m) has = grind (arith, nat_tests, has.1)
-role_of config number (helping h) has = grind (arith, nat_tests, has.0)
-role_of config number (controlling k) has = grind (arith, nat_tests, has)
+role_of config number (mutating mutator) has = grind (arith, nat_tests, has.1)
+role_of config number (helping helper) has = grind (arith, nat_tests, has.0)
+role_of config number (controlling control) has = grind (arith, nat_tests, has)
 
 -- an order for who works begins no command
 no_command : (hints : Bool) (order : Order) (holds : Bool) (command : Command) → (is_for_working hints order && holds) ≡ true → command_by order command ≡ command
@@ -177,9 +178,9 @@ no_command hints (Hint address) holds command takes = refl
 
 -- only a mutator takes a command
 pub takes_no_command : (machine : Machine) (order : Order) (command : Command) → is_mutating machine ≡ false → takes_of machine order ≡ true → command_by order command ≡ command
-takes_no_command (mutating m) order command other takes = absurd (cc (other))
-takes_no_command (helping h) order command other takes = no_command (help.takes_hint h.spot) order _ command takes
-takes_no_command (controlling k) order command other takes = no_command (controls.takes_hint k.spot) order _ command takes
+takes_no_command (mutating mutator) order command other takes = absurd (cc (other))
+takes_no_command (helping helper) order command other takes = no_command (help.takes_hint helper.spot) order _ command takes
+takes_no_command (controlling control) order command other takes = no_command (controls.takes_hint control.spot) order _ command takes
 
 -- a mutator that takes commands is outside
 takes_outside : (spot : Spot) → takes_commands spot ≡ true → standing_at spot ≡ outside
@@ -189,40 +190,40 @@ takes_outside _ takes = absurd (cc (takes))
 
 -- an idle machine of a seat is outside
 pub idle_outside : (config : Config) (phase cset : ℕ) (graph : Graph) (number : ℕ) (machine : Machine) → HasNumber config number machine → IsIdle phase cset graph number machine → number < control_seat config → standing_of machine ≡ outside
-idle_outside config phase cset graph number (mutating m) has is below = takes_outside m.spot is.1
-idle_outside config phase cset graph number (helping h) has is below = ap help_standing is
-idle_outside config phase cset graph number (controlling k) has is below = absurd (omega (arith, has, below))
+idle_outside config phase cset graph number (mutating mutator) has is below = takes_outside mutator.spot is.1
+idle_outside config phase cset graph number (helping helper) has is below = ap help_standing is
+idle_outside config phase cset graph number (controlling control) has is below = absurd (omega (arith, has, below))
 
 -- A machine that is not in the heap rests, and the control where it is said to.
-pub rests_there : (config : Config) (words : List ℕ) (world : World) (entries : List Entry) (k : ℕ) (actor : Actor) (machine : Machine) → (k ≢ control_number config → is_within (standing_of machine) ≡ false)
-    → (k ≡ control_number config → IsResting world k) → IsMachine config words world entries k actor machine → IsResting world k
-rests_there config words world entries k actor (mutating m) out still is =
-    let below : k < config.mutators = subst (λ j. j < config.mutators) is.number_is is.mine.seated.below in
+pub rests_there : (config : Config) (words : List ℕ) (world : World) (entries : List Entry) (seat : ℕ) (actor : Actor) (machine : Machine) → (seat ≢ control_number config → is_within (standing_of machine) ≡ false)
+    → (seat ≡ control_number config → IsResting world seat) → IsMachine config words world entries seat actor machine → IsResting world seat
+rests_there config words world entries seat actor (mutating mutator) out still is =
+    let below : seat < config.mutators = subst (λ j. j < config.mutators) is.number_is is.mine.seated.below in
     let apart = out (λ e. omega (arith, below, e)) in
     subst (IsResting world) is.number_is
     (record {
-      records_none = is.mine.marking.records ∙ records_outside m.spot apart;
+      records_none = is.mine.marking.records ∙ records_outside mutator.spot apart;
       scans_none = is.mine.marking.scans;
-      copies_none = is.mine.copying.copies_is ∙ copies_outside m.spot apart;
+      copies_none = is.mine.copying.copies_is ∙ copies_outside mutator.spot apart;
       works_none = is.mine.copying.works_none;
-      rooms = λ a x here room. spares_outside m.seat m.kept m.spot a x apart (is.mine.rooms a x here room);
+      rooms = λ a piece here room. spares_outside mutator.seat mutator.kept mutator.spot a piece apart (is.mine.rooms a piece here room);
     })
-rests_there config words world entries k actor (helping h) out still is = rests_outside config world k h.spot (out (λ e. (let below = is.below in omega (arith, below, e)))) is.facts
-rests_there config words world entries k actor (controlling h) out still is = still is.number_is
+rests_there config words world entries seat actor (helping helper) out still is = rests_outside config world seat helper.spot (out (λ e. (let below = is.below in omega (arith, below, e)))) is.facts
+rests_there config words world entries seat actor (controlling control) out still is = still is.number_is
 
 -- What holds of a machine but the control that is not in the heap holds in each world in which it rests, of a mutator if that is known.
 pub outside_goes_on : (config : Config) (words : List ℕ) (world other_world : World) (entries : List Entry) (seat : ℕ) (actor : Actor) (machine : Machine) → seat ≢ control_number config → is_within (standing_of machine) ≡ false
     → (seat < seat_count config.mutators config.helpers → IsResting other_world seat) → ((mutator : Mutating) → machine ≡ mutating mutator → IsThread config words world entries seat actor mutator → IsThread config words other_world entries seat actor mutator)
     → IsMachine config words world entries seat actor machine → IsMachine config words other_world entries seat actor machine
 outside_goes_on config words world other_world entries seat actor (mutating mutator) other out rests threads is = threads mutator refl is
-outside_goes_on config words world other_world entries seat actor (helping h) other out rests threads is = record {
+outside_goes_on config words world other_world entries seat actor (helping helper) other out rests threads is = record {
   number_is = is.number_is;
   ready = is.ready;
-  facts = help_outside config other_world seat h.spot out (rests (let below = is.below in omega (arith, below)));
+  facts = help_outside config other_world seat helper.spot out (rests (let below = is.below in omega (arith, below)));
   least = is.least;
   below = is.below;
 }
-outside_goes_on config words world other_world entries seat actor (controlling h) other out rests threads is = absurd (other is.number_is)
+outside_goes_on config words world other_world entries seat actor (controlling control) other out rests threads is = absurd (other is.number_is)
 
 -- what a mutator counts on that takes commands
 rest_mine : (config : Config) (world : World) (seat made : ℕ) (kept : Kept) (command : Command) (spot : Spot) → takes_commands spot ≡ true → seat < config.mutators → world.graph.count (seat + 1) ≡ made
@@ -237,9 +238,9 @@ rest_mine config world seat made kept command Rest rest below counted roots none
   rooms = none;
   facts = refl;
 }
-rest_mine config world seat made kept command (Ended r) rest below counted roots none asked marking copying usable = record {
+rest_mine config world seat made kept command (Ended reply) rest below counted roots none asked marking copying usable = record {
   seated = record { below = below; counted = counted; usable = usable; unasked = λ no. asked };
-  ready = rest_ready config seat made kept (Ended r) rest below;
+  ready = rest_ready config seat made kept (Ended reply) rest below;
   marking = marking;
   copying = copying;
   roots = roots;
@@ -279,16 +280,16 @@ rests_by config world seat unmarking uncopying none seated = record {
 -- an idle machine that has ended no call, in such a world
 pub machine_begins : (config : Config) (words : List ℕ) (world : World) (mutator : ℕ) (actor : Actor) (machine : Machine) → view config words ≡ world.memory → HasNumber config mutator machine → IsIdle (world.memory Phase) (world.memory Cset) world.graph mutator machine → actor.calls ≡ []
     → is_valid actor.command ≡ true → IsAtRest config world → IsMachine config words world [] mutator actor machine
-machine_begins config words world mutator actor (mutating m) whole number idle calls valid rests =
-    let below : m.seat < config.mutators = subst (λ j. j < config.mutators) (sym number.0) number.1 in
+machine_begins config words world mutator actor (mutating other_mutator) whole number idle calls valid rests =
+    let below : other_mutator.seat < config.mutators = subst (λ j. j < config.mutators) (sym number.0) number.1 in
     let unasked = rests.asked mutator number.1 in
     record {
       fixed = None;
       number_is = number.0;
       valid = valid;
-      mine = rest_mine config world m.seat m.made m.kept actor.command m.spot idle.1 below (subst (λ j. world.graph.count (j + 1) ≡ m.made) (sym number.0) idle.0)
-          (λ i small. rests.roots m.seat i below small) (rests.spares m.seat) (rests.asked m.seat below) (unmarking_by config world m.seat m.kept.phase rests.unmarking below)
-          (uncopying_by config world m.seat m.kept.cset rests.uncopying below) (λ i small. rests.usable m.seat i below small);
+      mine = rest_mine config world other_mutator.seat other_mutator.made other_mutator.kept actor.command other_mutator.spot idle.1 below (subst (λ j. world.graph.count (j + 1) ≡ other_mutator.made) (sym number.0) idle.0)
+          (λ i small. rests.roots other_mutator.seat i below small) (rests.spares other_mutator.seat) (rests.asked other_mutator.seat below) (unmarking_by config world other_mutator.seat other_mutator.kept.phase rests.unmarking below)
+          (uncopying_by config world other_mutator.seat other_mutator.kept.cset rests.uncopying below) (λ i small. rests.usable other_mutator.seat i below small);
       seen = record {
         null = λ now. ap (λ memory. memory (Answer mutator)) whole ∙ now;
         full = λ now. absurd (let answer = unasked.1 in omega (arith, now, answer));
@@ -297,21 +298,21 @@ machine_begins config words world mutator actor (mutating m) whole number idle c
       short = λ now unsettled. absurd (let answer = unasked.1 in omega (arith, now, answer));
       entries_are = sym (append-nil actor.calls ∙ calls);
     }
-machine_begins config words world mutator actor (helping h) whole number idle calls valid rests = record {
+machine_begins config words world mutator actor (helping helper) whole number idle calls valid rests = record {
   number_is = number.0;
-  ready = and_from _ _ (lt-ltb _ _ (subst (λ j. j < config.mutators + config.helpers) (sym number.0) number.2)) (subst (λ spot. spot_fits config h.seat spot ≡ true) (sym idle) refl);
+  ready = and_from _ _ (lt-ltb _ _ (subst (λ j. j < config.mutators + config.helpers) (sym number.0) number.2)) (subst (λ spot. spot_fits config helper.seat spot ≡ true) (sym idle) refl);
   facts = subst (λ spot. HelpFacts config world mutator spot) (sym idle) (rests_by config world mutator rests.unmarking rests.uncopying (rests.spares mutator) (let below = number.2 in omega (arith, below)));
   least = number.1;
   below = number.2;
 }
-machine_begins config words world mutator actor (controlling h) whole number idle calls valid rests = record {
+machine_begins config words world mutator actor (controlling control) whole number idle calls valid rests = record {
   number_is = number;
   ready = subst (λ spot. is_ready config spot ≡ true) (sym idle.0) refl;
   phase_is = idle.2;
   set_is = idle.3;
   facts = subst (λ spot. ControlFacts config world mutator spot) (sym idle.0) (rests_by config world mutator rests.unmarking rests.uncopying (rests.spares mutator) (omega (arith, number)));
-  aims = subst (λ spot. IsAim config words spot h.image) (sym idle.0) tt;
-  extent_is = subst (λ spot. IsOfExtent config h.phase spot h.image) (sym idle.0) tt;
+  aims = subst (λ spot. IsAim config words spot control.image) (sym idle.0) tt;
+  extent_is = subst (λ spot. IsOfExtent config control.phase spot control.image) (sym idle.0) tt;
 }
 
 -- The machines of a stage, by their numbers.
@@ -330,66 +331,66 @@ module _ (config : Config) (words : List ℕ) (world : World) (past : List Entry
 
 -- a machine can make its next access
 abbrev pub CanGo : Config → Machine → Type 0
-CanGo config (mutating m) = IsReady config m
-CanGo config (helping h) = help_ready config h ≡ true
-CanGo config (controlling k) = is_ready config k.spot ≡ true
+CanGo config (mutating mutator) = IsReady config mutator
+CanGo config (helping helper) = help_ready config helper ≡ true
+CanGo config (controlling control) = is_ready config control.spot ≡ true
 
 -- a machine that is where it should be can make its next access
 pub can_go : (config : Config) (words : List ℕ) (world : World) (entries : List Entry) (number : ℕ) (actor : Actor) (machine : Machine) → IsMachine config words world entries number actor machine → CanGo config machine
-can_go config words world es number actor (mutating m) is = is.mine.ready
-can_go config words world es number actor (helping h) is = is.ready
-can_go config words world es number actor (controlling k) is = is.ready
+can_go config words world entries number actor (mutating mutator) is = is.mine.ready
+can_go config words world entries number actor (helping helper) is = is.ready
+can_go config words world entries number actor (controlling control) is = is.ready
 
 -- whether it is a mutator that has not ended
 abbrev pub is_left_of : Machine → Bool
-is_left_of (mutating m) = has_not_ended m.spot
+is_left_of (mutating mutator) = has_not_ended mutator.spot
 is_left_of _ = false
 
 -- Each obeys the handshake, and counts.
 module _ (change : Change) (config : Config) (number : ℕ) (order : Order) where
   pub machine_obeys : (machine : Machine) → HasNumber config number machine → takes_of machine order ≡ true → CanGo config machine
       → Obeys config number (standing_of machine) (plan_of config order machine) (λ got. standing_of (machine_after change config order got machine))
-  machine_obeys (mutating m) has takes can =
-      subst (λ seat. Obeys config seat (standing_of (mutating m)) (plan_of config order (mutating m)) (λ got. standing_of (machine_after change config order got (mutating m)))) has.0
-      (mutator_obeys config m order takes can)
-  machine_obeys (helping h) has takes can =
-      subst (λ stands. Obeys config number stands (plan_of config order (helping h)) (λ got. standing_of (machine_after change config order got (helping h)))) (help_hinted_stands config (hint_in order) h)
-      (helper_obeys (helping_by config order h) (help_hinted_seat config (hint_in order) h ∙ has.0) (help_hinted_ready config (hint_in order) h can)
-      (help_hinted_gone config (hint_in order) h ∙ is_off (help.is_gone h.spot) (and_parts _ _ takes).1))
+  machine_obeys (mutating mutator) has takes can =
+      subst (λ seat. Obeys config seat (standing_of (mutating mutator)) (plan_of config order (mutating mutator)) (λ got. standing_of (machine_after change config order got (mutating mutator)))) has.0
+      (mutator_obeys config mutator order takes can)
+  machine_obeys (helping helper) has takes can =
+      subst (λ stands. Obeys config number stands (plan_of config order (helping helper)) (λ got. standing_of (machine_after change config order got (helping helper)))) (help_hinted_stands config (hint_in order) helper)
+      (helper_obeys (helping_by config order helper) (help_hinted_seat config (hint_in order) helper ∙ has.0) (help_hinted_ready config (hint_in order) helper can)
+      (help_hinted_gone config (hint_in order) helper ∙ false_from_flip (help.is_gone helper.spot) (and_parts _ _ takes).1))
     where
       helper_obeys : (x : Helping) → x.seat ≡ number → help_ready config x ≡ true → help.is_gone x.spot ≡ false
           → Obeys config number (help_standing x.spot) (placed config (help.help_touch config x)) (λ got. help_standing (help.next_spot config x.spot got))
       helper_obeys x seat ready going =
           subst (λ j. Obeys config j (help_standing x.spot) (placed config (help.help_touch config x)) (λ got. help_standing (help.next_spot config x.spot got))) seat
           (let fits = and_parts (nat_lt x.seat (config.mutators + config.helpers)) (spot_fits config x.seat x.spot) ready in help_obeys config x.seat (ltb-true x.seat (config.mutators + config.helpers) fits.0) x.spot fits.1 going)
-  machine_obeys (controlling k) has takes can =
-      let x : Controlling = controlling_by config order k in
-      subst (λ stands. Obeys config number stands (plan_of config order (controlling k)) (λ got. standing_of (machine_after change config order got (controlling k)))) (control_hinted_stands config (hint_in order) k)
-      (control_obeys config number x.phase x.cset x.seen (stored_next config x.spot x.image) (word_stored x.spot x.image) x.spot (control_hinted_ready config (hint_in order) k can))
+  machine_obeys (controlling control) has takes can =
+      let x : Controlling = controlling_by config order control in
+      subst (λ stands. Obeys config number stands (plan_of config order (controlling control)) (λ got. standing_of (machine_after change config order got (controlling control)))) (control_hinted_stands config (hint_in order) control)
+      (control_obeys config number x.phase x.cset x.seen (stored_next config x.spot x.image) (word_stored x.spot x.image) x.spot (control_hinted_ready config (hint_in order) control can))
 
   pub machine_counts : (machine : Machine) → takes_of machine order ≡ true → CanGo config machine
       → Counts config (is_left_of machine) (plan_of config order machine) (λ got. is_left_of (machine_after change config order got machine))
-  machine_counts (mutating m) takes can = mutator_counts config m order takes can
-  machine_counts (helping h) takes can =
-      let x : Helping = helping_by config order h in
-      let ready = and_parts _ _ (help_hinted_ready config (hint_in order) h can) in
+  machine_counts (mutating mutator) takes can = mutator_counts config mutator order takes can
+  machine_counts (helping helper) takes can =
+      let x : Helping = helping_by config order helper in
+      let ready = and_parts _ _ (help_hinted_ready config (hint_in order) helper can) in
       help_counts config x.seat (ltb-true _ _ ready.0) x.spot ready.1
-  machine_counts (controlling k) takes can =
-      let x : Controlling = controlling_by config order k in
-      control_counts config (word_stored x.spot x.image) x.spot (control_hinted_ready config (hint_in order) k can)
+  machine_counts (controlling control) takes can =
+      let x : Controlling = controlling_by config order control in
+      control_counts config (word_stored x.spot x.image) x.spot (control_hinted_ready config (hint_in order) control can)
 
 -- a step of the control writes the word of the end where it ends, and no other does
 pub machine_keeps_end : (change : Change) (config : Config) (given : Order) (machine : Machine) → takes_of machine given ≡ true → CanGo config machine
     → KeepsEnd config (has_ended_of machine) (plan_of config given machine) (λ got. has_ended_of (machine_after change config given got machine))
-machine_keeps_end change config given (mutating m) takes can = inr (record { not_written = not_end config m given m.spot takes (ready_fits config m can) (ready_word config m can); same = λ got. refl })
-machine_keeps_end change config given (helping h) takes can =
-    let x : Helping = helping_by config given h in
-    let ready = and_parts _ _ (help_hinted_ready config (hint_in given) h can) in
+machine_keeps_end change config given (mutating mutator) takes can = inr (record { not_written = not_end config mutator given mutator.spot takes (ready_fits config mutator can) (ready_word config mutator can); same = λ got. refl })
+machine_keeps_end change config given (helping helper) takes can =
+    let x : Helping = helping_by config given helper in
+    let ready = and_parts _ _ (help_hinted_ready config (hint_in given) helper can) in
     inr (record { not_written = help_not_end config x.seat (ltb-true _ _ ready.0) x.spot ready.1; same = λ got. refl })
-machine_keeps_end change config given (controlling k) takes can =
-    let x : Controlling = controlling_by config given k in
-    subst (λ gone. KeepsEnd config gone (plan_of config given (controlling k)) (λ got. has_ended_of (machine_after change config given got (controlling k)))) (control_hinted_gone config (hint_in given) k)
-    (control_keeps_end config x.phase x.cset x.seen (stored_next config x.spot x.image) (word_stored x.spot x.image) x.spot (control_hinted_ready config (hint_in given) k can))
+machine_keeps_end change config given (controlling control) takes can =
+    let x : Controlling = controlling_by config given control in
+    subst (λ gone. KeepsEnd config gone (plan_of config given (controlling control)) (λ got. has_ended_of (machine_after change config given got (controlling control)))) (control_hinted_gone config (hint_in given) control)
+    (control_keeps_end config x.phase x.cset x.seen (stored_next config x.spot x.image) (word_stored x.spot x.image) x.spot (control_hinted_ready config (hint_in given) control can))
 
 -- who is told nothing goes on, unless it has ended
 turn_by_gone : (holds : Bool) → ◌≡◌ {A = Option Order} (if holds then None else Some Nothing) (if (if holds then false else true) then Some Nothing else None)
@@ -399,27 +400,27 @@ turn_by_gone false = refl
 -- A machine without an order: where it may be given a command its turn is the next command's, or the end, and else it goes on
 -- if it has a turn.
 pub turn_in_call : (machine : Machine) (next : Option Command) → may_begin machine ≡ false → order_for next machine ≡ (if takes_of machine Nothing then Some Nothing else None)
-turn_in_call (mutating m) next busy = by_spot m.spot busy
+turn_in_call (mutating mutator) next busy = by_spot mutator.spot busy
   where
     by_spot : (spot : Spot) → takes_commands spot ≡ false
-        → ◌≡◌ {A = Option Order} (if takes_commands spot then Some (next_order next) else (if is_between_calls spot then None else Some Nothing)) (if takes_at spot m.made Nothing then Some Nothing else None)
+        → ◌≡◌ {A = Option Order} (if takes_commands spot then Some (next_order next) else (if is_between_calls spot then None else Some Nothing)) (if takes_at spot mutator.made Nothing then Some Nothing else None)
     by_spot Rest busy = absurd cc
     by_spot (Ended reply) busy = absurd cc
     by_spot _ busy = refl
-turn_in_call (helping h) next busy = turn_by_gone (help.is_gone h.spot)
-turn_in_call (controlling k) next busy = turn_by_gone (is_gone k.spot)
+turn_in_call (helping helper) next busy = turn_by_gone (help.is_gone helper.spot)
+turn_in_call (controlling control) next busy = turn_by_gone (is_gone control.spot)
 
 -- a machine that makes a step says something
 pub says_some : (config : Config) (machine : Machine) (order : Order) (got : ℕ) → takes_of machine order ≡ true → (said : Took) × (answer_of config order machine got ≡ Some said)
-says_some config (mutating m) order got takes = (answer_at config m.kept m.spot got, refl)
-says_some config (helping h) order got takes = (help.help_says config (helping_by config order h) got, refl)
-says_some config (controlling k) order got takes = (control_says config (controlling_by config order k) got, refl)
+says_some config (mutating mutator) order got takes = (answer_at config mutator.kept mutator.spot got, refl)
+says_some config (helping helper) order got takes = (help.help_says config (helping_by config order helper) got, refl)
+says_some config (controlling control) order got takes = (control_says config (controlling_by config order control) got, refl)
 
 -- a number but the control's is below it
 pub below_control : (config : Config) (k : ℕ) (machine : Machine) → HasNumber config k machine → (k ≡ control_number config → ⊥) → k < control_number config
-below_control config k (mutating m) number other = (let below = number.1 in omega (arith, below))
-below_control config k (helping h) number other = number.2
-below_control config k (controlling h) number other = absurd (other number)
+below_control config k (mutating mutator) number other = (let below = number.1 in omega (arith, below))
+below_control config k (helping helper) number other = number.2
+below_control config k (controlling control) number other = absurd (other number)
 
 -- an access of no word of the image leaves the free word as it is
 free_stays : (memory : Word → ℕ) (word : Word) (form : Form) → is_image word ≡ false → touched memory (touch word form) Free ≡ memory Free
@@ -437,36 +438,36 @@ abbrev pub LeavesFree : Config → Order → Machine → Type 0
 LeavesFree config order machine = LeavesFreeBy config (plan_of config order machine)
 
 -- So it is with a machine but the control that is not in the heap.
-pub outside_access : (config : Config) (words : List ℕ) (world : World) (entries : List Entry) (k : ℕ) (actor : Actor) (order : Order) (machine : Machine) → Shared config world → k ≢ control_number config → is_within (standing_of machine) ≡ false
-    → takes_of machine order ≡ true → IsMachine config words world entries k actor machine → LeavesFree config order machine
-outside_access config words world entries k actor order (mutating m) shared other out takes is = record {
-  touch = touch_of config m order;
-  inside = order_word config m.seat m.made m.kept order m.spot is.mine.seated.below is.mine.ready takes;
+pub outside_access : (config : Config) (words : List ℕ) (world : World) (entries : List Entry) (number : ℕ) (actor : Actor) (order : Order) (machine : Machine) → Shared config world → number ≢ control_number config → is_within (standing_of machine) ≡ false
+    → takes_of machine order ≡ true → IsMachine config words world entries number actor machine → LeavesFree config order machine
+outside_access config words world entries number actor order (mutating mutator) shared other out takes is = record {
+  touch = touch_of config mutator order;
+  inside = order_word config mutator.seat mutator.made mutator.kept order mutator.spot is.mine.seated.below is.mine.ready takes;
   plan = refl;
   free = λ memory. ⊎_elim
-      (λ (elsewhere : is_image (touch_of config m order).word ≡ false). free_stays memory (touch_of config m order).word (touch_of config m order).form elsewhere)
-      (λ (polls : m.spot ≡ Waiting wait.Poll). subst (λ spot. touched memory (touch_at config m.seat m.made m.kept order spot) Free ≡ memory Free) (sym polls) refl)
-      (outside_touch config m.seat m.made m.kept order m.spot out takes);
+      (λ (elsewhere : is_image (touch_of config mutator order).word ≡ false). free_stays memory (touch_of config mutator order).word (touch_of config mutator order).form elsewhere)
+      (λ (polls : mutator.spot ≡ Waiting wait.Poll). subst (λ spot. touched memory (touch_at config mutator.seat mutator.made mutator.kept order spot) Free ≡ memory Free) (sym polls) refl)
+      (outside_touch config mutator.seat mutator.made mutator.kept order mutator.spot out takes);
 }
-outside_access config words world entries k actor order (helping h) shared other out takes is = helper_access (helping_by config order h) (help_hinted_is config world k (hint_in order) h is) (ap is_within (help_hinted_stands config (hint_in order) h) ∙ out)
+outside_access config words world entries number actor order (helping other_helper) shared other out takes is = helper_access (helping_by config order other_helper) (help_hinted_is config world number (hint_in order) other_helper is) (ap is_within (help_hinted_stands config (hint_in order) other_helper) ∙ out)
   where
-    helper_access : (helper : Helping) → IsHelper config world k helper → is_within (help_standing helper.spot) ≡ false → LeavesFreeBy config (placed config (help.help_touch config helper))
+    helper_access : (helper : Helping) → IsHelper config world number helper → is_within (help_standing helper.spot) ≡ false → LeavesFreeBy config (placed config (help.help_touch config helper))
     helper_access helper known apart = record {
       touch = help.help_touch config helper;
-      inside = is_word_from config (help.help_touch config helper).word (help_word config world k helper shared known);
+      inside = is_word_from config (help.help_touch config helper).word (help_word config world number helper shared known);
       plan = refl;
       free = λ memory. free_stays memory (help.help_touch config helper).word (help.help_touch config helper).form (help_leaves_image config helper.seat helper.spot apart);
     }
-outside_access config words world entries k actor order (controlling h) shared other out takes is = absurd (other is.number_is)
+outside_access config words world entries number actor order (controlling control) shared other out takes is = absurd (other is.number_is)
 
 -- no step but a mutator's ends a call
 pub others_go_on : (config : Config) (order : Order) (machine : Machine) (got : ℕ) → is_mutating machine ≡ false → answer_of config order machine got ≡ Some Done → ⊥
-others_go_on config order (mutating m) got other done = absurd (cc (other))
-others_go_on config order (helping h) got other done = helps_on config (helping_by config order h).spot got (let said = done in cc)
-others_go_on config order (controlling k) got other done = goes_on config (controlling_by config order k).seen (controlling_by config order k).spot got (let said = done in cc)
+others_go_on config order (mutating mutator) got other done = absurd (cc (other))
+others_go_on config order (helping helper) got other done = helps_on config (helping_by config order helper).spot got (let said = done in cc)
+others_go_on config order (controlling control) got other done = goes_on config (controlling_by config order control).seen (controlling_by config order control).spot got (let said = done in cc)
 
 -- that a word is fit is one fact
 pub fit_is_prop : (config : Config) (order : Order) (got : ℕ) (machine : Machine) → IsProp (IsFitFor config order got machine)
-fit_is_prop config order got (mutating m) = hlevel (Bool-set, part_is_prop config m.seat m.kept m.spot got, ends_is_prop order got)
-fit_is_prop config order got (helping h) = helpers_is_prop config (helping_by config order h).seat (helping_by config order h).spot got
-fit_is_prop config order got (controlling k) = hlevel (whole_is_prop config k.phase k.spot k.image got, unit_is_prop config (controlling_by config order k).spot got)
+fit_is_prop config order got (mutating mutator) = hlevel (Bool-set, part_is_prop config mutator.seat mutator.kept mutator.spot got, ends_is_prop order got)
+fit_is_prop config order got (helping helper) = helpers_is_prop config (helping_by config order helper).seat (helping_by config order helper).spot got
+fit_is_prop config order got (controlling control) = hlevel (whole_is_prop config control.phase control.spot control.image got, unit_is_prop config (controlling_by config order control).spot got)

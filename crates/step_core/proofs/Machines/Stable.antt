@@ -23,7 +23,7 @@ use Rattle.mutator.specs.declared.overwrites.Overwritten.TheVariants as overwrit
 use Rattle.mutator.specs.declared.resolves.Loaded.{Loaded}
 use Rattle.mutator.specs.declared.resolves.Loaded.TheVariants.{ForRoot, ToCompare}
 use Rattle.load_barrier.specs.declared.spot.ResolveSpot.{ResolveSpot}
-use Rattle.step_core.proofs.Mutators.Resolves.{resolving_stays as still_resolving}
+use Rattle.step_core.proofs.Mutators.ResolvingInCommon.{resolving_stays as still_resolving}
 use Rattle.mutator.specs.declared.numbers.NumberSpot.{NumberSpot}
 use Rattle.mutator.specs.declared.numbers.NumberSpot.TheVariants as numbers
 use Rattle.mutator.specs.declared.pins.PinSpot.{PinSpot}
@@ -183,7 +183,7 @@ module _ (config : Config) (world other_world : World) (seat : ℕ) (keeps : Kee
     rw keeps.answer (record {
       here = keeps.promises _ (3 + refs + nums) is.2.here;
       words = λ k below. keeps.promise_words _ (3 + refs + nums) k is.2.here below ∙ rw keeps.count (is.2.words k below);
-      only = λ b more there. is.2.only b more (keeps.no_promises b more there);
+      only = λ address more there. is.2.only address more (keeps.no_promises address more there);
       few_refs = is.2.few_refs;
       few_nums = is.2.few_nums;
       few = rw keeps.count is.2.few;
@@ -216,7 +216,7 @@ module _ (config : Config) (world other_world : World) (seat : ℕ) (keeps : Kee
       is
 
   -- what a mutator counts on in each part of a call stays
-  load_stays : (made : ℕ) (other_command command : Command) (fixed : Option Reply) (at : LoadSpot) → LoadFacts config world seat made other_command command fixed at → LoadFacts config other_world seat made other_command command fixed at
+  load_stays : (made : ℕ) (other_command command : Command) (fixed : Option Reply) (spot : LoadSpot) → LoadFacts config world seat made other_command command fixed spot → LoadFacts config other_world seat made other_command command fixed spot
   load_stays made other_command command fixed load.First facts = facts
   load_stays made other_command command fixed (load.Second first) facts = (facts.0, facts.1, first_stays other_command first facts.2)
   load_stays made other_command command fixed (load.Third first second) facts = (facts.0, facts.1, first_stays other_command first facts.2, loaded_stays other_command 1 second facts.3)
@@ -227,7 +227,7 @@ module _ (config : Config) (world other_world : World) (seat : ℕ) (keeps : Kee
     facts.3,
   )
 
-  pub field_stays : (other_command command : Command) (fixed : Option Reply) (object : ℕ) (at : FieldSpot) → FieldFacts config world seat other_command command fixed object at → FieldFacts config other_world seat other_command command fixed object at
+  pub field_stays : (other_command command : Command) (fixed : Option Reply) (object : ℕ) (spot : FieldSpot) → FieldFacts config world seat other_command command fixed object spot → FieldFacts config other_world seat other_command command fixed object spot
   field_stays other_command command fixed object fields.Load facts = (facts.0, get_stays command object (index_of other_command) (dst_of other_command) facts.1)
   field_stays other_command command fixed object (fields.LoadExpected expect value) facts = (facts.0, cas_stays command object (index_of other_command) expect value facts.1)
   field_stays other_command command fixed object (fields.LoadOld value) facts = (facts.0, set_stays command object (index_of other_command) value facts.1)
@@ -240,31 +240,31 @@ module _ (config : Config) (world other_world : World) (seat : ℕ) (keeps : Kee
   record_stays other_command command fixed address overwrites.Xchg facts = found_stays fixed address (dst_of other_command) facts
   record_stays other_command command fixed address overwrites.Cas facts = facts
 
-  number_stays : (other_command command : Command) (fixed : Option Reply) (object refs : ℕ) (at : NumberSpot) → NumberFacts config world seat other_command command fixed object refs at → NumberFacts config other_world seat other_command command fixed object refs at
+  number_stays : (other_command command : Command) (fixed : Option Reply) (object refs : ℕ) (spot : NumberSpot) → NumberFacts config world seat other_command command fixed object refs spot → NumberFacts config other_world seat other_command command fixed object refs spot
   number_stays other_command command fixed object refs numbers.Load facts = (facts.0, rd_stays command object refs (index_of other_command) facts.1)
   number_stays other_command command fixed object refs numbers.Store facts = (facts.0, wr_stays command object refs (index_of other_command) (stored_number other_command) facts.1)
 
-  show_stays : (command : Command) (fixed : Option Reply) (value : ℕ) (at : ShowSpot) → ShowFacts config world command fixed value at → ShowFacts config other_world command fixed value at
+  show_stays : (command : Command) (fixed : Option Reply) (value : ℕ) (spot : ShowSpot) → ShowFacts config world command fixed value spot → ShowFacts config other_world command fixed value spot
   show_stays command fixed value show.LoadName facts = (found_stays fixed value (dst_of command) facts.0, usable_stays config world other_world keeps.targets value facts.1)
   show_stays command fixed value (show.StoreRoot reply) facts = (facts.0, facts.1, usable_stays config world other_world keeps.targets value facts.2)
 
   -- so does what the call counts on that is about a pin slot
   of_slot_stays : (command : Command) (value : ℕ) → IsOfSlot config world seat command value → IsOfSlot config other_world seat command value
-  of_slot_stays (Pin slot obj) value of = (of.0, object_stays obj value of.1)
-  of_slot_stays (Unpin slot) value of = of
-  of_slot_stays _ value of = absurd of
+  of_slot_stays (Pin slot obj) value of_slot = (of_slot.0, object_stays obj value of_slot.1)
+  of_slot_stays (Unpin slot) value of_slot = of_slot
+  of_slot_stays _ value of_slot = absurd of_slot
 
   fits_stays : (command : Command) → SlotFits world seat command → SlotFits other_world seat command
   fits_stays (Pin slot obj) fits = keeps.pins slot ∙ fits
   fits_stays command fits = λ none. fits (sym (keeps.pins (slot_of command)) ∙ none)
 
-  pin_facts_stay : (other_command command : Command) (fixed : Option Reply) (value : ℕ) (at : PinSpot) → PinFacts config world seat other_command command fixed value at → PinFacts config other_world seat other_command command fixed value at
+  pin_facts_stay : (other_command command : Command) (fixed : Option Reply) (value : ℕ) (spot : PinSpot) → PinFacts config world seat other_command command fixed value spot → PinFacts config other_world seat other_command command fixed value spot
   pin_facts_stay other_command command fixed value pins.Look facts = (facts.0, facts.1, of_slot_stays other_command value facts.2)
   pin_facts_stay other_command command fixed value pins.Store facts = (facts.0, facts.1, of_slot_stays other_command value facts.2, fits_stays other_command facts.3)
 
   make_stays : (made : ℕ) (other_command command : Command) (fixed : Option Reply) → ((words : ℕ) (take : TakeSpot) → TakeFacts config world seat words take → TakeFacts config other_world seat words take)
-      → ((refs nums address done : ℕ) → IsFilling world seat made refs nums address done → IsFilling other_world seat made refs nums address done) → (at : MakeSpot)
-      → MakeFacts config world seat made other_command command fixed at → MakeFacts config other_world seat made other_command command fixed at
+      → ((refs nums address done : ℕ) → IsFilling world seat made refs nums address done → IsFilling other_world seat made refs nums address done) → (spot : MakeSpot)
+      → MakeFacts config world seat made other_command command fixed spot → MakeFacts config other_world seat made other_command command fixed spot
   make_stays made other_command command fixed taking filling (make.Taking take) facts = (facts.0, taking (words_made other_command) take facts.1)
   make_stays made other_command command fixed taking filling (make.StoreWord address done) facts = (facts.0, filling (refs_of other_command) (nums_of other_command) address done facts.1, facts.2)
   make_stays made other_command command fixed taking filling (make.StoreRoot address) facts = (facts.0, filling (refs_of other_command) (nums_of other_command) address (words_made other_command) facts.1)
@@ -275,11 +275,11 @@ module _ (config : Config) (world other_world : World) (seat : ℕ) (keeps : Kee
 
   -- what was answered and taken stays so
   taken_stays : (reply : Reply) → HasTaken config world seat reply → HasTaken config other_world seat reply
-  taken_stays (Ref name) taken = (taken.0, taken.1, subst (λ a. TargetIn config other_world a taken.0 taken.1 name) (sym keeps.answer) (keeps.targets (world.memory (Answer seat)) taken.0 taken.1 name taken.2))
+  taken_stays (Ref name) taken = (taken.0, taken.1, subst (λ address. TargetIn config other_world address taken.0 taken.1 name) (sym keeps.answer) (keeps.targets (world.memory (Answer seat)) taken.0 taken.1 name taken.2))
   taken_stays Full full = keeps.answer ∙ full
   taken_stays _ other = absurd other
 
-  pub wait_stays : (bit_at (world.memory Ask) 1 ≡ 1 → bit_at (other_world.memory Ask) 1 ≡ 1) → (made : ℕ) (other_command command : Command) (fixed : Option Reply) (at : WaitSpot) → WaitFacts config world seat made other_command command fixed at → WaitFacts config other_world seat made other_command command fixed at
+  pub wait_stays : (bit_at (world.memory Ask) 1 ≡ 1 → bit_at (other_world.memory Ask) 1 ≡ 1) → (made : ℕ) (other_command command : Command) (fixed : Option Reply) (spot : WaitSpot) → WaitFacts config world seat made other_command command fixed spot → WaitFacts config other_world seat made other_command command fixed spot
   wait_stays bit made other_command command fixed wait.StoreRequest facts = asking_stays made other_command command fixed asking.nothing facts
   wait_stays bit made other_command command fixed wait.AskRoom facts = asking_stays made other_command command fixed (asking.asks (refs_of other_command) (nums_of other_command)) facts
   wait_stays bit made other_command command fixed wait.StepOut facts = heard_stays bit made other_command command fixed facts
@@ -297,20 +297,20 @@ module _ (config : Config) (world other_world : World) (seat : ℕ) (keeps : Kee
       → SpotFacts config world seat made kept command fixed spot → SpotFacts config other_world seat made kept command fixed spot
   facts_stay made kept command fixed taking filling resolving recording bit Rest facts = facts
   facts_stay made kept command fixed taking filling resolving recording bit (Ended reply) facts = facts
-  facts_stay made kept command fixed taking filling resolving recording bit (Entering at next) facts = enter_stays made kept.command command fixed next facts
+  facts_stay made kept command fixed taking filling resolving recording bit (Entering spot next) facts = enter_stays made kept.command command fixed next facts
   facts_stay made kept command fixed taking filling resolving recording bit LoadPhase facts = facts
   facts_stay made kept command fixed taking filling resolving recording bit LoadSet facts = facts
-  facts_stay made kept command fixed taking filling resolving recording bit (Loading at) facts = load_stays made kept.command command fixed at facts
-  facts_stay made kept command fixed taking filling resolving recording bit (OnField object at) facts = field_stays kept.command command fixed object at facts
-  facts_stay made kept command fixed taking filling resolving recording bit (Resolving address at next) facts = (resolving address at facts.0, resolved_stays kept.command command fixed address next facts.1)
-  facts_stay made kept command fixed taking filling resolving recording bit (Recording at address next) facts = (recording address at facts.0, record_stays kept.command command fixed address next facts.1)
-  facts_stay made kept command fixed taking filling resolving recording bit (OnNumber object refs at) facts = number_stays kept.command command fixed object refs at facts
-  facts_stay made kept command fixed taking filling resolving recording bit (Showing value at) facts = show_stays kept.command fixed value at facts
+  facts_stay made kept command fixed taking filling resolving recording bit (Loading spot) facts = load_stays made kept.command command fixed spot facts
+  facts_stay made kept command fixed taking filling resolving recording bit (OnField object spot) facts = field_stays kept.command command fixed object spot facts
+  facts_stay made kept command fixed taking filling resolving recording bit (Resolving address spot next) facts = (resolving address spot facts.0, resolved_stays kept.command command fixed address next facts.1)
+  facts_stay made kept command fixed taking filling resolving recording bit (Recording spot address next) facts = (recording address spot facts.0, record_stays kept.command command fixed address next facts.1)
+  facts_stay made kept command fixed taking filling resolving recording bit (OnNumber object refs spot) facts = number_stays kept.command command fixed object refs spot facts
+  facts_stay made kept command fixed taking filling resolving recording bit (Showing value spot) facts = show_stays kept.command fixed value spot facts
   facts_stay made kept command fixed taking filling resolving recording bit (StoreRoot value) facts = (facts.0, facts.1, ⊎_elim (λ is. inl (copy_stays command (dst_of kept.command) value is)) (λ is. inr is) facts.2)
-  facts_stay made kept command fixed taking filling resolving recording bit (Making at) facts = make_stays made kept.command command fixed taking filling at facts
+  facts_stay made kept command fixed taking filling resolving recording bit (Making spot) facts = make_stays made kept.command command fixed taking filling spot facts
   facts_stay made kept command fixed taking filling resolving recording bit AskCycle facts = facts
-  facts_stay made kept command fixed taking filling resolving recording bit (Pinning value at) facts = pin_facts_stay kept.command command fixed value at facts
-  facts_stay made kept command fixed taking filling resolving recording bit (Waiting at) facts = wait_stays bit made kept.command command fixed at facts
+  facts_stay made kept command fixed taking filling resolving recording bit (Pinning value spot) facts = pin_facts_stay kept.command command fixed value spot facts
+  facts_stay made kept command fixed taking filling resolving recording bit (Waiting spot) facts = wait_stays bit made kept.command command fixed spot facts
   facts_stay made kept command fixed taking filling resolving recording bit (Leave reply) facts = facts
   facts_stay made kept command fixed taking filling resolving recording bit Gone facts = facts
 
@@ -333,30 +333,30 @@ module _ (config : Config) (world other_world : World) (seat : ℕ) (keeps : Kee
   resolving_stays dst value (ToCompare object expect more) index = keeps.root_words index
 
   pub now_stays : (kept : Kept) (spot : Spot) (index : ℕ) → root_now other_world seat kept spot index ≡ root_now world seat kept spot index
-  now_stays kept (Showing value at) index = rw (keeps.root_words index) refl
-  now_stays kept (Resolving address at next) index = resolving_stays (dst_of kept.command) address next index
-  now_stays kept (Recording at address next) index = recording_stays (dst_of kept.command) address next index
+  now_stays kept (Showing value spot) index = rw (keeps.root_words index) refl
+  now_stays kept (Resolving address spot next) index = resolving_stays (dst_of kept.command) address next index
+  now_stays kept (Recording spot address next) index = recording_stays (dst_of kept.command) address next index
   now_stays kept _ index = keeps.root_words index
 
 -- the words of a new object stay
-filling_stays : (config : Config) (world other_world : World) (seat : ℕ) → Rely config seat world other_world → (made refs nums address done : ℕ) → IsFilling world seat made refs nums address done → IsFilling other_world seat made refs nums address done
-filling_stays config world other_world seat rely made refs nums address done facts = record {
+filling_stays : (config : Config) (world next_world : World) (seat : ℕ) → Rely config seat world next_world → (made refs nums address done : ℕ) → IsFilling world seat made refs nums address done → IsFilling next_world seat made refs nums address done
+filling_stays config world next_world seat rely made refs nums address done facts = record {
   room = rely.rooms address _ facts.room refl;
   within = facts.within;
   stored = λ k below. rely.room_words address k _ facts.room refl (let within = facts.within in omega arith) ∙ facts.stored k below;
 }
 
 -- all that it knows stays
-pub mine_stays : (config : Config) (world other_world : World) (mutator : Mutating) (command : Command) (fixed : Option Reply) → Shared config world → Rely config mutator.seat world other_world → Mine config world mutator command fixed → Mine config other_world mutator command fixed
-mine_stays config world other_world mutator command fixed shared rely mine = let keeps : Keeps config mutator.seat world other_world = keeps_of config mutator.seat world other_world rely in record {
-  seated = seated_stays config world other_world mutator.seat keeps mutator.made (is_waiting mutator.spot) mine.seated;
+pub mine_stays : (config : Config) (world next_world : World) (mutator : Mutating) (command : Command) (fixed : Option Reply) → Shared config world → Rely config mutator.seat world next_world → Mine config world mutator command fixed → Mine config next_world mutator command fixed
+mine_stays config world next_world mutator command fixed shared rely mine = let keeps : Keeps config mutator.seat world next_world = keeps_of config mutator.seat world next_world rely in record {
+  seated = seated_stays config world next_world mutator.seat keeps mutator.made (is_waiting mutator.spot) mine.seated;
   ready = mine.ready;
-  marking = marking_relied config world other_world mutator.seat (recording_of mutator.spot) mutator.kept.phase (has_phase mutator.spot) rely.marks mine.marking;
-  copying = copying_relied config world other_world mutator.seat (copies_at mutator.spot) mutator.kept.cset (has_set mutator.spot) rely.copies mine.copying;
-  roots = λ i below. rw (now_stays config world other_world mutator.seat keeps mutator.kept mutator.spot i) (root_stays config world other_world mutator.seat keeps _ i (mine.roots i below));
+  marking = marking_relied config world next_world mutator.seat (recording_of mutator.spot) mutator.kept.phase (has_phase mutator.spot) rely.marks mine.marking;
+  copying = copying_relied config world next_world mutator.seat (copies_at mutator.spot) mutator.kept.cset (has_set mutator.spot) rely.copies mine.copying;
+  roots = λ i below. rw (now_stays config world next_world mutator.seat keeps mutator.kept mutator.spot i) (root_stays config world next_world mutator.seat keeps _ i (mine.roots i below));
   rooms = λ a x is room. mine.rooms a x (rely.no_rooms a x is room) room;
-  facts = facts_stay config world other_world mutator.seat keeps mutator.made mutator.kept command fixed (take_stays config world other_world mutator.seat rely)
-      (filling_stays config world other_world mutator.seat rely mutator.made)
-      (λ address at can. still_resolving config world other_world mutator.seat address at shared rely can)
-      (λ address at can. ((recording_steps.steps config mutator.seat address).stands world at tt can).stays other_world rely) rely.asked mutator.spot mine.facts;
+  facts = facts_stay config world next_world mutator.seat keeps mutator.made mutator.kept command fixed (take_stays config world next_world mutator.seat rely)
+      (filling_stays config world next_world mutator.seat rely mutator.made)
+      (λ address at can. still_resolving config world next_world mutator.seat address at shared rely can)
+      (λ address at can. ((recording_steps.steps config mutator.seat address).stands world at tt can).stays next_world rely) rely.asked mutator.spot mine.facts;
 }

@@ -167,8 +167,8 @@ pub record IsComparing (config : Config) (world : World) (seat : ℕ) (other_com
 
 -- what holds while a reference that was found in a field is resolved
 abbrev pub LoadedFacts : Config → World → ℕ → Command → Command → Option Reply → (found : ℕ) → Loaded → Type 0
-LoadedFacts config world seat k command fixed found ForRoot = IsFound world fixed found (dst_of k)
-LoadedFacts config world seat k command fixed found (ToCompare object expect value) = IsComparing config world seat k command fixed object found expect value
+LoadedFacts config world seat other_command command fixed found ForRoot = IsFound world fixed found (dst_of other_command)
+LoadedFacts config world seat other_command command fixed found (ToCompare object expect value) = IsComparing config world seat other_command command fixed object found expect value
 
 -- the command makes one root another, or null
 pub record IsCopy (config : Config) (world : World) (seat : ℕ) (command : Command) (dst value : ℕ) : Type 0 where
@@ -213,51 +213,51 @@ pub record IsFull (command : Command) (fixed : Option Reply) : Type 0 where
 
 -- the command makes an object, and the mutator has asked so for it
 abbrev pub IsAsking : World → ℕ → ℕ → Command → Command → Option Reply → Asking → Type 0
-IsAsking world seat made k command fixed what = IsMaking made command fixed (dst_of k) (refs_of k) (nums_of k) × IsAsked world.memory world.block world.graph.count seat what
+IsAsking world seat made other_command command fixed what = IsMaking made command fixed (dst_of other_command) (refs_of other_command) (nums_of other_command) × IsAsked world.memory world.block world.graph.count seat what
 
 -- it asks for its object, and the word of what is asked has the bit that a mutator waits
 abbrev pub IsHeard : World → ℕ → ℕ → Command → Command → Option Reply → Type 0
-IsHeard world seat made k command fixed = IsAsking world seat made k command fixed (asking.asks (refs_of k) (nums_of k)) × (bit_at (world.memory Ask) 1 ≡ 1)
+IsHeard world seat made other_command command fixed = IsAsking world seat made other_command command fixed (asking.asks (refs_of other_command) (nums_of other_command)) × (bit_at (world.memory Ask) 1 ≡ 1)
 
 -- Where a mutator polls, it asks for its object, was given it, or was refused it. The words that count may say so before the
 -- word of the table does that it polls: then the history does not have yet that the heap is full.
 abbrev pub IsPolling : World → ℕ → ℕ → Command → Command → Option Reply → Type 0
-IsPolling world seat made k command fixed =
-    IsHeard world seat made k command fixed
-    ⊎ (IsAsking world seat made k command fixed (asking.given (refs_of k) (nums_of k)) ⊎ (IsRefused command fixed × IsAsked world.memory world.block world.graph.count seat asking.refused))
+IsPolling world seat made other_command command fixed =
+    IsHeard world seat made other_command command fixed
+    ⊎ (IsAsking world seat made other_command command fixed (asking.given (refs_of other_command) (nums_of other_command)) ⊎ (IsRefused command fixed × IsAsked world.memory world.block world.graph.count seat asking.refused))
 
 -- and once it has found that it is answered, it was given its object, or the heap is full
 abbrev pub IsAnswered : World → ℕ → ℕ → Command → Command → Option Reply → Type 0
-IsAnswered world seat made k command fixed =
-    IsAsking world seat made k command fixed (asking.given (refs_of k) (nums_of k)) ⊎ (IsFull command fixed × IsAsked world.memory world.block world.graph.count seat asking.refused)
+IsAnswered world seat made other_command command fixed =
+    IsAsking world seat made other_command command fixed (asking.given (refs_of other_command) (nums_of other_command)) ⊎ (IsFull command fixed × IsAsked world.memory world.block world.graph.count seat asking.refused)
 
 -- What holds in each part of a call of this command, of which the mutator keeps k. `fixed` is the reply that the history has
 -- for the call, once it is settled.
 abbrev pub LoadFacts : Config → World → ℕ → ℕ → Command → Command → Option Reply → LoadSpot → Type 0
-LoadFacts config world seat made k command fixed load.First = IsBegun made command fixed k × (0 < length (command_roots k))
-LoadFacts config world seat made k command fixed (load.Second first) = IsBegun made command fixed k × (1 < length (command_roots k)) × HasFirst config world seat k first
-LoadFacts config world seat made k command fixed (load.Third first second) = IsBegun made command fixed k × (2 < length (command_roots k)) × HasFirst config world seat k first × HasRoot config world seat k 1 second
-LoadFacts config world seat made k command fixed (load.Shape object second third) =
-    IsBegun made command fixed k × (is_on_object k ≡ true) × HasRoots config world seat k object second third × (IsPin k → ⊥)
+LoadFacts config world seat made other_command command fixed load.First = IsBegun made command fixed other_command × (0 < length (command_roots other_command))
+LoadFacts config world seat made other_command command fixed (load.Second first) = IsBegun made command fixed other_command × (1 < length (command_roots other_command)) × HasFirst config world seat other_command first
+LoadFacts config world seat made other_command command fixed (load.Third first second) = IsBegun made command fixed other_command × (2 < length (command_roots other_command)) × HasFirst config world seat other_command first × HasRoot config world seat other_command 1 second
+LoadFacts config world seat made other_command command fixed (load.Shape object second third) =
+    IsBegun made command fixed other_command × (is_on_object other_command ≡ true) × HasRoots config world seat other_command object second third × (IsPin other_command → ⊥)
 
 abbrev pub FieldFacts : Config → World → ℕ → Command → Command → Option Reply → ℕ → FieldSpot → Type 0
-FieldFacts config world seat k command fixed object fields.Load = (fixed ≡ None) × IsGet config world seat command object (index_of k) (dst_of k)
-FieldFacts config world seat k command fixed object (fields.LoadExpected expect value) = (fixed ≡ None) × IsCas config world seat command object (index_of k) expect value
-FieldFacts config world seat k command fixed object (fields.LoadOld value) = (fixed ≡ None) × IsSet config world seat command object (index_of k) value
-FieldFacts config world seat k command fixed object (fields.Store value) = (fixed ≡ None) × IsSet config world seat command object (index_of k) value × IsCovered config world object (index_of k)
-FieldFacts config world seat k command fixed object (fields.Swap value) = (fixed ≡ None) × IsXchg config world seat command object (index_of k) value (dst_of k)
-FieldFacts config world seat k command fixed object (fields.Exchange found expect value) = (fixed ≡ None) × IsCas config world seat command object (index_of k) expect value × NameTheSame world.block found expect
+FieldFacts config world seat other_command command fixed object fields.Load = (fixed ≡ None) × IsGet config world seat command object (index_of other_command) (dst_of other_command)
+FieldFacts config world seat other_command command fixed object (fields.LoadExpected expect value) = (fixed ≡ None) × IsCas config world seat command object (index_of other_command) expect value
+FieldFacts config world seat other_command command fixed object (fields.LoadOld value) = (fixed ≡ None) × IsSet config world seat command object (index_of other_command) value
+FieldFacts config world seat other_command command fixed object (fields.Store value) = (fixed ≡ None) × IsSet config world seat command object (index_of other_command) value × IsCovered config world object (index_of other_command)
+FieldFacts config world seat other_command command fixed object (fields.Swap value) = (fixed ≡ None) × IsXchg config world seat command object (index_of other_command) value (dst_of other_command)
+FieldFacts config world seat other_command command fixed object (fields.Exchange found expect value) = (fixed ≡ None) × IsCas config world seat command object (index_of other_command) expect value × NameTheSame world.block found expect
 
 -- what follows once an overwritten reference is recorded: a Set covers what its field had in the snapshot, and of an Xchg and a Cas the
 -- reply is settled
 abbrev pub RecordFacts : Config → World → ℕ → Command → Command → Option Reply → ℕ → Overwritten → Type 0
-RecordFacts config world seat k command fixed address (overwrites.Set object value) = FieldFacts config world seat k command fixed object (fields.Store value)
-RecordFacts config world seat k command fixed address overwrites.Xchg = IsFound world fixed address (dst_of k)
-RecordFacts config world seat k command fixed address overwrites.Cas = fixed ≡ Some reply.Yes
+RecordFacts config world seat other_command command fixed address (overwrites.Set object value) = FieldFacts config world seat other_command command fixed object (fields.Store value)
+RecordFacts config world seat other_command command fixed address overwrites.Xchg = IsFound world fixed address (dst_of other_command)
+RecordFacts config world seat other_command command fixed address overwrites.Cas = fixed ≡ Some reply.Yes
 
 abbrev pub NumberFacts : Config → World → ℕ → Command → Command → Option Reply → ℕ → ℕ → NumberSpot → Type 0
-NumberFacts config world seat k command fixed object refs numbers.Load = (fixed ≡ None) × IsRd config world seat command object refs (index_of k)
-NumberFacts config world seat k command fixed object refs numbers.Store = (fixed ≡ None) × IsWr config world seat command object refs (index_of k) (stored_number k)
+NumberFacts config world seat other_command command fixed object refs numbers.Load = (fixed ≡ None) × IsRd config world seat command object refs (index_of other_command)
+NumberFacts config world seat other_command command fixed object refs numbers.Store = (fixed ≡ None) × IsWr config world seat command object refs (index_of other_command) (stored_number other_command)
 
 -- what a command counts on that is about a pin slot: it puts the object of a root into the slot, or it empties the slot
 abbrev pub IsOfSlot : Config → World → ℕ → Command → ℕ → Type 0
@@ -271,54 +271,54 @@ SlotFits world seat (Pin slot obj) = world.graph.pin (seat + 1) slot ≡ None
 SlotFits world seat command = world.graph.pin (seat + 1) (slot_of command) ≡ None → ⊥
 
 abbrev pub PinFacts : Config → World → ℕ → Command → Command → Option Reply → ℕ → PinSpot → Type 0
-PinFacts config world seat k command fixed value pins.Look = (fixed ≡ None) × (command ≡ k) × IsOfSlot config world seat k value
-PinFacts config world seat k command fixed value pins.Store = (fixed ≡ None) × (command ≡ k) × IsOfSlot config world seat k value × SlotFits world seat k
+PinFacts config world seat other_command command fixed value pins.Look = (fixed ≡ None) × (command ≡ other_command) × IsOfSlot config world seat other_command value
+PinFacts config world seat other_command command fixed value pins.Store = (fixed ≡ None) × (command ≡ other_command) × IsOfSlot config world seat other_command value × SlotFits world seat other_command
 
 abbrev pub ShowFacts : Config → World → Command → Option Reply → ℕ → ShowSpot → Type 0
 ShowFacts config world command fixed value show.LoadName = IsFound world fixed value (dst_of command) × UsableIn config world value
 ShowFacts config world command fixed value (show.StoreRoot reply) = (fixed ≡ Some reply) × (dst_of command < 16) × UsableIn config world value
 
 abbrev pub MakeFacts : Config → World → ℕ → ℕ → Command → Command → Option Reply → MakeSpot → Type 0
-MakeFacts config world seat made k command fixed (make.Taking take) = IsMaking made command fixed (dst_of k) (refs_of k) (nums_of k) × TakeFacts config world seat (words_made k) take
-MakeFacts config world seat made k command fixed (make.StoreWord address done) =
-    IsMaking made command fixed (dst_of k) (refs_of k) (nums_of k) × IsFilling world seat made (refs_of k) (nums_of k) address done × (done < words_made k)
-MakeFacts config world seat made k command fixed (make.StoreRoot address) =
-    IsMaking made command fixed (dst_of k) (refs_of k) (nums_of k) × IsFilling world seat made (refs_of k) (nums_of k) address (words_made k)
+MakeFacts config world seat made other_command command fixed (make.Taking take) = IsMaking made command fixed (dst_of other_command) (refs_of other_command) (nums_of other_command) × TakeFacts config world seat (words_made other_command) take
+MakeFacts config world seat made other_command command fixed (make.StoreWord address done) =
+    IsMaking made command fixed (dst_of other_command) (refs_of other_command) (nums_of other_command) × IsFilling world seat made (refs_of other_command) (nums_of other_command) address done × (done < words_made other_command)
+MakeFacts config world seat made other_command command fixed (make.StoreRoot address) =
+    IsMaking made command fixed (dst_of other_command) (refs_of other_command) (nums_of other_command) × IsFilling world seat made (refs_of other_command) (nums_of other_command) address (words_made other_command)
 
 abbrev pub EnterFacts : World → ℕ → ℕ → Command → Command → Option Reply → Entered → Type 0
-EnterFacts world seat made k command fixed Call = IsBegun made command fixed k
-EnterFacts world seat made k command fixed Waited = IsAnswered world seat made k command fixed
+EnterFacts world seat made other_command command fixed Call = IsBegun made command fixed other_command
+EnterFacts world seat made other_command command fixed Waited = IsAnswered world seat made other_command command fixed
 
 abbrev pub WaitFacts : Config → World → ℕ → ℕ → Command → Command → Option Reply → WaitSpot → Type 0
-WaitFacts config world seat made k command fixed wait.StoreRequest = IsAsking world seat made k command fixed asking.nothing
-WaitFacts config world seat made k command fixed wait.AskRoom = IsAsking world seat made k command fixed (asking.asks (refs_of k) (nums_of k))
-WaitFacts config world seat made k command fixed wait.StepOut = IsHeard world seat made k command fixed
-WaitFacts config world seat made k command fixed wait.Poll = IsPolling world seat made k command fixed
-WaitFacts config world seat made k command fixed wait.LoadAnswer = IsAnswered world seat made k command fixed
-WaitFacts config world seat made k command fixed (wait.StoreRoot address) =
-    IsAsking world seat made k command fixed (asking.given (refs_of k) (nums_of k)) × (world.memory (Answer seat) ≡ address)
-WaitFacts config world seat made k command fixed (wait.ClearAnswer reply) =
+WaitFacts config world seat made other_command command fixed wait.StoreRequest = IsAsking world seat made other_command command fixed asking.nothing
+WaitFacts config world seat made other_command command fixed wait.AskRoom = IsAsking world seat made other_command command fixed (asking.asks (refs_of other_command) (nums_of other_command))
+WaitFacts config world seat made other_command command fixed wait.StepOut = IsHeard world seat made other_command command fixed
+WaitFacts config world seat made other_command command fixed wait.Poll = IsPolling world seat made other_command command fixed
+WaitFacts config world seat made other_command command fixed wait.LoadAnswer = IsAnswered world seat made other_command command fixed
+WaitFacts config world seat made other_command command fixed (wait.StoreRoot address) =
+    IsAsking world seat made other_command command fixed (asking.given (refs_of other_command) (nums_of other_command)) × (world.memory (Answer seat) ≡ address)
+WaitFacts config world seat made other_command command fixed (wait.ClearAnswer reply) =
     (fixed ≡ Some reply) × (world.memory (Wait seat) ≡ 0) × HasNoPromise world.block seat × HasTaken config world seat reply × MakesObject command
 
 -- and at each spot
 abbrev pub SpotFacts : Config → World → ℕ → ℕ → Kept → Command → Option Reply → Spot → Type 0
 SpotFacts config world seat made kept command fixed Rest = fixed ≡ None
 SpotFacts config world seat made kept command fixed (Ended reply) = fixed ≡ None
-SpotFacts config world seat made kept command fixed (Entering at next) = EnterFacts world seat made kept.command command fixed next
+SpotFacts config world seat made kept command fixed (Entering spot next) = EnterFacts world seat made kept.command command fixed next
 SpotFacts config world seat made kept command fixed LoadPhase = IsBegun made command fixed kept.command
 SpotFacts config world seat made kept command fixed LoadSet = IsBegun made command fixed kept.command
-SpotFacts config world seat made kept command fixed (Loading at) = LoadFacts config world seat made kept.command command fixed at
-SpotFacts config world seat made kept command fixed (OnField object at) = FieldFacts config world seat kept.command command fixed object at
-SpotFacts config world seat made kept command fixed (Resolving address at next) = IsResolving config world seat address at × LoadedFacts config world seat kept.command command fixed address next
-SpotFacts config world seat made kept command fixed (Recording at address next) = CanRecord config world seat address at × RecordFacts config world seat kept.command command fixed address next
-SpotFacts config world seat made kept command fixed (OnNumber object refs at) = NumberFacts config world seat kept.command command fixed object refs at
-SpotFacts config world seat made kept command fixed (Showing value at) = ShowFacts config world kept.command fixed value at
+SpotFacts config world seat made kept command fixed (Loading spot) = LoadFacts config world seat made kept.command command fixed spot
+SpotFacts config world seat made kept command fixed (OnField object spot) = FieldFacts config world seat kept.command command fixed object spot
+SpotFacts config world seat made kept command fixed (Resolving address spot next) = IsResolving config world seat address spot × LoadedFacts config world seat kept.command command fixed address next
+SpotFacts config world seat made kept command fixed (Recording spot address next) = CanRecord config world seat address spot × RecordFacts config world seat kept.command command fixed address next
+SpotFacts config world seat made kept command fixed (OnNumber object refs spot) = NumberFacts config world seat kept.command command fixed object refs spot
+SpotFacts config world seat made kept command fixed (Showing value spot) = ShowFacts config world kept.command fixed value spot
 SpotFacts config world seat made kept command fixed (StoreRoot value) =
     (fixed ≡ None) × (dst_of kept.command < 16) × (IsCopy config world seat command (dst_of kept.command) value ⊎ IsDrop command (dst_of kept.command) value)
-SpotFacts config world seat made kept command fixed (Making at) = MakeFacts config world seat made kept.command command fixed at
+SpotFacts config world seat made kept command fixed (Making spot) = MakeFacts config world seat made kept.command command fixed spot
 SpotFacts config world seat made kept command fixed AskCycle = (fixed ≡ None) × (command ≡ Gc)
-SpotFacts config world seat made kept command fixed (Pinning value at) = PinFacts config world seat kept.command command fixed value at
-SpotFacts config world seat made kept command fixed (Waiting at) = WaitFacts config world seat made kept.command command fixed at
+SpotFacts config world seat made kept command fixed (Pinning value spot) = PinFacts config world seat kept.command command fixed value spot
+SpotFacts config world seat made kept command fixed (Waiting spot) = WaitFacts config world seat made kept.command command fixed spot
 SpotFacts config world seat made kept command fixed (Leave reply) = fixed ≡ Some reply
 SpotFacts config world seat made kept command fixed Gone = fixed ≡ None
 
@@ -334,7 +334,7 @@ pub record IsSeated (config : Config) (seat count made : ℕ) (waiting : Bool) (
 -- those of a seat in a world, by the objects that its mutator has made and whether it waits
 abbrev pub IsSeatedIn : Config → World → ℕ → ℕ → Bool → Type 0
 IsSeatedIn config world seat made waiting =
-    IsSeated config seat (world.graph.count (seat + 1)) made waiting (world.memory (Wait seat)) (world.memory (Answer seat)) (world.memory Cset) (world.memory Evac) (λ i. world.memory (Root seat i)) world.block
+    IsSeated config seat (world.graph.count (seat + 1)) made waiting (world.memory (Wait seat)) (world.memory (Answer seat)) (world.memory Cset) (world.memory Evac) (λ index. world.memory (Root seat index)) world.block
 
 -- and those of a mutator
 abbrev pub Seated : Config → World → Mutating → Type 0
@@ -396,15 +396,15 @@ fixed_by fixed None None = fixed
 -- What a step of a mutator owes: the world after it, whose memory is that after the access and whose graph is that after
 -- the entry which it settles; that the entry is legal, and the first of its call; what all machines share, what the
 -- mutator counts on from here, and what the others rely on.
-pub record Stepped (config : Config) (u : World) (mutator : Mutating) (command : Command) (order : Order) (fixed : Option Reply) : Type 0 where
+pub record Stepped (config : Config) (next_world : World) (mutator : Mutating) (command : Command) (order : Order) (fixed : Option Reply) : Type 0 where
   pub world : World
-  pub memory : world.memory ≡ touched u.memory (touch_of config mutator order)
-  pub graph : world.graph ≡ graph_by u.graph mutator.seat (command_by order command) (told_of u.memory mutator)
-  pub legal : LegalBy config u.graph mutator.seat (command_by order command) (told_of u.memory mutator)
-  pub settles : (reply : Reply) → told_of u.memory mutator ≡ Some reply → (fixed ≡ None) × (given_at mutator.spot ≡ None)
+  pub memory : world.memory ≡ touched next_world.memory (touch_of config mutator order)
+  pub graph : world.graph ≡ graph_by next_world.graph mutator.seat (command_by order command) (told_of next_world.memory mutator)
+  pub legal : LegalBy config next_world.graph mutator.seat (command_by order command) (told_of next_world.memory mutator)
+  pub settles : (reply : Reply) → told_of next_world.memory mutator ≡ Some reply → (fixed ≡ None) × (given_at mutator.spot ≡ None)
   pub shared : Shared config world
-  pub mine : Mine config world (next_of config mutator order (u.memory (touch_of config mutator order).word)) (command_by order command) (fixed_by fixed (told_of u.memory mutator) (given_at mutator.spot))
-  pub others : (seat : ℕ) → seat ≢ mutator.seat → Rely config seat u world
+  pub mine : Mine config world (next_of config mutator order (next_world.memory (touch_of config mutator order).word)) (command_by order command) (fixed_by fixed (told_of next_world.memory mutator) (given_at mutator.spot))
+  pub others : (seat : ℕ) → seat ≢ mutator.seat → Rely config seat next_world world
 
 -- What is proved of each spot: from the shared facts and the mutator's own its step is as it should be, under each order
 -- that it takes.

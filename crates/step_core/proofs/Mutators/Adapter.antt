@@ -43,20 +43,20 @@ use Rattle.step_core.proofs.Machines.Roles.{machine_stays, short_stays, seen_sta
 orders_unsettled : (config : Config) (world : World) (seat : ℕ) (kept : Kept) (command : Command) (fixed : Option Reply) (spot : Spot) (made : ℕ) (order : Order) → (order ≡ Nothing → ⊥) → takes_at spot made order ≡ true
     → SpotFacts config world seat made kept command fixed spot → (fixed ≡ None) × (is_waiting spot ≡ false)
 orders_unsettled config world seat kept command fixed Rest made order given takes facts = (facts, refl)
-orders_unsettled config world seat kept command fixed (Ended r) made order given takes facts = (facts, refl)
+orders_unsettled config world seat kept command fixed (Ended reply) made order given takes facts = (facts, refl)
 orders_unsettled config world seat kept command fixed Gone made order given takes facts = absurd (cc (takes))
 orders_unsettled config world seat kept command fixed spot made order given takes facts = absurd (given (in_call spot made order refl takes))
 
 -- a reply that is given is the settled one, of a call that goes on
 pub gives_settled : (config : Config) (world : World) (seat : ℕ) (kept : Kept) (command : Command) (fixed : Option Reply) (spot : Spot) (made : ℕ) (reply : Reply) → SpotFacts config world seat made kept command fixed spot → given_at spot ≡ Some reply → fixed ≡ Some reply
-gives_settled config world seat kept command fixed (Leave r) made reply facts is = facts ∙ is
+gives_settled config world seat kept command fixed (Leave other_reply) made reply facts is = facts ∙ is
 gives_settled config world seat kept command fixed _ made reply facts is = cc
 
 -- the command stays, or no reply is settled
 command_stays : (config : Config) (world : World) (seat : ℕ) (kept : Kept) (command : Command) (fixed : Option Reply) (spot : Spot) (made : ℕ) (order : Order) → takes_at spot made order ≡ true → SpotFacts config world seat made kept command fixed spot
     → ((fixed ≡ None) × (is_waiting spot ≡ false)) ⊎ (command_by order command ≡ command)
 command_stays config world seat kept command fixed spot made Nothing takes facts = inr refl
-command_stays config world seat kept command fixed spot made (Begin k) takes facts = inl (orders_unsettled config world seat kept command fixed spot made (Begin k) (λ e. cc) takes facts)
+command_stays config world seat kept command fixed spot made (Begin other_command) takes facts = inl (orders_unsettled config world seat kept command fixed spot made (Begin other_command) (λ e. cc) takes facts)
 command_stays config world seat kept command fixed spot made End takes facts = inr refl
 command_stays config world seat kept command fixed spot made (Hint address) takes facts = inr refl
 
@@ -67,8 +67,8 @@ entries_step : (calls : List Entry) (seat : ℕ) (command after : Command) (fixe
     → (fixed ≡ None) ⊎ (after ≡ command)
     → (calls ++ entries_of seat command fixed) ++ entries_of seat after told
     ≡ (calls ++ entries_of seat command given) ++ entries_of seat after (fixed_by fixed told given)
-entries_step calls seat command after fixed (Some t) given gives settles stays = rw ((settles t refl).0, (settles t refl).1) refl
-entries_step calls seat command after fixed None (Some g) gives settles stays = rw (gives g refl) refl
+entries_step calls seat command after fixed (Some reply) given gives settles stays = rw ((settles reply refl).0, (settles reply refl).1) refl
+entries_step calls seat command after fixed None (Some reply) gives settles stays = rw (gives reply refl) refl
 entries_step calls seat command after fixed None None gives settles stays =
     append-nil _ ∙ ⊎_elim
     (λ (no : fixed ≡ None). rw no (sym (append-nil _)))
@@ -78,28 +78,28 @@ entries_step calls seat command after fixed None None gives settles stays =
 -- a mutator keeps its seat
 next_seat : (config : Config) (mutator : Mutating) (order : Order) (got : ℕ) (spot : Spot) → (next_at config mutator order got spot).seat ≡ mutator.seat
 next_seat config mutator Nothing got Rest = refl
-next_seat config mutator (Begin k) got Rest = refl
+next_seat config mutator (Begin command) got Rest = refl
 next_seat config mutator End got Rest = refl
 next_seat config mutator (Hint address) got Rest = refl
-next_seat config mutator Nothing got (Ended r) = refl
-next_seat config mutator (Begin k) got (Ended r) = refl
-next_seat config mutator End got (Ended r) = refl
-next_seat config mutator (Hint address) got (Ended r) = refl
+next_seat config mutator Nothing got (Ended reply) = refl
+next_seat config mutator (Begin command) got (Ended reply) = refl
+next_seat config mutator End got (Ended reply) = refl
+next_seat config mutator (Hint address) got (Ended reply) = refl
 next_seat config mutator order got _ = refl
 
 -- The adapter. While an image counts, the mutator is outside, and its access is of no word of the image.
 module _ (change : Change) (config : Config) (words : List ℕ) (found : Option Counting) (block : Plot) (ghost : Ghost) (graph : Graph) (past : List Entry) (number : ℕ) (machines : List Actor) (order : Order) (mutator : Mutating)
     (command : Command) (calls : List Entry) (long : length words ≡ table_words config) (is : is_word config (touch_of config mutator order).word ≡ true)
     (held : (image : Counting) → found ≡ Some image → (is_within (standing_at mutator.spot) ≡ false) × (is_image (touch_of config mutator order).word ≡ false)) where
-  abbrev t : Touch
-  t = touch_of config mutator order
+  abbrev touch : Touch
+  touch = touch_of config mutator order
 
   abbrev words_then : List ℕ
-  words_then = words_after config words t
+  words_then = words_after config words touch
 
   -- the world before the event
-  abbrev u : World
-  u = record { memory = settled_by config words found; block = block; ghost = ghost; graph = graph }
+  abbrev world_then : World
+  world_then = record { memory = settled_by config words found; block = block; ghost = ghost; graph = graph }
 
   -- the actor before the event
   abbrev the_actor : Actor
@@ -107,7 +107,7 @@ module _ (change : Change) (config : Config) (words : List ℕ) (found : Option 
 
   -- the reply that the step settles
   abbrev the_told : Option Reply
-  the_told = settled_by_step u.memory mutator
+  the_told = settled_by_step world_then.memory mutator
 
   -- the entries
   abbrev the_entries : List Entry
@@ -115,62 +115,62 @@ module _ (change : Change) (config : Config) (words : List ℕ) (found : Option 
 
   -- the actor after it
   abbrev the_new : Actor
-  the_new = took_of change config the_actor order (u.memory t.word) (mutating mutator)
+  the_new = took_of change config the_actor order (world_then.memory touch.word) (mutating mutator)
 
-  module _ (promised_to : PromisedToMutators config block) (shared : Shared config u) (thread : IsThread config words u (of_thread past (number + 1)) number the_actor mutator) (step : Stepped config u mutator command order thread.fixed)
+  module _ (promised_to : PromisedToMutators config block) (shared : Shared config world_then) (thread : IsThread config words world_then (of_thread past (number + 1)) number the_actor mutator) (step : Stepped config world_then mutator command order thread.fixed)
       (takes : takes_at mutator.spot mutator.made order ≡ true) where
     abbrev fixed_then : Option Reply
     fixed_then = fixed_by thread.fixed the_told (given_at mutator.spot)
 
     -- while an image counts, nothing changes by which crowding is measured
     same_graph : (image : Counting) → found ≡ Some image → step.world.graph ≡ graph
-    same_graph image is_held = step.graph ∙ ap (λ r. graph_by graph mutator.seat (command_by order command) r) (outside_told u.memory mutator.seat mutator.made mutator.kept mutator.spot (held image is_held).0)
+    same_graph image is_held = step.graph ∙ ap (λ r. graph_by graph mutator.seat (command_by order command) r) (outside_told world_then.memory mutator.seat mutator.made mutator.kept mutator.spot (held image is_held).0)
 
-    left_image : (image : Counting) → found ≡ Some image → is_image t.word ≡ false
+    left_image : (image : Counting) → found ≡ Some image → is_image touch.word ≡ false
     left_image image is_held = (held image is_held).1
 
     -- and its own reply stays as it is
     fixed_stays : (image : Counting) → found ≡ Some image → fixed_then ≡ thread.fixed
     fixed_stays image is_held =
-        ap (λ r. fixed_by thread.fixed r (given_at mutator.spot)) (outside_told u.memory mutator.seat mutator.made mutator.kept mutator.spot (held image is_held).0)
+        ap (λ r. fixed_by thread.fixed r (given_at mutator.spot)) (outside_told world_then.memory mutator.seat mutator.made mutator.kept mutator.spot (held image is_held).0)
         ∙ ap (λ r. fixed_by thread.fixed None r) (outside_given mutator.spot (held image is_held).0)
 
     -- where the table counts, an answer that the heap is full is settled
     full_open : found ≡ None → step.world.memory (Answer number) ≡ 1 → fixed_then ≡ Some Full
     full_open none now =
-        let now_own : touched u.memory t (Answer mutator.seat) ≡ 1 = ap (λ memory. memory (Answer mutator.seat)) (sym step.memory) ∙ ap (λ j. step.world.memory (Answer j)) thread.number_is ∙ now in
-        let before : u.memory (Answer mutator.seat) ≡ 1 = answer_before config u.memory mutator.seat mutator.made mutator.kept order mutator.spot now_own in
-        let before_here : u.memory (Answer number) ≡ 1 = ap (λ j. u.memory (Answer j)) (sym thread.number_is) ∙ before in
-        let quiet = refused_quiet config u mutator.seat mutator.made mutator.kept command thread.fixed mutator.spot before thread.mine in
+        let now_own : touched world_then.memory touch (Answer mutator.seat) ≡ 1 = ap (λ memory. memory (Answer mutator.seat)) (sym step.memory) ∙ ap (λ mutator. step.world.memory (Answer mutator)) thread.number_is ∙ now in
+        let before : world_then.memory (Answer mutator.seat) ≡ 1 = answer_before config world_then.memory mutator.seat mutator.made mutator.kept order mutator.spot now_own in
+        let before_here : world_then.memory (Answer number) ≡ 1 = ap (λ mutator. world_then.memory (Answer mutator)) (sym thread.number_is) ∙ before in
+        let quiet = refused_quiet config world_then mutator.seat mutator.made mutator.kept command thread.fixed mutator.spot before thread.mine in
         let settled_full : thread.fixed ≡ Some Full = ⊎_elim
         (λ (both : (view config words (Answer number) ≡ 1) × (thread.fixed ≡ Some Full)). both.1)
-        (λ (none_yet : (view config words (Answer number) ≡ 0) × (thread.fixed ≡ None)). absurd (let whole = whole_before config words found t u step.world refl step.memory long is none number in let raw = none_yet.0 in omega (arith, whole, raw, before_here)))
+        (λ (none_yet : (view config words (Answer number) ≡ 0) × (thread.fixed ≡ None)). absurd (let whole = whole_before config words found touch world_then step.world refl step.memory long is none number in let raw = none_yet.0 in omega (arith, whole, raw, before_here)))
         (thread.seen.full before_here) in
         ap (λ r. fixed_by thread.fixed r (given_at mutator.spot)) quiet.0 ∙ ap (λ r. fixed_by thread.fixed None r) quiet.1 ∙ settled_full
 
     -- its answer
     own_seen : (x : Option Counting) → found ≡ x → IsSeen (view config words_then (Answer number)) (step.world.memory (Answer number)) fixed_then
     own_seen None none = record {
-      null = λ now. whole_then config words found t u step.world refl step.memory long is none number ∙ now;
-      full = λ now. inl (whole_then config words found t u step.world refl step.memory long is none number ∙ now, full_open none now);
-      given = λ more is_1. (let same = whole_then config words found t u step.world refl step.memory long is none number in omega (arith, same, more, is_1));
+      null = λ now. whole_then config words found touch world_then step.world refl step.memory long is none number ∙ now;
+      full = λ now. inl (whole_then config words found touch world_then step.world refl step.memory long is none number ∙ now, full_open none now);
+      given = λ more is_1. (let same = whole_then config words found touch world_then step.world refl step.memory long is none number in omega (arith, same, more, is_1));
     }
     own_seen (Some image) is_held =
-        subst (λ f. IsSeen (view config words_then (Answer number)) (step.world.memory (Answer number)) f) (sym (fixed_stays image is_held))
-        (seen_stays _ _ _ _ thread.fixed (raw_stays config words found t u step.world refl step.memory long is (left_image image is_held) number) (now_stays config words found t u step.world refl step.memory long is (left_image image is_held) number) thread.seen)
+        subst (λ fixed. IsSeen (view config words_then (Answer number)) (step.world.memory (Answer number)) fixed) (sym (fixed_stays image is_held))
+        (seen_stays _ _ _ _ thread.fixed (raw_stays config words found touch world_then step.world refl step.memory long is (left_image image is_held) number) (now_stays config words found touch world_then step.world refl step.memory long is (left_image image is_held) number) thread.seen)
 
     -- crowding
     own_short : (x : Option Counting) → found ≡ x → step.world.memory (Answer number) ≡ 1 → fixed_then ≡ None → IsShort config step.world.memory step.world.graph number (words_asked (Some the_new.command))
     own_short None none now unsettled = absurd (let it = sym unsettled ∙ full_open none now in cc)
     own_short (Some image) is_held now unsettled =
-        let before : u.memory (Answer number) ≡ 1 = sym (now_stays config words found t u step.world refl step.memory long is (left_image image is_held) number) ∙ now in
+        let before : world_then.memory (Answer number) ≡ 1 = sym (now_stays config words found touch world_then step.world refl step.memory long is (left_image image is_held) number) ∙ now in
         let same_command : command_by order command ≡ command = ⊎_elim
         (λ (rests : (thread.fixed ≡ None) × (is_waiting mutator.spot ≡ false)).
-        absurd (let answer = (thread.mine.seated.unasked rests.1).1 in let here = ap (λ j. u.memory (Answer j)) thread.number_is in omega (arith, answer, here, before)))
+        absurd (let answer = (thread.mine.seated.unasked rests.1).1 in let here = ap (λ mutator. world_then.memory (Answer mutator)) thread.number_is in omega (arith, answer, here, before)))
         (λ (same : command_by order command ≡ command). same)
-        (command_stays config u mutator.seat mutator.kept command thread.fixed mutator.spot mutator.made order takes thread.mine.facts) in
+        (command_stays config world_then mutator.seat mutator.kept command thread.fixed mutator.spot mutator.made order takes thread.mine.facts) in
         subst (λ k. IsShort config step.world.memory step.world.graph number (words_asked (Some k))) (sym same_command)
-        (short_stays config u step.world number (words_asked (Some command)) (counts_same config words found t u step.world refl step.memory long is (same_graph image is_held) (left_image image is_held)) (thread.short before (sym (fixed_stays image is_held) ∙ unsettled)))
+        (short_stays config world_then step.world number (words_asked (Some command)) (counts_same config words found touch world_then step.world refl step.memory long is (same_graph image is_held) (left_image image is_held)) (thread.short before (sym (fixed_stays image is_held) ∙ unsettled)))
 
     -- its own machine
     own_machine : IsMachine config words_then step.world (of_thread (past ++ the_entries) (number + 1)) number the_new the_new.machine
@@ -187,15 +187,15 @@ module _ (change : Change) (config : Config) (words : List ℕ) (found : Option 
           ∙ ap (λ es. es ++ the_entries)
           (subst (λ n. of_thread past (n + 1) ≡ calls ++ entries_of n command thread.fixed) (sym thread.number_is) thread.entries_are)
           ∙ entries_step calls mutator.seat command (command_by order command) thread.fixed the_told (given_at mutator.spot)
-          (λ reply given. gives_settled config u mutator.seat mutator.kept command thread.fixed mutator.spot mutator.made reply thread.mine.facts given)
+          (λ reply given. gives_settled config world_then mutator.seat mutator.kept command thread.fixed mutator.spot mutator.made reply thread.mine.facts given)
           step.settles
-          (⊎_elim (λ rests. inl rests.0) (λ same. inr same) (command_stays config u mutator.seat mutator.kept command thread.fixed mutator.spot mutator.made order takes thread.mine.facts)));
+          (⊎_elim (λ rests. inl rests.0) (λ same. inr same) (command_stays config world_then mutator.seat mutator.kept command thread.fixed mutator.spot mutator.made order takes thread.mine.facts)));
     }
 
     -- what the control has read or written of the image stays while one counts; while none does, it is in no pause
     module _ (aims : (k : ℕ) (b : Actor) → k ≢ number → slice_get machines k ≡ Some b → (control : Controlling) → b.machine ≡ controlling control → IsAim config words control.spot control.image → IsAim config words_then control.spot control.image) where
       -- what its place owes, as an event
-      pub owes_stepped : Owes config words words_then u past number machines (touched u.memory t) the_entries the_new
+      pub owes_stepped : Owes config words words_then world_then past number machines (touched world_then.memory touch) the_entries the_new
       owes_stepped = record {
         world = step.world;
         memory_is = step.memory;
@@ -203,18 +203,18 @@ module _ (change : Change) (config : Config) (words : List ℕ) (found : Option 
         legal = legal_settled config graph mutator.seat (command_by order command) the_told step.legal;
         entries = entries_settled config.mutators mutator.seat (command_by order command) the_told thread.mine.seated.below (command_valid mutator.spot mutator.made order command takes thread.valid);
         shared = step.shared;
-        promised_to = λ a seat more there. ⊎_elim
+        promised_to = λ address seat more there. ⊎_elim
             (λ (same : seat ≡ mutator.seat). subst (λ j. j < config.mutators) (sym same) thread.mine.seated.below)
-            (λ (differs : seat ≢ mutator.seat). promised_to a seat more ((step.others seat differs).no_promises a more there))
+            (λ (differs : seat ≢ mutator.seat). promised_to address seat more ((step.others seat differs).no_promises address more there))
             (cases_eq seat mutator.seat);
         own = own_machine;
         others = λ k b differs there known.
             let other : k ≢ mutator.seat = λ e. differs (e ∙ thread.number_is) in
-            machine_stays config words words_then u step.world (of_thread past (k + 1)) (of_thread (past ++ the_entries) (k + 1)) k b b.machine shared
+            machine_stays config words words_then world_then step.world (of_thread past (k + 1)) (of_thread (past ++ the_entries) (k + 1)) k b b.machine shared
             (record {
               rely = step.others k other;
-              answer = other_raw config words found t u step.world refl step.memory long is left_image found refl k (step.others k other);
-              counts = other_counts config words found t u step.world refl step.memory long is left_image same_graph found refl k;
+              answer = other_raw config words found touch world_then step.world refl step.memory long is left_image found refl k (step.others k other);
+              counts = other_counts config words found touch world_then step.world refl step.memory long is left_image same_graph found refl k;
               aims = λ control same. aims k b differs there control same;
             })
             (other_more past mutator.seat (command_by order command) the_told k other) known;

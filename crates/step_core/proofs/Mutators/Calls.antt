@@ -52,7 +52,7 @@ module _ (config : Config) (world : World) (seat made : ℕ) (kept : Kept) (comm
     settles = λ r e. cc;
     shared = shared;
     mine = begins k mine.seated mine.marking mine.copying mine.roots mine.rooms mine.facts takes;
-    others = λ j d. let marks = marks_in config world (accessed_by config world (at_spot Rest) (Begin k)).memory world.graph j refl (λ n. refl) (λ t. refl) (λ t k. refl) (λ a. refl) in let copies = copies_in config world (accessed_by config world (at_spot Rest) (Begin k)).memory world.graph j refl refl (λ r. refl) (λ a. refl) in let kept_fields = fields_in config world (accessed_by config world (at_spot Rest) (Begin k)).memory world.graph (λ r. refl) (λ r. refl) refl (λ a. refl) in search (arith, nat_tests, marks, copies, kept_fields);
+    others = λ seat d. let marks = marks_in config world (accessed_by config world (at_spot Rest) (Begin k)).memory world.graph seat refl (λ n. refl) (λ t. refl) (λ t k. refl) (λ a. refl) in let copies = copies_in config world (accessed_by config world (at_spot Rest) (Begin k)).memory world.graph seat refl refl (λ r. refl) (λ a. refl) in let kept_fields = fields_in config world (accessed_by config world (at_spot Rest) (Begin k)).memory world.graph (λ r. refl) (λ r. refl) refl (λ a. refl) in search (arith, nat_tests, marks, copies, kept_fields);
   }
   at_rest End shared mine takes = record {
     world = accessed_by config world (at_spot Rest) End;
@@ -62,13 +62,13 @@ module _ (config : Config) (world : World) (seat made : ℕ) (kept : Kept) (comm
     settles = λ r e. cc;
     shared = shared;
     mine = ends mine.seated mine.marking mine.copying mine.roots mine.rooms mine.facts;
-    others = λ j d. let marks = marks_in config world (accessed_by config world (at_spot Rest) End).memory world.graph j refl (λ n. refl) (λ t. refl) (λ t k. refl) (λ a. refl) in let copies = copies_in config world (accessed_by config world (at_spot Rest) End).memory world.graph j refl refl (λ r. refl) (λ a. refl) in let kept_fields = fields_in config world (accessed_by config world (at_spot Rest) End).memory world.graph (λ r. refl) (λ r. refl) refl (λ a. refl) in search (arith, nat_tests, marks, copies, kept_fields);
+    others = λ seat d. let marks = marks_in config world (accessed_by config world (at_spot Rest) End).memory world.graph seat refl (λ n. refl) (λ t. refl) (λ t k. refl) (λ a. refl) in let copies = copies_in config world (accessed_by config world (at_spot Rest) End).memory world.graph seat refl refl (λ r. refl) (λ a. refl) in let kept_fields = fields_in config world (accessed_by config world (at_spot Rest) End).memory world.graph (λ r. refl) (λ r. refl) refl (λ a. refl) in search (arith, nat_tests, marks, copies, kept_fields);
   }
 
   -- so does one that has ended a call
-  pub at_ended : (r : Reply) (order : Order) → OrderedRow config world (at_spot (Ended r)) command order fixed
-  at_ended r Nothing shared mine takes = cc
-  at_ended r (Hint address) shared mine takes = cc
+  pub at_ended : (answer : Reply) (order : Order) → OrderedRow config world (at_spot (Ended answer)) command order fixed
+  at_ended answer Nothing shared mine takes = cc
+  at_ended answer (Hint address) shared mine takes = cc
   at_ended r (Begin k) shared mine takes = record {
     world = accessed_by config world (at_spot (Ended r)) (Begin k);
     memory = refl;
@@ -77,7 +77,7 @@ module _ (config : Config) (world : World) (seat made : ℕ) (kept : Kept) (comm
     settles = λ q e. cc;
     shared = shared;
     mine = begins k mine.seated mine.marking mine.copying mine.roots mine.rooms mine.facts takes;
-    others = λ j d. let marks = marks_in config world (accessed_by config world (at_spot (Ended r)) (Begin k)).memory world.graph j refl (λ n. refl) (λ t. refl) (λ t k. refl) (λ a. refl) in let copies = copies_in config world (accessed_by config world (at_spot (Ended r)) (Begin k)).memory world.graph j refl refl (λ r. refl) (λ a. refl) in let kept_fields = fields_in config world (accessed_by config world (at_spot (Ended r)) (Begin k)).memory world.graph (λ r. refl) (λ r. refl) refl (λ a. refl) in search (arith, nat_tests, marks, copies, kept_fields);
+    others = λ seat d. let marks = marks_in config world (accessed_by config world (at_spot (Ended r)) (Begin k)).memory world.graph seat refl (λ n. refl) (λ t. refl) (λ t k. refl) (λ a. refl) in let copies = copies_in config world (accessed_by config world (at_spot (Ended r)) (Begin k)).memory world.graph seat refl refl (λ r. refl) (λ a. refl) in let kept_fields = fields_in config world (accessed_by config world (at_spot (Ended r)) (Begin k)).memory world.graph (λ r. refl) (λ r. refl) refl (λ a. refl) in search (arith, nat_tests, marks, copies, kept_fields);
   }
   at_ended r End shared mine takes = record {
     world = accessed_by config world (at_spot (Ended r)) End;
@@ -87,7 +87,7 @@ module _ (config : Config) (world : World) (seat made : ℕ) (kept : Kept) (comm
     settles = λ q e. cc;
     shared = shared;
     mine = ends mine.seated mine.marking mine.copying mine.roots mine.rooms mine.facts;
-    others = λ j d. let marks = marks_in config world (accessed_by config world (at_spot (Ended r)) End).memory world.graph j refl (λ n. refl) (λ t. refl) (λ t k. refl) (λ a. refl) in let copies = copies_in config world (accessed_by config world (at_spot (Ended r)) End).memory world.graph j refl refl (λ r. refl) (λ a. refl) in let kept_fields = fields_in config world (accessed_by config world (at_spot (Ended r)) End).memory world.graph (λ r. refl) (λ r. refl) refl (λ a. refl) in search (arith, nat_tests, marks, copies, kept_fields);
+    others = λ seat d. let marks = marks_in config world (accessed_by config world (at_spot (Ended r)) End).memory world.graph seat refl (λ n. refl) (λ t. refl) (λ t k. refl) (λ a. refl) in let copies = copies_in config world (accessed_by config world (at_spot (Ended r)) End).memory world.graph seat refl refl (λ r. refl) (λ a. refl) in let kept_fields = fields_in config world (accessed_by config world (at_spot (Ended r)) End).memory world.graph (λ r. refl) (λ r. refl) refl (λ a. refl) in search (arith, nat_tests, marks, copies, kept_fields);
   }
 
   -- the step that asks for a cycle settles Ok
@@ -102,11 +102,11 @@ module _ (config : Config) (world : World) (seat made : ℕ) (kept : Kept) (comm
         settles = λ r e. (mine.facts.0, refl);
         shared = shared;
         mine = leaving config _ seat made kept command reply.Ok mine.seated (mine.marking.records, mine.marking.scans, mine.copying.copies_is, mine.copying.works_none) mine.roots mine.rooms;
-        others = λ j d. let marks = marks_in config world (accessed config world (at_spot AskCycle)).memory world.graph j refl (λ n. refl) (λ t. refl) (λ t k. refl) (λ a. refl) in let copies = copies_in config world (accessed config world (at_spot AskCycle)).memory world.graph j refl refl (λ r. refl) (λ a. refl) in let kept_fields = fields_in config world (accessed config world (at_spot AskCycle)).memory world.graph (λ r. refl) (λ r. refl) refl (λ a. refl) in let waits = still_waits (world.memory Ask) in search (arith, nat_tests, marks, copies, kept_fields, waits);
+        others = λ seat d. let marks = marks_in config world (accessed config world (at_spot AskCycle)).memory world.graph seat refl (λ n. refl) (λ t. refl) (λ t k. refl) (λ a. refl) in let copies = copies_in config world (accessed config world (at_spot AskCycle)).memory world.graph seat refl refl (λ r. refl) (λ a. refl) in let kept_fields = fields_in config world (accessed config world (at_spot AskCycle)).memory world.graph (λ r. refl) (λ r. refl) refl (λ a. refl) in let waits = still_waits (world.memory Ask) in search (arith, nat_tests, marks, copies, kept_fields, waits);
       }
 
   -- the last step of a call gives its reply
-  pub at_leave : (r : Reply) → Row config world (at_spot (Leave r)) command fixed
+  pub at_leave : (answer : Reply) → Row config world (at_spot (Leave answer)) command fixed
   at_leave r shared mine = record {
     world = accessed config world (at_spot (Leave r));
     memory = refl;
@@ -115,5 +115,5 @@ module _ (config : Config) (world : World) (seat made : ℕ) (kept : Kept) (comm
     settles = λ q e. cc;
     shared = shared;
     mine = record { seated = mine.seated; ready = rest_ready config seat made kept (Ended r) refl mine.seated.below; marking = mine.marking; copying = mine.copying; roots = mine.roots; rooms = mine.rooms; facts = refl };
-    others = λ j d. let marks = marks_in config world (accessed config world (at_spot (Leave r))).memory world.graph j refl (λ n. refl) (λ t. refl) (λ t k. refl) (λ a. refl) in let copies = copies_in config world (accessed config world (at_spot (Leave r))).memory world.graph j refl refl (λ r. refl) (λ a. refl) in let kept_fields = fields_in config world (accessed config world (at_spot (Leave r))).memory world.graph (λ r. refl) (λ r. refl) refl (λ a. refl) in search (arith, nat_tests, marks, copies, kept_fields);
+    others = λ seat d. let marks = marks_in config world (accessed config world (at_spot (Leave r))).memory world.graph seat refl (λ n. refl) (λ t. refl) (λ t k. refl) (λ a. refl) in let copies = copies_in config world (accessed config world (at_spot (Leave r))).memory world.graph seat refl refl (λ r. refl) (λ a. refl) in let kept_fields = fields_in config world (accessed config world (at_spot (Leave r))).memory world.graph (λ r. refl) (λ r. refl) refl (λ a. refl) in search (arith, nat_tests, marks, copies, kept_fields);
   }

@@ -39,29 +39,29 @@ abbrev pub state_world : World → ℕ → ℕ → World
 state_world world seat value = record { memory = touched world.memory (touch (State seat) (stores value)); block = world.block; ghost = world.ghost; graph = world.graph }
 
 -- a state word is no word that the facts of a mutator speak of
-pub state_marks : (config : Config) (world : World) (seat j value : ℕ) → RelyMarks config j world (state_world world seat value)
-state_marks config world seat j value = marks_in config world (state_world world seat value).memory world.graph j refl (λ n. refl) (λ t. refl) (λ t k. refl) (λ a. refl)
+pub state_marks : (config : Config) (world : World) (seat other_seat value : ℕ) → RelyMarks config other_seat world (state_world world seat value)
+state_marks config world seat other_seat value = marks_in config world (state_world world seat value).memory world.graph other_seat refl (λ n. refl) (λ t. refl) (λ t k. refl) (λ a. refl)
 
 -- nor is it one of evacuation
-state_copies : (config : Config) (world : World) (seat j value : ℕ) → RelyCopies config j world (state_world world seat value)
-state_copies config world seat j value = copies_in config world (state_world world seat value).memory world.graph j refl refl (λ r. refl) (λ a. refl)
+state_copies : (config : Config) (world : World) (seat other_seat value : ℕ) → RelyCopies config other_seat world (state_world world seat value)
+state_copies config world seat other_seat value = copies_in config world (state_world world seat value).memory world.graph other_seat refl refl (λ r. refl) (λ a. refl)
 
-pub state_keeps : (config : Config) (world : World) (seat j value : ℕ) → Keeps config j world (state_world world seat value)
+pub state_keeps : (config : Config) (world : World) (seat other_seat value : ℕ) → Keeps config other_seat world (state_world world seat value)
 state_keeps config world seat j value = let marks = state_marks config world seat j value in let kept = marks.keeps in let copies = state_copies config world seat j value in let kept_copies = copies.keeps in search (arith, nat_tests, kept, kept_copies)
 
 -- an entering that goes on stays one
-still_enters : (next : Entered) (at : EnterSpot) → is_still_outside at ≡ true → after_enter next at ≡ Entering at next
+still_enters : (next : Entered) (spot : EnterSpot) → is_still_outside spot ≡ true → after_enter next spot ≡ Entering spot next
 still_enters Call Inside outside = absurd (false≢true outside)
 still_enters Waited Inside outside = absurd (false≢true outside)
-still_enters Call at outside = refl
-still_enters Waited at outside = refl
+still_enters Call spot outside = refl
+still_enters Waited spot outside = refl
 
 module _ (config : Config) (world : World) (seat made : ℕ) (kept : Kept) (command : Command) (fixed : Option Reply) where
   abbrev at_spot : Spot → Mutating
   at_spot spot = mutator_at seat made kept spot
 
   -- the accesses of an entering can be made
-  enter_ready : (at : EnterSpot) (next : Entered) → is_still_outside at ≡ true → seat < config.mutators → is_ready config seat made kept (Entering at next) ≡ true
+  enter_ready : (spot : EnterSpot) (next : Entered) → is_still_outside spot ≡ true → seat < config.mutators → is_ready config seat made kept (Entering spot next) ≡ true
   enter_ready Raise next outside below = ready_of _ true (state_word config seat below) refl
   enter_ready Look next outside below = refl
   enter_ready Lower next outside below = ready_of _ true (state_word config seat below) refl
@@ -70,23 +70,23 @@ module _ (config : Config) (world : World) (seat made : ℕ) (kept : Kept) (comm
 
   module _ (before : EnterSpot) (next : Entered) (mine : Mine config world (at_spot (Entering before next)) command fixed) where
     -- what it counts on where it goes on entering
-    mine_at : (w : World) → Keeps config seat world w → RelyMarks config seat world w → RelyCopies config seat world w → w.block ≡ world.block → (at : EnterSpot) → is_still_outside at ≡ true → Mine config w (at_spot (after_enter next at)) command fixed
-    mine_at w keeps marks copies same at outside = subst (λ spot. Mine config w (at_spot spot) command fixed) (sym (still_enters next at outside)) (record {
-      seated = seated_stays config world w seat keeps made (is_waiting (Entering before next)) mine.seated;
+    mine_at : (next_world : World) → Keeps config seat world next_world → RelyMarks config seat world next_world → RelyCopies config seat world next_world → next_world.block ≡ world.block → (spot : EnterSpot) → is_still_outside spot ≡ true → Mine config next_world (at_spot (after_enter next spot)) command fixed
+    mine_at next_world keeps marks copies same at outside = subst (λ spot. Mine config next_world (at_spot spot) command fixed) (sym (still_enters next at outside)) (record {
+      seated = seated_stays config world next_world seat keeps made (is_waiting (Entering before next)) mine.seated;
       ready = enter_ready at next outside mine.seated.below;
-      marking = marking_relied config world w seat None kept.phase false marks mine.marking;
-      copying = copying_relied config world w seat false kept.cset false copies mine.copying;
-      roots = λ i below. rw (keeps.root_words i) (root_stays config world w seat keeps _ i (mine.roots i below));
-      rooms = λ a x is. mine.rooms a x (ap (λ plot. plot a) (sym same) ∙ is);
-      facts = enter_stays config world w seat keeps made kept.command command fixed next mine.facts;
+      marking = marking_relied config world next_world seat None kept.phase false marks mine.marking;
+      copying = copying_relied config world next_world seat false kept.cset false copies mine.copying;
+      roots = λ i below. rw (keeps.root_words i) (root_stays config world next_world seat keeps _ i (mine.roots i below));
+      rooms = λ address x is. mine.rooms address x (ap (λ plot. plot address) (sym same) ∙ is);
+      facts = enter_stays config world next_world seat keeps made kept.command command fixed next mine.facts;
     })
 
     -- in the same world
-    mine_on : (at : EnterSpot) → is_still_outside at ≡ true → Mine config world (at_spot (after_enter next at)) command fixed
+    mine_on : (spot : EnterSpot) → is_still_outside spot ≡ true → Mine config world (at_spot (after_enter next spot)) command fixed
     mine_on = mine_at world (keeps_of config seat world world (rely_same config seat world)) (same_marks config world seat) (same_copies config world seat) refl
 
     -- after a store into its state word
-    mine_stored : (value : ℕ) (at : EnterSpot) → is_still_outside at ≡ true → Mine config (state_world world seat value) (at_spot (after_enter next at)) command fixed
+    mine_stored : (value : ℕ) (spot : EnterSpot) → is_still_outside spot ≡ true → Mine config (state_world world seat value) (at_spot (after_enter next spot)) command fixed
     mine_stored value = mine_at (state_world world seat value) (state_keeps config world seat seat value) (state_marks config world seat seat value) (state_copies config world seat seat value) refl
 
   -- and once it is inside: a call begins with the phase, and one that has waited has its answer
@@ -95,10 +95,10 @@ module _ (config : Config) (world : World) (seat made : ℕ) (kept : Kept) (comm
   mine_inside Waited mine = record { seated = mine.seated; ready = ready_of _ true (lt-ltb _ _ mine.seated.below) refl; marking = mine.marking; copying = mine.copying; roots = mine.roots; rooms = mine.rooms; facts = mine.facts }
 
   -- a step of an entering is a step of the mutator
-  lifted : (at : EnterSpot) (next : Entered) → Shared config world → Mine config (entered_world world seat at) (at_spot (after_enter next (enter_next at (world.memory (enter_touch seat at).word)))) command fixed
-      → Stepped config world (at_spot (Entering at next)) command Nothing fixed
-  lifted at next shared mine =
-      let step = enters config world seat at (λ w. Mine config w (at_spot (after_enter next (enter_next at (world.memory (enter_touch seat at).word)))) command fixed) shared mine in
+  lifted : (spot : EnterSpot) (next : Entered) → Shared config world → Mine config (entered_world world seat spot) (at_spot (after_enter next (enter_next spot (world.memory (enter_touch seat spot).word)))) command fixed
+      → Stepped config world (at_spot (Entering spot next)) command Nothing fixed
+  lifted spot next shared mine =
+      let step = enters config world seat spot (λ other_world. Mine config other_world (at_spot (after_enter next (enter_next spot (world.memory (enter_touch seat spot).word)))) command fixed) shared mine in
       record {
         world = step.world;
         memory = step.memory;
@@ -111,7 +111,7 @@ module _ (config : Config) (world : World) (seat made : ℕ) (kept : Kept) (comm
       }
 
   -- the steps of an entering
-  pub at_enter : (at : EnterSpot) (next : Entered) → Row config world (at_spot (Entering at next)) command fixed
+  pub at_enter : (spot : EnterSpot) (next : Entered) → Row config world (at_spot (Entering spot next)) command fixed
   at_enter Raise next shared mine = lifted Raise next shared (mine_stored Raise next mine 1 Look refl)
   at_enter Look next shared mine = lifted Look next shared (by_pause (world.memory Pause == 0))
     where

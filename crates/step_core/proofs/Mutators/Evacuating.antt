@@ -6,8 +6,8 @@ use Rattle.heap_world.specs.Part.{SameWork}
 use Rattle.heap_world.specs.Rely.{KeepsCopies}
 use Rattle.step_core.proofs.Machines.Stepped.{HasCopyingBy}
 
-pub copying_kept : (config : Config) (world other_world : World) (seat : ℕ) (copies : Bool) (loaded : ℕ) (knows : Bool) → SameWork world other_world seat → KeepsCopies config world other_world → HasCopyingBy world seat copies loaded knows → HasCopyingBy other_world seat copies loaded knows
-copying_kept config world other_world seat copies loaded knows same keeps copying = record {
+pub copying_kept : (config : Config) (world next_world : World) (seat : ℕ) (copies : Bool) (loaded : ℕ) (knows : Bool) → SameWork world next_world seat → KeepsCopies config world next_world → HasCopyingBy world seat copies loaded knows → HasCopyingBy next_world seat copies loaded knows
+copying_kept config world next_world seat copies loaded knows same keeps copying = record {
   copies_is = same.copying ∙ copying.copies_is;
   works_none = same.working ∙ copying.works_none;
   set_is = λ on. copying.set_is on ∙ sym keeps.cset;

@@ -52,10 +52,10 @@ module _ (change : Change) (config : Config) (graph : Graph) (stage : Stage Acto
   abbrev before : Actor
   before = record { machine = mutating mutator; command = command; calls = calls }
 
-  abbrev u : World
-  u = world_of config stage follows.block follows.ghost (after graph past)
+  abbrev world_then : World
+  world_then = world_of config stage follows.block follows.ghost (after graph past)
 
-  thread : IsThread config stage.words u (of_thread past (number + 1)) number before mutator
+  thread : IsThread config stage.words world_then (of_thread past (number + 1)) number before mutator
   thread = follows.machines number before here
 
   below : number < config.mutators
@@ -96,13 +96,13 @@ module _ (change : Change) (config : Config) (graph : Graph) (stage : Stage Acto
   new_then got = took_of change config before order got (mutating mutator)
 
   -- where it polls, and no image counts or its word is none of it, what counts is in the history
-  told_now : ((image : Counting) → held_image config stage ≡ Some image → is_image (touch_of config mutator order).word ≡ false) → mutator.spot ≡ Waiting wait.Poll → u.memory (Answer mutator.seat) ≡ 1 → thread.fixed ≡ Some Full
+  told_now : ((image : Counting) → held_image config stage ≡ Some image → is_image (touch_of config mutator order).word ≡ false) → mutator.spot ≡ Waiting wait.Poll → world_then.memory (Answer mutator.seat) ≡ 1 → thread.fixed ≡ Some Full
   told_now no_image polls one = by_image (held_image config stage) refl
     where
       by_image : (found : Option Counting) → held_image config stage ≡ found → thread.fixed ≡ Some Full
       by_image (Some image) held = absurd (false≢true (sym (no_image image held) ∙ ap (λ spot. is_image (touch_at config mutator.seat mutator.made mutator.kept order spot).word) polls))
       by_image None none =
-          let now : u.memory (Answer number) ≡ 1 = subst (λ n. u.memory (Answer n) ≡ 1) thread.number_is one in
+          let now : world_then.memory (Answer number) ≡ 1 = subst (λ mutator. world_then.memory (Answer mutator) ≡ 1) thread.number_is one in
           let raw : view config stage.words (Answer number) ≡ 1 = ap (λ found. settled_by config stage.words found (Answer number)) (sym none) ∙ now in
           ⊎_elim
           (λ (both : (view config stage.words (Answer number) ≡ 1) × (thread.fixed ≡ Some Full)). both.1)
@@ -114,16 +114,16 @@ module _ (change : Change) (config : Config) (graph : Graph) (stage : Stage Acto
   unfolding kind
   follows_plain no_image =
       let at : ℕ = table_index (placed config (touch_of config mutator order)) in
-      let step = each_step config u mutator command order thread.fixed (told_now no_image) follows.no_more_pins follows.shared thread.mine takes in
-      let owes : Owes config stage.words words_then u past number stage.machines (touched u.memory (touch_of config mutator order)) entries (new_then (u.memory (touch_of config mutator order).word)) =
+      let step = each_step config world_then mutator command order thread.fixed (told_now no_image) follows.no_more_pins follows.shared thread.mine takes in
+      let owes : Owes config stage.words words_then world_then past number stage.machines (touched world_then.memory (touch_of config mutator order)) entries (new_then (world_then.memory (touch_of config mutator order).word)) =
       owes_stepped change config stage.words (held_image config stage) follows.block follows.ghost (after graph past) past number stage.machines order mutator command calls follows.words word (λ image held. (outside_now image held, no_image image held))
       follows.promised_to follows.shared thread step takes aims_then in
-      let found : slice_index stage.words at ≡ u.memory (touch_of config mutator order).word = settled_found config stage.words (touch_of config mutator order) (held_image config stage) word no_image in
-      let memory_then : settled config (record { words = words_then; machines = slice_set stage.machines number (new_then (slice_index stage.words at)) }) ≡ touched u.memory (touch_of config mutator order) =
+      let found : slice_index stage.words at ≡ world_then.memory (touch_of config mutator order).word = settled_found config stage.words (touch_of config mutator order) (held_image config stage) word no_image in
+      let memory_then : settled config (record { words = words_then; machines = slice_set stage.machines number (new_then (slice_index stage.words at)) }) ≡ touched world_then.memory (touch_of config mutator order) =
       ap (settled_by config words_then) (other_holds config stage number (new_then (slice_index stage.words at)) not_control) ∙ settled_touched config stage.words (touch_of config mutator order) (held_image config stage) word follows.words no_image in
       follows_owes config graph stage past number before (new_then (slice_index stage.words at)) words_then entries follows
-      (subst (λ memory. Owes config stage.words words_then u past number stage.machines memory entries (new_then (slice_index stage.words at))) (sym memory_then)
-      (subst (λ got. Owes config stage.words words_then u past number stage.machines (touched u.memory (touch_of config mutator order)) entries (new_then got)) (sym found) owes))
+      (subst (λ memory. Owes config stage.words words_then world_then past number stage.machines memory entries (new_then (slice_index stage.words at))) (sym memory_then)
+      (subst (λ got. Owes config stage.words words_then world_then past number stage.machines (touched world_then.memory (touch_of config mutator order)) entries (new_then got)) (sym found) owes))
       here (length-set stage.words _ _ ∙ follows.words)
 
 -- A mutator that looks for its answer while an image counts.
@@ -145,7 +145,7 @@ module _ (change : Change) (config : Config) (graph : Graph) (stage : Stage Acto
       let at : ℕ = table_index (placed config (touch (Answer seat) loads)) in
       let words_then : List ℕ = words_after config stage.words (touch (Answer seat) loads) in
       let same_words : words_then ≡ stage.words = words_loaded config stage.words (Answer seat) in
-      let thread = subst (λ w. IsThread config stage.words w (of_thread past (seat + 1)) seat polling (mutator_at seat made kept (Waiting wait.Poll))) world_is (follows.machines seat polling here) in
+      let thread = subst (λ world. IsThread config stage.words world (of_thread past (seat + 1)) seat polling (mutator_at seat made kept (Waiting wait.Poll))) world_is (follows.machines seat polling here) in
       let below : seat < config.mutators = thread.mine.seated.below in
       let found : slice_index stage.words at ≡ view config stage.words (Answer seat) = found-placed config stage.words (touch (Answer seat) loads) (lt-ltb _ _ below) in
       let owes : Owes config stage.words stage.words held_world past seat stage.machines (mixed config stage.words image) [] (polled_then (view config stage.words (Answer seat))) =
@@ -154,7 +154,7 @@ module _ (change : Change) (config : Config) (graph : Graph) (stage : Stage Acto
       ap (settled_by config words_then) (other_holds config stage seat (polled_then (slice_index stage.words at)) other ∙ held) ∙ ap (λ ws. mixed config ws image) same_words in
       follows_owes config graph stage past seat polling (polled_then (slice_index stage.words at)) words_then [] follows
       (subst (λ memory. Owes config stage.words words_then (world_of config stage follows.block follows.ghost (after graph past)) past seat stage.machines memory [] (polled_then (slice_index stage.words at))) (sym memory_then)
-      (subst (λ w. Owes config stage.words words_then w past seat stage.machines (mixed config stage.words image) [] (polled_then (slice_index stage.words at))) (sym world_is)
+      (subst (λ next_world. Owes config stage.words words_then next_world past seat stage.machines (mixed config stage.words image) [] (polled_then (slice_index stage.words at))) (sym world_is)
       (subst (λ ws. Owes config stage.words ws held_world past seat stage.machines (mixed config stage.words image) [] (polled_then (slice_index stage.words at))) (sym same_words)
       (subst (λ got. Owes config stage.words stage.words held_world past seat stage.machines (mixed config stage.words image) [] (polled_then got)) (sym found) owes))))
       here (length-set stage.words _ _ ∙ follows.words)

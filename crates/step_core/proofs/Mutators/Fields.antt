@@ -75,7 +75,7 @@ module _ (config : Config) (world : World) (seat made : ℕ) (kept : Kept) (comm
       shared
       (found_mine config (record { memory = world.memory; block = world.block; ghost = world.ghost; graph = with_root world.graph (seat + 1) dst here.0 }) seat made kept command
       shared mine.seated mine.marking mine.copying mine.rooms got here.0 get.small
-      (roots_then world.block (λ i. world.memory (Root seat i)) world.graph.root (seat + 1) dst got here.0 mine.roots here.2)
+      (roots_then world.block (λ index. world.memory (Root seat index)) world.graph.root (seat + 1) dst got here.0 mine.roots here.2)
       here.2)
 
   -- The load of the reference that a Set is about to overwrite: the mutator takes it in hand where that is to be recorded.

@@ -58,7 +58,7 @@ module _ (config : Config) (world : World) (seat made : ℕ) (kept : Kept) (comm
     else_stays a k piece is other below =
         cond-false ((address + done) == (a + k)) _ _
         (ne_eqb (address + done) (a + k)
-        (λ e. far config (λ r. world.memory (Top r)) world.block shared.parsable.plotted a address k done piece (hand seat (3 + refs + nums)) is mine.facts.1.room other below mine.facts.2 (sym e)))
+        (λ e. far config (λ region. world.memory (Top region)) world.block shared.parsable.plotted a address k done piece (hand seat (3 + refs + nums)) is mine.facts.1.room other below mine.facts.2 (sym e)))
 
     -- a piece that is not the room stands elsewhere
     not_room : (a : ℕ) (piece : Block) → world.block a ≡ Some piece → (hand seat (3 + refs + nums) ≡ piece → ⊥) → a ≢ address
@@ -66,17 +66,17 @@ module _ (config : Config) (world : World) (seat made : ℕ) (kept : Kept) (comm
 
     -- its first word stays
     head_stays : (address : ℕ) (piece : Block) → world.block address ≡ Some piece → (hand seat (3 + refs + nums) ≡ piece → ⊥) → 0 < words_of piece → stored_world.memory (Heap address) ≡ world.memory (Heap address)
-    head_stays address piece is differs some =
+    head_stays address piece is differs positive =
         let header : address + 0 ≡ address = omega arith in
-        ap (λ x. stored_world.memory (Heap x)) (sym header) ∙ else_stays address 0 piece is (not_room address piece is differs) some ∙ ap (λ x. world.memory (Heap x)) header
+        ap (λ address. stored_world.memory (Heap address)) (sym header) ∙ else_stays address 0 piece is (not_room address piece is differs) positive ∙ ap (λ address. world.memory (Heap address)) header
 
     -- the references of objects stay
     fields_stay : (address more_refs more_nums k : ℕ) (name : Name) → world.block address ≡ Some (thing name more_refs more_nums) → k < more_refs → stored_world.memory (Heap (address + 3 + k)) ≡ world.memory (Heap (address + 3 + k))
     fields_stay address more_refs more_nums k name is below =
         let there : address + (3 + k) ≡ address + 3 + k = omega arith in
-        ap (λ b. stored_world.memory (Heap b)) (sym there)
+        ap (λ address. stored_world.memory (Heap address)) (sym there)
         ∙ else_stays address (3 + k) (thing name more_refs more_nums) is (not_room address (thing name more_refs more_nums) is (λ differ. cc)) (omega (arith, below))
-        ∙ ap (λ b. world.memory (Heap b)) there
+        ∙ ap (λ address. world.memory (Heap address)) there
 
     -- machines share what they shared
     shared_stored : Shared config stored_world
@@ -88,39 +88,39 @@ module _ (config : Config) (world : World) (seat made : ℕ) (kept : Kept) (comm
               let o = shared.contents.objects.each a more_refs more_nums n is in
               let other : a ≢ address = not_room a (thing n more_refs more_nums) is (λ differ. cc) in
               let kept = λ (k : ℕ) (below : k < 3 + more_refs + more_nums). else_stays a k (thing n more_refs more_nums) is other below in
-              (o.0, o.1, object_reads (λ b. world.memory (Heap b)) (λ b. stored_world.memory (Heap b)) world.block world.block a more_refs more_nums n o.0 kept (λ b m e. e) o.2);
+              (o.0, o.1, object_reads (λ address. world.memory (Heap address)) (λ address. stored_world.memory (Heap address)) world.block world.block a more_refs more_nums n o.0 kept (λ b m e. e) o.2);
           once = shared.contents.objects.once;
         };
         given = shared.contents.given;
       };
       owned = shared.owned;
       phased = shared.phased;
-      unwritten = unwritten_stays (λ a. world.memory (Heap a)) (λ a. stored_world.memory (Heap a)) world.block world.block
+      unwritten = unwritten_stays (λ address. world.memory (Heap address)) (λ address. stored_world.memory (Heap address)) world.block world.block
           (λ a seat_then words is. (is, λ k below. else_stays a k (promised seat_then words) is (not_room a (promised seat_then words) is (λ differ. cc)) below))
-          (λ a words is. (
+          (λ address words is. (
             is,
-            head_stays a (dead words) is (λ differ. cc) (let long = shared.parsable.deads a words is in omega (arith, long)),
-            else_stays a 1 (dead words) is (not_room a (dead words) is (λ differ. cc)) (let long = shared.parsable.deads a words is in omega (arith, long)),
+            head_stays address (dead words) is (λ differ. cc) (let long = shared.parsable.deads address words is in omega (arith, long)),
+            else_stays address 1 (dead words) is (not_room address (dead words) is (λ differ. cc)) (let long = shared.parsable.deads address words is in omega (arith, long)),
           ))
-          (λ a words is. (is, head_stays a (filler words) is (λ differ. cc) (let some = shared.parsable.fillers a words is in omega (arith, some))))
+          (λ address words is. (is, head_stays address (filler words) is (λ differ. cc) (let some = shared.parsable.fillers address words is in omega (arith, some))))
           shared.unwritten;
-      marked = marked_elsewhere config (world.memory Phase) (λ n. world.memory (Grey n)) (λ n. world.memory (Black n)) (λ t. world.memory (Count t)) (λ t k. world.memory (Buffer t k)) (λ r. world.memory (Top r)) (λ r. world.memory (Tams r))
-          (λ a. world.memory (Heap a)) world.block world.ghost.snapshot world.ghost.recording world.ghost.scanning shared.marked (λ a. stored_world.memory (Heap a))
+      marked = marked_elsewhere config (world.memory Phase) (λ number. world.memory (Grey number)) (λ number. world.memory (Black number)) (λ mutator. world.memory (Count mutator)) (λ mutator entry. world.memory (Buffer mutator entry)) (λ region. world.memory (Top region)) (λ region. world.memory (Tams region))
+          (λ address. world.memory (Heap address)) world.block world.ghost.snapshot world.ghost.recording world.ghost.scanning shared.marked (λ address. stored_world.memory (Heap address))
           fields_stay;
-      evacuated = evacuated_words config (world.memory Phase) (world.memory Cset) (world.memory Evac) (world.memory Claim) (world.memory Free) (λ r. world.memory (Top r)) (λ r. world.memory (Tams r)) (λ a. world.memory (Heap a)) (λ n. world.memory (Black n))
-          world.block world.ghost.owner world.ghost.copying world.ghost.working shared.evacuated (λ a. stored_world.memory (Heap a))
-          (λ a more_refs more_nums to n is. (
-            head_stays a (moved n more_refs more_nums to) is (λ differ. cc) (omega arith),
-            else_stays a 1 (moved n more_refs more_nums to) is (not_room a (moved n more_refs more_nums to) is (λ differ. cc)) (omega arith),
-            else_stays a 2 (moved n more_refs more_nums to) is (not_room a (moved n more_refs more_nums to) is (λ differ. cc)) (omega arith),
-            λ k less. subst (λ b. stored_world.memory (Heap b) ≡ world.memory (Heap b)) (let there : a + (3 + k) ≡ a + 3 + k = omega arith in there)
-                (else_stays a (3 + k) (moved n more_refs more_nums to) is (not_room a (moved n more_refs more_nums to) is (λ differ. cc)) (omega (arith, less))),
+      evacuated = evacuated_words config (world.memory Phase) (world.memory Cset) (world.memory Evac) (world.memory Claim) (world.memory Free) (λ region. world.memory (Top region)) (λ region. world.memory (Tams region)) (λ address. world.memory (Heap address)) (λ number. world.memory (Black number))
+          world.block world.ghost.owner world.ghost.copying world.ghost.working shared.evacuated (λ address. stored_world.memory (Heap address))
+          (λ address more_refs more_nums to name is. (
+            head_stays address (moved name more_refs more_nums to) is (λ differ. cc) (omega arith),
+            else_stays address 1 (moved name more_refs more_nums to) is (not_room address (moved name more_refs more_nums to) is (λ differ. cc)) (omega arith),
+            else_stays address 2 (moved name more_refs more_nums to) is (not_room address (moved name more_refs more_nums to) is (λ differ. cc)) (omega arith),
+            λ k less. subst (λ address. stored_world.memory (Heap address) ≡ world.memory (Heap address)) (let there : address + (3 + k) ≡ address + 3 + k = omega arith in there)
+                (else_stays address (3 + k) (moved name more_refs more_nums to) is (not_room address (moved name more_refs more_nums to) is (λ differ. cc)) (omega (arith, less))),
           ))
-          (λ a words to is. let long = shared.parsable.spents a words to is in (
-            head_stays a (spent words to) is (λ differ. cc) (omega (arith, long)),
-            else_stays a 1 (spent words to) is (not_room a (spent words to) is (λ differ. cc)) (omega (arith, long)),
+          (λ address words to is. let long = shared.parsable.spents address words to is in (
+            head_stays address (spent words to) is (λ differ. cc) (omega (arith, long)),
+            else_stays address 1 (spent words to) is (not_room address (spent words to) is (λ differ. cc)) (omega (arith, long)),
           ));
-      updated = λ on. updated_elsewhere config (world.memory Cset) (world.memory Claim) (λ r. world.memory (Top r)) (λ r. world.memory (Limit r)) (λ a. world.memory (Heap a)) world.block world.ghost.scanning (shared.updated on) (λ a. stored_world.memory (Heap a)) fields_stay;
+      updated = λ on. updated_elsewhere config (world.memory Cset) (world.memory Claim) (λ region. world.memory (Top region)) (λ region. world.memory (Limit region)) (λ address. world.memory (Heap address)) world.block world.ghost.scanning (shared.updated on) (λ address. stored_world.memory (Heap address)) fields_stay;
       pinned = shared.pinned;
     }
 
@@ -144,7 +144,7 @@ module _ (config : Config) (world : World) (seat made : ℕ) (kept : Kept) (comm
         → Mine config stored_world (at_spot (Making (if holds then make.StoreWord address (done + 1) else make.StoreRoot address))) command fixed
     mine_stored true more = record {
       seated = mine.seated;
-      ready = word_ready config seat made kept command fixed mine.facts.0 (λ r. world.memory (Top r)) world.block shared.parsable.plotted address mine.facts.1.room mine.seated.below (done + 1) (ltb-true _ _ more);
+      ready = word_ready config seat made kept command fixed mine.facts.0 (λ region. world.memory (Top region)) world.block shared.parsable.plotted address mine.facts.1.room mine.seated.below (done + 1) (ltb-true _ _ more);
       marking = mine.marking;
       copying = mine.copying;
       roots = mine.roots;
@@ -153,20 +153,20 @@ module _ (config : Config) (world : World) (seat made : ℕ) (kept : Kept) (comm
     }
     mine_stored false all = record {
       seated = mine.seated;
-      ready = fresh_ready config seat made kept command fixed mine.facts.0 (λ r. world.memory (Top r)) world.block shared.parsable.plotted address mine.facts.1.room mine.seated.below;
+      ready = fresh_ready config seat made kept command fixed mine.facts.0 (λ region. world.memory (Top region)) world.block shared.parsable.plotted address mine.facts.1.room mine.seated.below;
       marking = mine.marking;
       copying = mine.copying;
       roots = mine.roots;
       rooms = mine.rooms;
       facts = (
         mine.facts.0,
-        subst (λ n. IsFilling stored_world seat made refs nums address n) (let most = ltb-false _ _ all in let less = mine.facts.2 in omega (arith, most, less)) filling,
+        subst (λ done. IsFilling stored_world seat made refs nums address done) (let most = ltb-false _ _ all in let less = mine.facts.2 in omega (arith, most, less)) filling,
       );
     }
 
     -- the shapes of objects stay
     shape_stays : (address : ℕ) → IsMarkable world.block address → stored_world.memory (Heap (address + 1)) ≡ world.memory (Heap (address + 1))
-    shape_stays address (IsMarkable.object n more_refs more_nums is) = else_stays address 1 (thing n more_refs more_nums) is (not_room address (thing n more_refs more_nums) is (λ differ. cc)) (omega arith)
+    shape_stays address (IsMarkable.object name more_refs more_nums is) = else_stays address 1 (thing name more_refs more_nums) is (not_room address (thing name more_refs more_nums) is (λ differ. cc)) (omega arith)
     shape_stays address (IsMarkable.to_come other words is) =
         else_stays address 1 (promised other words) is (not_room address (promised other words) is (λ differ. cc)) (let long = shared.parsable.promises address other words is in omega (arith, long))
 
@@ -178,22 +178,22 @@ module _ (config : Config) (world : World) (seat made : ℕ) (kept : Kept) (comm
     others_stored : (j : ℕ) → j ≢ seat → Rely config j world stored_world
     others_stored j differs = record {
       names = λ a n is. is;
-      targets = λ a more_refs more_nums n has. record { piece = has.piece; safe = has.safe };
+      targets = λ address more_refs more_nums name has. record { piece = has.piece; safe = has.safe };
       rooms = λ a x is room. is;
       no_rooms = λ a x is room. is;
-      room_words = λ a k x is room below. else_stays a k x is (not_room a x is (λ same. differs (sym (same_Some seat j (ap room_of same ∙ room))))) below;
+      room_words = λ a k piece is room below. else_stays a k piece is (not_room a piece is (λ same. differs (sym (same_Some seat j (ap room_of same ∙ room))))) below;
       promises = λ a words is. is;
-      no_promises = λ a words is. is;
+      no_promises = λ address words is. is;
       promise_words = λ a words k is below.
           let other : a ≢ address = not_room a (promised j words) is (λ differ. cc) in
           else_stays a k (promised j words) is other below;
       current = refl;
       opens = λ r is. is;
-      owners = λ r is. is;
+      owners = λ region is. is;
       tops = λ r is. refl;
       root_words = λ i. refl;
       roots = λ i. refl;
-      pin_words = λ i. refl;
+      pin_words = λ index. refl;
       pins = λ i. refl;
       count = refl;
       wait = refl;
@@ -205,7 +205,7 @@ module _ (config : Config) (world : World) (seat made : ℕ) (kept : Kept) (comm
           (λ a k b seated copies inside is from below.
           let piece = body_piece (world.block a) b is in
           else_stays a k piece.0 piece.1 (not_room a piece.0 piece.1 (λ same. not_body a b piece.0 is piece.1 same)) (let long = piece.2 in omega (arith, below, long)));
-      fields = fields_stored config world stored_world (λ r. refl) (λ r. refl) refl (λ a words is. is) (λ a words is. is) (λ on a more_refs more_nums k n is below. inl (fields_stay a more_refs more_nums k n is below));
+      fields = fields_stored config world stored_world (λ r. refl) (λ r. refl) refl (λ a words is. is) (λ a words is. is) (λ on address more_refs more_nums k name is below. inl (fields_stay address more_refs more_nums k name is below));
     }
 
   -- the step that stores a word of a new object

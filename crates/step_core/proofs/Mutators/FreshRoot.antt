@@ -18,7 +18,7 @@ use Rattle.mutator.specs.Commands.{dst_of, refs_of, nums_of}
 use Rattle.mutator.specs.WaitRows.{next_name}
 use Rattle.heap_world.specs.World.{World, Block, thing, moved, promised, dead, filler, spare, carved, words_of, room_of, name_at, Points, IsCollected, TargetIn, UsableIn, IsThing, IsGiven, IsYoung, Shared}
 use Rattle.heap_world.specs.Rely.{Rely}
-use Rattle.heap_world.proofs.Updates.{updated, updated_there, updated_else}
+use Rattle.heap_world.proofs.FunctionUpdates.{updated, updated_there, updated_else}
 use Rattle.heap_world.proofs.Keeping.{points_stay, usable_stays}
 use Rattle.heap_world.proofs.Pins.{pins_stay}
 use Rattle.regions.specs.Marks.{HasMark}
@@ -53,7 +53,7 @@ pub record HasNew (config : Config) (world : World) (seat made : ℕ) (command o
   pub own : IsOwn seat piece
   pub known : world.memory Phase ≡ 1 → (world.ghost.snapshot.starts address ≡ true) ⊎ IsYoung config world.ghost.snapshot.top address
   pub outside : IsCollected config (world.memory Cset) address → ⊥
-  pub kept : 2 ≤ world.memory Phase → HasMark config (λ n. world.memory (Black n)) address ⊎ IsYoung config (λ r. world.memory (Tams r)) address
+  pub kept : 2 ≤ world.memory Phase → HasMark config (λ number. world.memory (Black number)) address ⊎ IsYoung config (λ region. world.memory (Tams region)) address
   pub stored : (i : ℕ) → i < 3 + refs_of other_command + nums_of other_command → world.memory (Heap (address + i)) ≡ fresh_word seat made (refs_of other_command) (nums_of other_command) i
   pub shared : Shared config world
 
@@ -84,11 +84,11 @@ module _ {c : Config} {u : World} {seat made : ℕ} {command k : Command} {fixed
   made_reply = reply.Ref (next_name seat made)
 
   -- what a word stands for it still stands for
-  names : (a : ℕ) (n : Name) → name_at (u.block a) ≡ Some n → name_at (made_world.block a) ≡ Some n
+  names : (address : ℕ) (name : Name) → name_at (u.block address) ≡ Some name → name_at (made_world.block address) ≡ Some name
   names = names_stay c top u.block address refs nums name has.piece has.unnamed has.long has.here
 
   -- each object stands where it stood
-  targets : (a more_refs more_nums : ℕ) (n : Name) → TargetIn c u a more_refs more_nums n → TargetIn c made_world a more_refs more_nums n
+  targets : (address more_refs more_nums : ℕ) (name : Name) → TargetIn c u address more_refs more_nums name → TargetIn c made_world address more_refs more_nums name
   targets a more_refs more_nums n there =
       record { piece = things_stay c top u.block address refs nums name has.piece has.unnamed has.long has.here a more_refs more_nums n there.piece; safe = there.safe }
 
@@ -101,10 +101,10 @@ module _ {c : Config} {u : World} {seat made : ℕ} {command k : Command} {fixed
   not_given object is = let given = has.shared.contents.given name object is in let most = given.by_thread (omega arith) in omega (arith, most)
 
   -- its words are those of a blank object
-  new_is : IsThing (λ a. u.memory (Heap a)) made_world.block address refs nums name (blank refs nums)
+  new_is : IsThing (λ address. u.memory (Heap address)) made_world.block address refs nums name (blank refs nums)
   new_is =
-      subst (λ n. IsThing (λ a. u.memory (Heap a)) made_world.block address refs nums n (blank refs nums)) (sym name_is)
-      (new_object (λ a. u.memory (Heap a)) made_world.block address seat made refs nums has.making.few_refs has.making.few_nums has.stored)
+      subst (λ n. IsThing (λ address. u.memory (Heap address)) made_world.block address refs nums n (blank refs nums)) (sym name_is)
+      (new_object (λ address. u.memory (Heap address)) made_world.block address seat made refs nums has.making.few_refs has.making.few_nums has.stored)
 
   -- its name is given then
   is_given : IsGiven c (with_count u.graph.count (seat + 1)) name
@@ -117,25 +117,25 @@ module _ {c : Config} {u : World} {seat made : ℕ} {command k : Command} {fixed
 
   -- its references are null
   nulls : (i : ℕ) → i < refs → u.memory (Heap (address + 3 + i)) ≡ 0
-  nulls i below = ap (λ a. u.memory (Heap a)) (omega arith) ∙ has.stored (3 + i) (omega (arith, below)) ∙ grind (arith, nat_tests)
+  nulls i below = ap (λ address. u.memory (Heap address)) (omega arith) ∙ has.stored (3 + i) (omega (arith, below)) ∙ grind (arith, nat_tests)
 
   -- machines share what they should
   pub shared_made : Shared c made_world
   shared_made = record {
     parsable = parsable_again c top u.block address refs nums name has.piece has.unnamed has.long has.here has.shared.parsable;
     contents = record {
-      objects = objects_again c top u.block address refs nums name has.piece has.unnamed has.long has.here (λ a. u.memory (Heap a)) u.graph.object has.shared.contents.objects not_given (blank refs nums) new_is;
+      objects = objects_again c top u.block address refs nums name has.piece has.unnamed has.long has.here (λ address. u.memory (Heap address)) u.graph.object has.shared.contents.objects not_given (blank refs nums) new_is;
       given = given_again c u.graph.count u.graph.object name (blank refs nums) has.shared.contents.given is_given;
     };
-    owned = owned_again c top u.block address refs nums name has.piece has.unnamed has.long has.here (u.memory Share) (u.memory Free) (u.memory Cset) (λ s. u.memory (Current s)) u.ghost.owner has.own.no_spare has.own.no_carved has.shared.owned;
+    owned = owned_again c top u.block address refs nums name has.piece has.unnamed has.long has.here (u.memory Share) (u.memory Free) (u.memory Cset) (λ seat. u.memory (Current seat)) u.ghost.owner has.own.no_spare has.own.no_carved has.shared.owned;
     phased = has.shared.phased;
-    unwritten = unwritten_again c top u.block address refs nums name has.piece has.unnamed has.long has.here (λ a. u.memory (Heap a)) has.shared.unwritten;
-    marked = marking_again c top u.block address refs nums name has.piece has.unnamed has.long has.here (u.memory Phase) (λ n. u.memory (Grey n)) (λ n. u.memory (Black n)) (λ t. u.memory (Count t)) (λ t i. u.memory (Buffer t i))
-        (λ r. u.memory (Tams r)) (λ a. u.memory (Heap a)) u.ghost.snapshot u.ghost.recording u.ghost.scanning has.known has.shared.marked;
-    evacuated = evacuating_again c top u.block address refs nums name has.piece has.unnamed has.long has.here (u.memory Phase) (u.memory Cset) (u.memory Evac) (u.memory Claim) (u.memory Free) (λ r. u.memory (Tams r))
-        (λ a. u.memory (Heap a)) (λ n. u.memory (Black n)) u.ghost.owner u.ghost.copying u.ghost.working has.outside has.kept has.shared.evacuated;
-    updated = λ on. updating_again c top u.block address refs nums name has.piece has.unnamed has.long has.here (u.memory Cset) (u.memory Claim) (λ r. u.memory (Limit r)) (λ a. u.memory (Heap a)) u.ghost.scanning has.outside nulls (has.shared.updated on);
-    pinned = pins_stay c (u.memory Cset) (u.memory Evac) (u.memory Cset) (u.memory Evac) u.block made_world.block (λ t i. u.memory (Pin t i)) u.graph.pin targets has.shared.pinned;
+    unwritten = unwritten_again c top u.block address refs nums name has.piece has.unnamed has.long has.here (λ address. u.memory (Heap address)) has.shared.unwritten;
+    marked = marking_again c top u.block address refs nums name has.piece has.unnamed has.long has.here (u.memory Phase) (λ number. u.memory (Grey number)) (λ number. u.memory (Black number)) (λ mutator. u.memory (Count mutator)) (λ mutator entry. u.memory (Buffer mutator entry))
+        (λ region. u.memory (Tams region)) (λ address. u.memory (Heap address)) u.ghost.snapshot u.ghost.recording u.ghost.scanning has.known has.shared.marked;
+    evacuated = evacuating_again c top u.block address refs nums name has.piece has.unnamed has.long has.here (u.memory Phase) (u.memory Cset) (u.memory Evac) (u.memory Claim) (u.memory Free) (λ region. u.memory (Tams region))
+        (λ address. u.memory (Heap address)) (λ number. u.memory (Black number)) u.ghost.owner u.ghost.copying u.ghost.working has.outside has.kept has.shared.evacuated;
+    updated = λ on. updating_again c top u.block address refs nums name has.piece has.unnamed has.long has.here (u.memory Cset) (u.memory Claim) (λ region. u.memory (Limit region)) (λ address. u.memory (Heap address)) u.ghost.scanning has.outside nulls (has.shared.updated on);
+    pinned = pins_stay c (u.memory Cset) (u.memory Evac) (u.memory Cset) (u.memory Evac) u.block made_world.block (λ mutator slot. u.memory (Pin mutator slot)) u.graph.pin targets has.shared.pinned;
   }
 
   -- room was there before, elsewhere
@@ -197,8 +197,8 @@ module _ {c : Config} {u : World} {seat made : ℕ} {command k : Command} {fixed
     cset = refl;
     evac = refl;
     things = things_stay c top u.block address refs nums name has.piece has.unnamed has.long has.here;
-    moveds = λ a more_refs more_nums to n is. stays c top u.block address refs nums name has.piece has.unnamed has.long has.here a (moved n more_refs more_nums to) is
-        (λ same. none-some n (sym has.unnamed ∙ ap (λ b. name_at (Some b)) same));
+    moveds = λ a more_refs more_nums to other_name is. stays c top u.block address refs nums name has.piece has.unnamed has.long has.here a (moved other_name more_refs more_nums to) is
+        (λ same. none-some other_name (sym has.unnamed ∙ ap (λ b. name_at (Some b)) same));
     spents = λ a words to is. updated_else u.block address (Some (thing name refs nums)) a (λ e. not_here a (has.shared.evacuated.moved.spents a words to is).inside (sym e)) ∙ is;
     pieces = λ a x inside is. (x, updated_else u.block address (Some (thing name refs nums)) a (λ e. not_here a inside (sym e)) ∙ is, refl, refl);
     no_new = λ a more_refs more_nums n inside is. sym (updated_else u.block address (Some (thing name refs nums)) a (λ e. not_here a inside (sym e))) ∙ is;
@@ -214,15 +214,15 @@ module _ {c : Config} {u : World} {seat made : ℕ} {command k : Command} {fixed
     no_rooms = λ a x is room. (room_before a j x is room).1;
     room_words = λ a i x is room below. refl;
     promises = λ a words is. stays c top u.block address refs nums name has.piece has.unnamed has.long has.here a (promised j words) is (has.own.no_promise j words differs);
-    no_promises = λ a words is. (promise_before a j words is).1;
-    promise_words = λ a words i is below. refl;
+    no_promises = λ address words is. (promise_before address j words is).1;
+    promise_words = λ address words i is below. refl;
     current = refl;
     opens = λ r is. is;
-    owners = λ r is. is;
+    owners = λ region is. is;
     tops = λ r is. refl;
     root_words = λ i. cond-false ((seat == j) && (dst_of k == i)) _ _ (and_left _ _ (ne_eqb seat j (λ e. differs (sym e))));
     roots = λ i. cond-false (((j + 1) == (seat + 1)) && (i == dst_of k)) _ _ (and_left _ _ (ne_eqb (j + 1) (seat + 1) (λ e. differs (omega (arith, e)))));
-    pin_words = λ i. refl;
+    pin_words = λ index. refl;
     pins = λ i. refl;
     count = cond-false ((j + 1) == (seat + 1)) _ _ (ne_eqb (j + 1) (seat + 1) (λ e. differs (omega (arith, e))));
     wait = refl;

@@ -19,50 +19,50 @@ use Rattle.step_core.proofs.Mutators.WhileMarking.{marks_in, copies_in, fields_i
 use Rattle.step_core.proofs.History.Settling.{legal_answer, graph_answer}
 
 -- a step that loads a word and settles nothing
-pub looks : (config : Config) (world : World) (mutator : Mutating) (at : Word) (command : Command) (fixed : Option Reply)
-    → touch_of config mutator Nothing ≡ touch at loads → told_of world.memory mutator ≡ None → given_at mutator.spot ≡ None
-    → Shared config world → Mine config world (next_of config mutator Nothing (world.memory at)) command fixed → Stepped config world mutator command Nothing fixed
-looks config world mutator at command fixed loaded told given shared mine = record {
+pub looks : (config : Config) (world : World) (mutator : Mutating) (word : Word) (command : Command) (fixed : Option Reply)
+    → touch_of config mutator Nothing ≡ touch word loads → told_of world.memory mutator ≡ None → given_at mutator.spot ≡ None
+    → Shared config world → Mine config world (next_of config mutator Nothing (world.memory word)) command fixed → Stepped config world mutator command Nothing fixed
+looks config world mutator word command fixed loaded told given shared mine = record {
   world = world;
-  memory = rw loaded (load_keeps world.memory at);
+  memory = rw loaded (load_keeps world.memory word);
   graph = rw told refl;
   legal = rw told tt;
   settles = λ r e. absurd (cc);
   shared = shared;
   mine = rw (loaded, told, given) mine;
-  others = λ j d. rely_same config j world;
+  others = λ seat d. rely_same config seat world;
 }
 
 -- a step that loads a word and settles a reply which leaves the graph as it is
-pub replies : (config : Config) (world : World) (mutator : Mutating) (at : Word) (command : Command) (fixed : Option Reply) (reply : Reply)
-    → touch_of config mutator Nothing ≡ touch at loads → told_of world.memory mutator ≡ Some reply → given_at mutator.spot ≡ None → fixed ≡ None
+pub replies : (config : Config) (world : World) (mutator : Mutating) (word : Word) (command : Command) (fixed : Option Reply) (reply : Reply)
+    → touch_of config mutator Nothing ≡ touch word loads → told_of world.memory mutator ≡ Some reply → given_at mutator.spot ≡ None → fixed ≡ None
     → is_full reply ≡ false → pinned_by world.graph (mutator.seat + 1) command ≡ None → outcome world.graph (mutator.seat + 1) command ≡ answers reply world.graph
-    → Shared config world → Mine config world (next_of config mutator Nothing (world.memory at)) command (Some reply) → Stepped config world mutator command Nothing fixed
-replies config world mutator at command fixed reply loaded told given unsettled other none is shared mine = record {
+    → Shared config world → Mine config world (next_of config mutator Nothing (world.memory word)) command (Some reply) → Stepped config world mutator command Nothing fixed
+replies config world mutator word command fixed reply loaded told given unsettled other none is shared mine = record {
   world = world;
-  memory = rw loaded (load_keeps world.memory at);
+  memory = rw loaded (load_keeps world.memory word);
   graph = rw told (sym (graph_answer world.graph mutator.seat command reply other none ∙ ap (λ o. o.graph) is));
   legal = rw told (legal_answer config world.graph mutator.seat command reply other none (ap (λ o. o.reply) is));
   settles = λ q e. (unsettled, given);
   shared = shared;
   mine = rw (loaded, told) mine;
-  others = λ j d. rely_same config j world;
+  others = λ seat d. rely_same config seat world;
 }
 
 -- a step that loads a word and settles a reply which makes a root of the mutator another
-pub replies_root : (config : Config) (world : World) (mutator : Mutating) (at : Word) (command : Command) (fixed : Option Reply) (reply : Reply) (dst : ℕ) (reference : Reference)
-    → touch_of config mutator Nothing ≡ touch at loads → told_of world.memory mutator ≡ Some reply → given_at mutator.spot ≡ None → fixed ≡ None
+pub replies_root : (config : Config) (world : World) (mutator : Mutating) (word : Word) (command : Command) (fixed : Option Reply) (reply : Reply) (dst : ℕ) (reference : Reference)
+    → touch_of config mutator Nothing ≡ touch word loads → told_of world.memory mutator ≡ Some reply → given_at mutator.spot ≡ None → fixed ≡ None
     → is_full reply ≡ false → pinned_by world.graph (mutator.seat + 1) command ≡ None → outcome world.graph (mutator.seat + 1) command ≡ answers reply (with_root world.graph (mutator.seat + 1) dst reference)
     → Shared config world
-    → Mine config (record { memory = world.memory; block = world.block; ghost = world.ghost; graph = with_root world.graph (mutator.seat + 1) dst reference }) (next_of config mutator Nothing (world.memory at)) command (Some reply)
+    → Mine config (record { memory = world.memory; block = world.block; ghost = world.ghost; graph = with_root world.graph (mutator.seat + 1) dst reference }) (next_of config mutator Nothing (world.memory word)) command (Some reply)
     → Stepped config world mutator command Nothing fixed
-replies_root config world mutator at command fixed reply dst reference loaded told given unsettled other none is shared mine = record {
+replies_root config world mutator word command fixed reply dst reference loaded told given unsettled other none is shared mine = record {
   world = record { memory = world.memory; block = world.block; ghost = world.ghost; graph = with_root world.graph (mutator.seat + 1) dst reference };
-  memory = rw loaded (load_keeps world.memory at);
+  memory = rw loaded (load_keeps world.memory word);
   graph = rw told (sym (graph_answer world.graph mutator.seat command reply other none ∙ ap (λ o. o.graph) is));
   legal = rw told (legal_answer config world.graph mutator.seat command reply other none (ap (λ o. o.reply) is));
   settles = λ q e. (unsettled, given);
   shared = shared;
   mine = rw (loaded, told) mine;
-  others = λ j d. let marks = marks_in config world world.memory (with_root world.graph (mutator.seat + 1) dst reference) j refl (λ n. refl) (λ t. refl) (λ t k. refl) (λ a. refl) in let copies = copies_in config world world.memory (with_root world.graph (mutator.seat + 1) dst reference) j refl refl (λ reply. refl) (λ a. refl) in let kept_fields = fields_in config world world.memory (with_root world.graph (mutator.seat + 1) dst reference) (λ reply. refl) (λ reply. refl) refl (λ a. refl) in search (arith, nat_tests, marks, copies, kept_fields);
+  others = λ seat d. let marks = marks_in config world world.memory (with_root world.graph (mutator.seat + 1) dst reference) seat refl (λ n. refl) (λ t. refl) (λ t k. refl) (λ a. refl) in let copies = copies_in config world world.memory (with_root world.graph (mutator.seat + 1) dst reference) seat refl refl (λ reply. refl) (λ a. refl) in let kept_fields = fields_in config world world.memory (with_root world.graph (mutator.seat + 1) dst reference) (λ reply. refl) (λ reply. refl) refl (λ a. refl) in search (arith, nat_tests, marks, copies, kept_fields);
 }

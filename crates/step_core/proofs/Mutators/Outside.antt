@@ -1,7 +1,8 @@
 -- The steps of a mutator that is not in the heap: they settle nothing, and are of no word of the image but its own answer.
-use Rattle.std.proofs.Common.{◌≡◌, ℕ, ◌⊎◌, inl, inr, Bool, true, false, Option, None, refl, sym, ◌∙◌, arith}
-use Rattle.std.specs.Prelude.{◌==◌, if◌then◌else◌}
+use Rattle.std.proofs.Common.{◌≡◌, ℕ, ◌⊎◌, inl, inr, true, false, Option, None, refl, sym, ◌∙◌, arith}
+use Rattle.std.specs.Prelude.{◌==◌}
 use Rattle.std.proofs.lemmas.Bool.{eq-eqb, cond-true}
+use Rattle.heap_words.proofs.Bools.{if_either_way}
 use Rattle.heap_words.specs.declared.config.Config.{Config}
 use Rattle.heap_words.specs.Words.{Word, Answer, is_image}
 use Rattle.shen_graph.specs.declared.order.Order.{Order}
@@ -36,20 +37,15 @@ use Rattle.step_core.specs.Standing.{standing_at}
 use Rattle.step_core.proofs.Machines.Stepped.{Mine}
 use Rattle.step_core.proofs.Mutators.Spots.{mutator_at}
 
--- one of the same
-cond_same : (holds : Bool) (n : ℕ) → (if holds then n else n) ≡ n
-cond_same true n = refl
-cond_same false n = refl
-
 -- its access is of no word of the image, or it looks for its answer
 pub outside_touch : (config : Config) (seat made : ℕ) (kept : Kept) (order : Order) (spot : Spot) → is_within (standing_at spot) ≡ false → takes_at spot made order ≡ true
     → (is_image (touch_at config seat made kept order spot).word ≡ false) ⊎ (spot ≡ Waiting wait.Poll)
 outside_touch config seat made kept Nothing Rest out takes = cc
-outside_touch config seat made kept (Begin k) Rest out takes = inl refl
+outside_touch config seat made kept (Begin command) Rest out takes = inl refl
 outside_touch config seat made kept End Rest out takes = inl refl
 outside_touch config seat made kept (Hint address) Rest out takes = cc
 outside_touch config seat made kept Nothing (Ended reply) out takes = cc
-outside_touch config seat made kept (Begin k) (Ended reply) out takes = inl refl
+outside_touch config seat made kept (Begin command) (Ended reply) out takes = inl refl
 outside_touch config seat made kept End (Ended reply) out takes = inl refl
 outside_touch config seat made kept (Hint address) (Ended reply) out takes = cc
 outside_touch config seat made kept order (Entering enter.Raise then_on) out takes = inl refl
@@ -71,7 +67,7 @@ outside_touch config seat made kept order _ out takes = cc
 pub outside_told : (memory : Word → ℕ) (seat made : ℕ) (kept : Kept) (spot : Spot) → is_within (standing_at spot) ≡ false → told_at memory seat made kept spot ≡ None
 outside_told memory seat made kept Rest out = refl
 outside_told memory seat made kept (Ended reply) out = refl
-outside_told memory seat made kept (Entering at then_on) out = refl
+outside_told memory seat made kept (Entering spot then_on) out = refl
 outside_told memory seat made kept (Waiting wait.Poll) out = refl
 outside_told memory seat made kept (Waiting wait.StoreRequest) out = cc
 outside_told memory seat made kept (Waiting wait.AskRoom) out = cc
@@ -86,38 +82,38 @@ outside_told memory seat made kept _ out = cc
 pub outside_given : (spot : Spot) → is_within (standing_at spot) ≡ false → given_at spot ≡ None
 outside_given Rest out = refl
 outside_given (Ended reply) out = refl
-outside_given (Entering at then_on) out = refl
-outside_given (Waiting at) out = refl
+outside_given (Entering spot then_on) out = refl
+outside_given (Waiting spot) out = refl
 outside_given Gone out = refl
 outside_given _ out = cc
 
 -- no step of a resolving is of an answer
-copy_answer : (memory : Word → ℕ) (seat address copy end mutator : ℕ) (at : CopySpot) → touched memory (resolves.copy_touch seat address copy end at) (Answer mutator) ≡ memory (Answer mutator)
+copy_answer : (memory : Word → ℕ) (seat address copy end mutator : ℕ) (spot : CopySpot) → touched memory (resolves.copy_touch seat address copy end spot) (Answer mutator) ≡ memory (Answer mutator)
 copy_answer memory seat address copy end mutator (copying.LoadWord words index) = refl
 copy_answer memory seat address copy end mutator (copying.StoreWord words index found) = refl
 copy_answer memory seat address copy end mutator copying.StoreHeader = refl
 copy_answer memory seat address copy end mutator copying.Publish = refl
 copy_answer memory seat address copy end mutator (copying.GiveBack answer) = refl
 
-resolve_answer : (config : Config) (memory : Word → ℕ) (seat address mutator : ℕ) (at : ResolveSpot) → touched memory (resolves.touch_at config seat address at) (Answer mutator) ≡ memory (Answer mutator)
+resolve_answer : (config : Config) (memory : Word → ℕ) (seat address mutator : ℕ) (spot : ResolveSpot) → touched memory (resolves.touch_at config seat address spot) (Answer mutator) ≡ memory (Answer mutator)
 resolve_answer config memory seat address mutator resolve.LoadHeader = refl
-resolve_answer config memory seat address mutator (resolve.Entering at) = refl
+resolve_answer config memory seat address mutator (resolve.Entering spot) = refl
 resolve_answer config memory seat address mutator resolve.LoadShape = refl
-resolve_answer config memory seat address mutator (resolve.Taking words at) = others_stay seat words memory at (Answer mutator) refl
-resolve_answer config memory seat address mutator (resolve.Copying copy end at) = copy_answer memory seat address copy end mutator at
+resolve_answer config memory seat address mutator (resolve.Taking words spot) = others_stay seat words memory spot (Answer mutator) refl
+resolve_answer config memory seat address mutator (resolve.Copying copy end spot) = copy_answer memory seat address copy end mutator spot
 resolve_answer config memory seat address mutator (resolve.Leaving answer) = refl
-resolve_answer config memory seat address mutator (resolve.Stopping at) = refl
+resolve_answer config memory seat address mutator (resolve.Stopping spot) = refl
 resolve_answer config memory seat address mutator resolve.LoadAgain = refl
 resolve_answer config memory seat address mutator (resolve.Resolved answer) = refl
 
 -- a step of a mutator never writes into its answer that the heap is full
 pub answer_before : (config : Config) (memory : Word → ℕ) (seat made : ℕ) (kept : Kept) (order : Order) (spot : Spot) → touched memory (touch_at config seat made kept order spot) (Answer seat) ≡ 1 → memory (Answer seat) ≡ 1
 answer_before config memory seat made kept Nothing Rest now = now
-answer_before config memory seat made kept (Begin k) Rest now = now
+answer_before config memory seat made kept (Begin command) Rest now = now
 answer_before config memory seat made kept End Rest now = now
 answer_before config memory seat made kept (Hint address) Rest now = now
 answer_before config memory seat made kept Nothing (Ended reply) now = now
-answer_before config memory seat made kept (Begin k) (Ended reply) now = now
+answer_before config memory seat made kept (Begin command) (Ended reply) now = now
 answer_before config memory seat made kept End (Ended reply) now = now
 answer_before config memory seat made kept (Hint address) (Ended reply) now = now
 answer_before config memory seat made kept order (Entering enter.Raise then_on) now = now
@@ -154,11 +150,11 @@ answer_before config memory seat made kept order (Making (make.StoreRoot address
 answer_before config memory seat made kept order (Waiting wait.StoreRequest) now = now
 answer_before config memory seat made kept order (Waiting wait.AskRoom) now = now
 answer_before config memory seat made kept order (Waiting wait.StepOut) now = now
-answer_before config memory seat made kept order (Waiting wait.Poll) now = sym (cond_same (seat == seat) (memory (Answer seat))) ∙ now
-answer_before config memory seat made kept order (Waiting wait.LoadAnswer) now = sym (cond_same (seat == seat) (memory (Answer seat))) ∙ now
+answer_before config memory seat made kept order (Waiting wait.Poll) now = sym (if_either_way (seat == seat) (memory (Answer seat))) ∙ now
+answer_before config memory seat made kept order (Waiting wait.LoadAnswer) now = sym (if_either_way (seat == seat) (memory (Answer seat))) ∙ now
 answer_before config memory seat made kept order (Waiting (wait.StoreRoot address)) now = now
 answer_before config memory seat made kept order (Waiting (wait.ClearAnswer reply)) now = absurd (let cleared = cond-true (seat == seat) 0 (memory (Answer seat)) (eq-eqb seat seat refl) in omega (arith, now, cleared))
-answer_before config memory seat made kept order (Resolving address at next) now = sym (resolve_answer config memory seat address seat at) ∙ now
+answer_before config memory seat made kept order (Resolving address spot next) now = sym (resolve_answer config memory seat address seat spot) ∙ now
 answer_before config memory seat made kept order _ now = now
 
 -- who is refused settles and gives nothing until it has cleared its answer
@@ -171,5 +167,5 @@ refused_quiet config world seat made kept command fixed (Waiting wait.Poll) full
 refused_quiet config world seat made kept command fixed (Waiting wait.LoadAnswer) full mine = (refl, refl)
 refused_quiet config world seat made kept command fixed (Waiting (wait.StoreRoot address)) full mine = absurd (let more = mine.facts.0.1.1 in omega (arith, full, more))
 refused_quiet config world seat made kept command fixed (Waiting (wait.ClearAnswer reply)) full mine = (refl, refl)
-refused_quiet config world seat made kept command fixed (Entering at then_on) full mine = (refl, refl)
+refused_quiet config world seat made kept command fixed (Entering spot then_on) full mine = (refl, refl)
 refused_quiet config world seat made kept command fixed _ full mine = absurd (let none = (mine.seated.unasked refl).1 in omega (arith, full, none))

@@ -36,11 +36,11 @@ use Rattle.alloc_buffers.specs.Facts.{OnlySpares}
 
 -- the address of an object is small
 markable_small : (config : Config) (world : World) (address : ℕ) → Shared config world → IsMarkable world.block address → address < 2 ^ 32
-markable_small config world address shared (IsMarkable.object name refs nums is) = piece_small config (λ r. world.memory (Top r)) world.block shared.parsable.plotted address (thing name refs nums) is
-markable_small config world address shared (IsMarkable.to_come seat words is) = piece_small config (λ r. world.memory (Top r)) world.block shared.parsable.plotted address (promised seat words) is
+markable_small config world address shared (IsMarkable.object name refs nums is) = piece_small config (λ region. world.memory (Top region)) world.block shared.parsable.plotted address (thing name refs nums) is
+markable_small config world address shared (IsMarkable.to_come seat words is) = piece_small config (λ region. world.memory (Top region)) world.block shared.parsable.plotted address (promised seat words) is
 
 -- the numbers of the accesses by which a mutator records an address are words
-remember_numbers : (config : Config) (world : World) (seat address : ℕ) (at : RememberSpot) → Shared config world → CanRecord config world seat address at → form_fits (satb.touch_at config seat address at).form ≡ true
+remember_numbers : (config : Config) (world : World) (seat address : ℕ) (spot : RememberSpot) → Shared config world → CanRecord config world seat address spot → form_fits (satb.touch_at config seat address spot).form ≡ true
 remember_numbers config world seat address LoadCount shared can = refl
 remember_numbers config world seat address (LoadEntry entry) shared can = refl
 remember_numbers config world seat address (MarkEntry entry found) shared can = lt-ltb _ _ (omega arith)
@@ -50,16 +50,16 @@ remember_numbers config world seat address (StoreCount entry) shared can = numbe
 remember_numbers config world seat address Recorded shared can = refl
 
 -- a recording that goes on has not ended
-still_records : (at : RememberSpot) → satb.is_ended at ≡ false → (if satb.is_ended at then false else true) ≡ true
-still_records at going = rw going refl
+still_records : (spot : RememberSpot) → satb.is_ended spot ≡ false → (if satb.is_ended spot then false else true) ≡ true
+still_records spot going = rw going refl
 
 -- the accesses can be made
-pub record_ready : (config : Config) (world : World) (seat made : ℕ) (kept : Kept) (at : RememberSpot) (address : ℕ) (next : Overwritten) → satb.is_ended at ≡ false → Shared config world → CanRecord config world seat address at
-    → is_ready config seat made kept (Recording at address next) ≡ true
-record_ready config world seat made kept at address next going shared can =
+pub record_ready : (config : Config) (world : World) (seat made : ℕ) (kept : Kept) (spot : RememberSpot) (address : ℕ) (next : Overwritten) → satb.is_ended spot ≡ false → Shared config world → CanRecord config world seat address spot
+    → is_ready config seat made kept (Recording spot address next) ≡ true
+record_ready config world seat made kept spot address next going shared can =
     and_from _ _
-    (and_from _ _ (is_word_from config (satb.touch_at config seat address at).word ((recording_steps.steps config seat address).stands world at tt can).inside) (remember_numbers config world seat address at shared can))
-    (and_from _ _ (still_records at going) (and_from _ _ can.words.ready (is_word_from config (Heap address) (markable_word config world address shared can.markable))))
+    (and_from _ _ (is_word_from config (satb.touch_at config seat address spot).word ((recording_steps.steps config seat address).stands world spot tt can).inside) (remember_numbers config world seat address spot shared can))
+    (and_from _ _ (still_records spot going) (and_from _ _ can.words.ready (is_word_from config (Heap address) (markable_word config world address shared can.markable))))
 
 -- what is recorded in a phase is not null, and the phase is 1
 pub recorded_some : (phase got : ℕ) → is_to_record phase got ≡ true → (phase ≡ 1) × (got ≢ 0)
@@ -82,7 +82,7 @@ pub overwrites_of : (config : Config) (world : World) (seat phase object field :
 overwrites_of config world seat phase object field reference below shared marking none stands = let got : ℕ = world.memory (Heap (object + 3 + field)) in ⊎_elim
     (λ (records : is_to_record phase got ≡ true).
     let some = recorded_some phase got records in
-    let named = named_if_not_0 config (λ r. world.memory (Top r)) world.block shared.parsable.plotted got reference stands some.1 in
+    let named = named_if_not_0 config (λ region. world.memory (Top region)) world.block shared.parsable.plotted got reference stands some.1 in
     let on : world.memory Phase ≡ 1 = sym (marking.phase_is refl) ∙ some.0 in
     let piece = named_thing (world.block got) named.0 (λ refs nums to is. unmoved config world shared (omega (arith, on)) got refs nums to named.0 is) named.2 in
     let held = recording_steps.begins config world seat got below on (IsMarkable.object named.0 piece.0 piece.1 piece.2) marking.records marking.scans (no_hand world seat none) shared in
@@ -104,12 +104,12 @@ stepped_in_hand config world mutator got command fixed held step = record {
   settles = step.settles;
   shared = step.shared;
   mine = step.mine;
-  others = λ j d. rely_twice config j world (with_in_hand world mutator.seat got) step.world held.own.phase (held.others j d) (step.others j d);
+  others = λ seat d. rely_twice config seat world (with_in_hand world mutator.seat got) step.world held.own.phase (held.others seat d) (step.others seat d);
 }
 
 -- a mutator that can record an address still can after a store into an object
-pub can_stored : (config : Config) (world : World) (seat v at value : ℕ) (graph : Graph) → CanRecord config world seat v LoadCount → CanRecord config (stored world at value graph) seat v LoadCount
-can_stored config world seat v at value graph can = record {
+pub can_stored : (config : Config) (world : World) (seat recorded at value : ℕ) (graph : Graph) → CanRecord config world seat recorded LoadCount → CanRecord config (stored world at value graph) seat recorded LoadCount
+can_stored config world seat recorded at value graph can = record {
   seated = can.seated;
   phase = can.phase;
   markable = can.markable;

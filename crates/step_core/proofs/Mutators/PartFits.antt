@@ -24,7 +24,7 @@ use Rattle.handshake.specs.Standing.{is_within}
 use Rattle.step_core.specs.Standing.{standing_at}
 use Rattle.step_core.proofs.Machines.Stepped.{Mine}
 use Rattle.step_core.proofs.Machines.Naming.{field_in}
-use Rattle.step_core.proofs.Mutators.Resolves.{resolving_fits}
+use Rattle.step_core.proofs.Mutators.ResolvingInCommon.{resolving_fits}
 use Rattle.step_core.proofs.Mutators.Resolving.{going_now}
 use Rattle.step_core.proofs.Mutators.Spots.{mutator_at}
 
@@ -40,13 +40,13 @@ module _ (config : Config) (world : World) (shared : Shared config world) where
       of_object None is other = absurd (other is)
       of_object (Some name) is other =
           let piece = named_piece (world.block word) name is in
-          let long = some_words config (λ k. world.memory (Top k)) world.block shared.parsable shared.owned.rooms word piece.0 piece.1 in
-          ap (λ a. is_word config (Heap a)) (omega arith) ∙ piece_word config (λ k. world.memory (Top k)) world.block shared.parsable.plotted word 0 piece.0 piece.1 (omega (arith, long))
+          let long = some_words config (λ region. world.memory (Top region)) world.block shared.parsable shared.owned.rooms word piece.0 piece.1 in
+          ap (λ address. is_word config (Heap address)) (omega arith) ∙ piece_word config (λ region. world.memory (Top region)) world.block shared.parsable.plotted word 0 piece.0 piece.1 (omega (arith, long))
 
   module _ (seat made : ℕ) (kept : Kept) (command : Command) (fixed : Option Reply) where
     -- what is found in a field is one, where it is to be used
-    field_fits : (object : ℕ) (at : FieldSpot) → Mine config world (mutator_at seat made kept (OnField object at)) command fixed
-        → field_goes config at (world.memory (touch_of config (mutator_at seat made kept (OnField object at)) Nothing).word) ≡ true
+    field_fits : (object : ℕ) (spot : FieldSpot) → Mine config world (mutator_at seat made kept (OnField object spot)) command fixed
+        → field_goes config spot (world.memory (touch_of config (mutator_at seat made kept (OnField object spot)) Nothing).word) ≡ true
     field_fits object fields.Load mine = let get = mine.facts.1 in let here = field_in config world shared seat get.src object _ get.of get.below in reference_fits _ here.0 here.2
     field_fits object (fields.LoadExpected expect value) mine = let cas = mine.facts.1 in let here = field_in config world shared seat cas.obj object _ cas.of cas.below in reference_fits _ here.0 here.2
     field_fits object (fields.Swap value) mine = let swap = mine.facts.1 in let here = field_in config world shared seat swap.obj object _ swap.of swap.below in reference_fits _ here.0 here.2
@@ -56,15 +56,15 @@ module _ (config : Config) (world : World) (shared : Shared config world) where
 
     -- the word that a mutator finds is fit for its part
     pub part_fits : (spot : Spot) → Mine config world (mutator_at seat made kept spot) command fixed → PartFit config seat kept spot (world.memory (touch_of config (mutator_at seat made kept spot) Nothing).word)
-    part_fits (OnField object at) mine = field_fits object at mine
-    part_fits (Resolving address at next) mine =
-        resolving_fits config world seat address kept.phase at (going_now config world seat made kept command fixed at address next mine) shared (mine.marking.phase_is refl) mine.facts.0
+    part_fits (OnField object spot) mine = field_fits object spot mine
+    part_fits (Resolving address spot next) mine =
+        resolving_fits config world seat address kept.phase spot (going_now config world seat made kept command fixed spot address next mine) shared (mine.marking.phase_is refl) mine.facts.0
     part_fits _ mine = tt
 
 -- outside the heap each word is fit
 pub part_outside : (config : Config) (seat : ℕ) (kept : Kept) (spot : Spot) (got : ℕ) → is_within (standing_at spot) ≡ false → PartFit config seat kept spot got
-part_outside config seat kept (OnField object at) got out = absurd (cc (out))
-part_outside config seat kept (Resolving address at next) got out = absurd (cc (out))
+part_outside config seat kept (OnField object spot) got out = absurd (cc (out))
+part_outside config seat kept (Resolving address spot next) got out = absurd (cc (out))
 part_outside config seat kept _ got out = tt
 
 -- a mutator that is in the heap has a call in progress

@@ -4,6 +4,7 @@ use Rattle.std.specs.Prelude.{◌==◌, ◌&&◌, is_some, if◌then◌else◌}
 use Rattle.std.proofs.lemmas.Bool.{and_parts, cases_Bool, cond-true, cond-false, eqb-true, eqb-false, leb-true, ltb-true, true≢false}
 use Rattle.std.proofs.lemmas.Bool.Decides.{nat_tests}
 use Rattle.std.proofs.lemmas.Option.{none-some, same_Some}
+use Rattle.shen_graph.proofs.Bools.{true_from_not}
 use Rattle.heap_words.specs.declared.config.Config.{Config}
 use Rattle.heap_words.specs.Words.{Cset, Evac, Top, Pin as PinWord, write}
 use Rattle.heap_words.specs.Touch.{touched}
@@ -35,20 +36,16 @@ use Rattle.step_core.proofs.History.Settling.{legal_answer, graph_answer}
 -- no command pins an object where its slot is taken
 taken_either : (held : Option Pinned) (reference : Reference) → (held ≡ None → ⊥) → (if is_some held then None else reference) ≡ None
 taken_either None reference taken = absurd (taken refl)
-taken_either (Some p) reference taken = refl
+taken_either (Some pinned) reference taken = refl
 
 -- an Unpin empties a slot that is taken
 empties : (graph : Graph) (o : Outcome) (held : Option Pinned) → (held ≡ None → ⊥) → on held graph (λ p. o) ≡ o
 empties graph o None taken = absurd (taken refl)
-empties graph o (Some p) taken = refl
+empties graph o (Some pinned) taken = refl
 
 not_true : (holds : Bool) → not holds ≡ true → holds ≡ false
 not_true true is = absurd (true≢false (sym is))
 not_true false is = refl
-
-not_false : (holds : Bool) → not holds ≡ false → holds ≡ true
-not_false true is = refl
-not_false false is = absurd (true≢false is)
 
 -- a slot that holds something is one of a mutator
 pub record IsSlotAt (config : Config) (thread slot : ℕ) : Type 0 where
@@ -70,29 +67,29 @@ slot_at config graph no_more thread slot held is = ⊎_elim
 
 module _ (config : Config) (world : World) (shared : Shared config world) where
   -- the word of a slot that holds something is not 0
-  pub empty_slot : (mutator i : ℕ) → mutator < config.mutators → i < 4 → world.memory (PinWord mutator i) ≡ 0 → world.graph.pin (mutator + 1) i ≡ None
-  empty_slot mutator i below small null = by_held (world.graph.pin (mutator + 1) i) (shared.pinned mutator i below small)
+  pub empty_slot : (mutator slot : ℕ) → mutator < config.mutators → slot < 4 → world.memory (PinWord mutator slot) ≡ 0 → world.graph.pin (mutator + 1) slot ≡ None
+  empty_slot mutator slot below small null = by_held (world.graph.pin (mutator + 1) slot) (shared.pinned mutator slot below small)
     where
-      by_held : (held : Option Pinned) → PinStands config (world.memory Cset) (world.memory Evac) world.block (world.memory (PinWord mutator i)) held → held ≡ None
+      by_held : (held : Option Pinned) → PinStands config (world.memory Cset) (world.memory Evac) world.block (world.memory (PinWord mutator slot)) held → held ≡ None
       by_held None is = refl
-      by_held (Some p) is = absurd (none-some p.name (sym (null_if_0 config (λ r. world.memory (Top r)) world.block shared.parsable.plotted (world.memory (PinWord mutator i)) (Some p.name) (ap name_at is.3.piece) null)))
+      by_held (Some p) is = absurd (none-some p.name (sym (null_if_0 config (λ region. world.memory (Top region)) world.block shared.parsable.plotted (world.memory (PinWord mutator slot)) (Some p.name) (ap name_at is.3.piece) null)))
 
   -- and that of one that holds nothing is
-  pub null_word : (mutator i : ℕ) → mutator < config.mutators → i < 4 → world.graph.pin (mutator + 1) i ≡ None → world.memory (PinWord mutator i) ≡ 0
-  null_word mutator i below small none = subst (PinStands config (world.memory Cset) (world.memory Evac) world.block (world.memory (PinWord mutator i))) none (shared.pinned mutator i below small)
+  pub null_word : (mutator slot : ℕ) → mutator < config.mutators → slot < 4 → world.graph.pin (mutator + 1) slot ≡ None → world.memory (PinWord mutator slot) ≡ 0
+  null_word mutator slot below small none = subst (PinStands config (world.memory Cset) (world.memory Evac) world.block (world.memory (PinWord mutator slot))) none (shared.pinned mutator slot below small)
 
   -- an object in hand may be pinned where it is
   pub may_be_pinned : HasNoMorePins config.mutators world.graph → (seat root value : ℕ) (of : HasObject config world seat root value) → MayBePinned config.regions config.region_words world.graph of.name value
   may_be_pinned no_more seat root value of = record {
     within =
-        let inside = piece_inside config (λ r. world.memory (Top r)) world.block shared.parsable.plotted value (thing of.name of.refs of.nums) of.target.piece in
+        let inside = piece_inside config (λ region. world.memory (Top region)) world.block shared.parsable.plotted value (thing of.name of.refs of.nums) of.target.piece in
         let high : value + (3 + of.refs + of.nums) ≤ (config.regions + 1) * config.region_words = inside.1 in
         (inside.0, omega (arith, high));
     same = λ thread slot held is named. let stands = held_stands thread slot held is in
         sym stands.0 ∙ shared.contents.objects.once (word_at thread slot held is) value stands.1 stands.2 of.refs of.nums of.name
-        (stands.3.piece ∙ ap (λ n. Some (thing n stands.1 stands.2)) named) of.target.piece;
+        (stands.3.piece ∙ ap (λ name. Some (thing name stands.1 stands.2)) named) of.target.piece;
     alone = λ thread slot held is placed. let stands = held_stands thread slot held is in
-        same_Some held.name of.name (sym (ap name_at stands.3.piece) ∙ ap (λ a. name_at (world.block a)) (stands.0 ∙ placed) ∙ ap name_at of.target.piece);
+        same_Some held.name of.name (sym (ap name_at stands.3.piece) ∙ ap (λ address. name_at (world.block address)) (stands.0 ∙ placed) ∙ ap name_at of.target.piece);
   }
     where
       word_at : (thread slot : ℕ) (held : Pinned) → world.graph.pin thread slot ≡ Some held → ℕ
@@ -101,7 +98,7 @@ module _ (config : Config) (world : World) (shared : Shared config world) where
       held_stands : (thread slot : ℕ) (held : Pinned) (is : world.graph.pin thread slot ≡ Some held) → PinStands config (world.memory Cset) (world.memory Evac) world.block (word_at thread slot held is) (Some held)
       held_stands thread slot held is =
           let at = slot_at config world.graph no_more thread slot held is in
-          subst (PinStands config (world.memory Cset) (world.memory Evac) world.block (world.memory (PinWord at.t slot))) (ap (λ t. world.graph.pin t slot) (sym at.is) ∙ is) (shared.pinned at.t slot at.below at.small)
+          subst (PinStands config (world.memory Cset) (world.memory Evac) world.block (world.memory (PinWord at.t slot))) (ap (λ thread. world.graph.pin thread slot) (sym at.is) ∙ is) (shared.pinned at.t slot at.below at.small)
 
 module _ (config : Config) (world : World) (seat made : ℕ) (kept : Kept) (command : Command) (fixed : Option Reply) where
   -- what the call of a command keeps
@@ -120,14 +117,14 @@ module _ (config : Config) (world : World) (seat made : ℕ) (kept : Kept) (comm
 
   -- the store can be made next, of what may be stored
   store_mine : (other_command : Command) (value : ℕ) → Shared config world → IsAt other_command value → IsOfSlot config world seat other_command value → SlotFits world seat other_command → is_number value ≡ true → Mine config world (at_call other_command (Pinning value pins.Store)) command fixed
-  store_mine other_command value shared mine of fits small = record {
+  store_mine other_command value shared mine of_slot fits small = record {
     seated = mine.seated;
     ready = ready_of _ _ (and_parts _ _ (and_parts _ _ mine.ready).0).0 small;
     marking = mine.marking;
     copying = mine.copying;
     roots = mine.roots;
     rooms = mine.rooms;
-    facts = (mine.facts.0, mine.facts.1, of, fits);
+    facts = (mine.facts.0, mine.facts.1, of_slot, fits);
   }
 
   look_step : (other_command : Command) (value : ℕ) → Shared config world → IsAt other_command value → Stepped config world (at_call other_command (Pinning value pins.Look)) command Nothing fixed
@@ -139,7 +136,7 @@ module _ (config : Config) (world : World) (seat made : ℕ) (kept : Kept) (comm
       (λ (fits : (word == 0) ≡ true).
       looks config world (at_call (Pin slot obj) (Pinning value pins.Look)) (PinWord seat slot) command fixed refl (cond-true _ _ _ fits) refl shared
       (rw fits (store_mine (Pin slot obj) value shared mine mine.facts.2 (empty_slot config world shared seat slot mine.seated.below small (eqb-true _ _ fits))
-      (number_small value (points_small config (λ r. world.memory (Top r)) world.block shared.parsable.plotted value (Some of.name) (ap name_at of.target.piece))))))
+      (number_small value (points_small config (λ region. world.memory (Top region)) world.block shared.parsable.plotted value (Some of.name) (ap name_at of.target.piece))))))
       (λ (lacks : (word == 0) ≡ false).
       let taken : world.graph.pin (seat + 1) slot ≡ None → ⊥ = λ none. eqb-false _ _ lacks (null_word config world shared seat slot mine.seated.below small none) in
       replies config world (at_call (Pin slot obj) (Pinning value pins.Look)) (PinWord seat slot) command fixed reply.Bad refl (cond-false _ _ _ lacks) refl mine.facts.0 refl
@@ -156,7 +153,7 @@ module _ (config : Config) (world : World) (seat made : ℕ) (kept : Kept) (comm
       (rw fits (store_mine (Unpin slot) value shared mine mine.facts.2
       (λ none. eqb-false _ _ (not_true (word == 0) fits) (null_word config world shared seat slot mine.seated.below small none)) (ap is_number mine.facts.2.1))))
       (λ (lacks : not (word == 0) ≡ false).
-      let none : world.graph.pin (seat + 1) slot ≡ None = empty_slot config world shared seat slot mine.seated.below small (eqb-true _ _ (not_false (word == 0) lacks)) in
+      let none : world.graph.pin (seat + 1) slot ≡ None = empty_slot config world shared seat slot mine.seated.below small (eqb-true _ _ (true_from_not (word == 0) lacks)) in
       replies config world (at_call (Unpin slot) (Pinning value pins.Look)) (PinWord seat slot) command fixed reply.Bad refl (cond-false _ _ _ lacks) refl mine.facts.0 refl
       (ap (pinned_by world.graph (seat + 1)) mine.facts.1)
       (ap (outcome world.graph (seat + 1)) mine.facts.1 ∙ ap (λ held. on held world.graph (λ p. answers reply.Ok (with_pin world.graph (seat + 1) slot None))) none)
@@ -174,7 +171,7 @@ module _ (config : Config) (world : World) (seat made : ℕ) (kept : Kept) (comm
     pinned_world = record { memory = write world.memory (PinWord seat slot) value; block = world.block; ghost = world.ghost; graph = with_pin world.graph (seat + 1) slot held }
 
     -- each pin word stands for what its slot holds
-    pins_then : ArePinned config (world.memory Cset) (world.memory Evac) world.block (λ t i. pinned_world.memory (PinWord t i)) pinned_world.graph.pin
+    pins_then : ArePinned config (world.memory Cset) (world.memory Evac) world.block (λ mutator slot. pinned_world.memory (PinWord mutator slot)) pinned_world.graph.pin
     pins_then t i below small =
         let thread : ((t + 1) == (seat + 1)) ≡ (seat == t) = grind (arith, nat_tests) in
         let index : (i == slot) ≡ (slot == i) = grind (arith, nat_tests) in
@@ -199,9 +196,9 @@ module _ (config : Config) (world : World) (seat made : ℕ) (kept : Kept) (comm
     }
 
     -- The store settles a legal reply, which leads to that graph.
-    settles_pin : (r : Reply) → touched world.memory (touch_of config (at_call other_command (Pinning value pins.Store)) Nothing) ≡ write world.memory (PinWord seat slot) value → told_of world.memory (at_call other_command (Pinning value pins.Store)) ≡ Some r
-        → Mine config world (at_call other_command (Pinning value pins.Store)) command fixed → pinned_world.graph ≡ graph_by world.graph seat command (Some r) → LegalBy config world.graph seat command (Some r)
-        → Mine config pinned_world (next_of config (at_call other_command (Pinning value pins.Store)) Nothing (world.memory (touch_of config (at_call other_command (Pinning value pins.Store)) Nothing).word)) command (Some r)
+    settles_pin : (answer : Reply) → touched world.memory (touch_of config (at_call other_command (Pinning value pins.Store)) Nothing) ≡ write world.memory (PinWord seat slot) value → told_of world.memory (at_call other_command (Pinning value pins.Store)) ≡ Some answer
+        → Mine config world (at_call other_command (Pinning value pins.Store)) command fixed → pinned_world.graph ≡ graph_by world.graph seat command (Some answer) → LegalBy config world.graph seat command (Some answer)
+        → Mine config pinned_world (next_of config (at_call other_command (Pinning value pins.Store)) Nothing (world.memory (touch_of config (at_call other_command (Pinning value pins.Store)) Nothing).word)) command (Some answer)
         → Stepped config world (at_call other_command (Pinning value pins.Store)) command Nothing fixed
     settles_pin r memory told mine graph legal after = record {
       world = pinned_world;
@@ -211,7 +208,7 @@ module _ (config : Config) (world : World) (seat made : ℕ) (kept : Kept) (comm
       settles = λ q e. (mine.facts.0, refl);
       shared = shared_pinned;
       mine = rw told after;
-      others = λ j d. let marks = marks_in config world pinned_world.memory pinned_world.graph j refl (λ n. refl) (λ t. refl) (λ t other_command. refl) (λ a. refl) in let copies = copies_in config world pinned_world.memory pinned_world.graph j refl refl (λ r. refl) (λ a. refl) in let kept_fields = fields_in config world pinned_world.memory pinned_world.graph (λ r. refl) (λ r. refl) refl (λ a. refl) in search (arith, nat_tests, marks, copies, kept_fields);
+      others = λ seat d. let marks = marks_in config world pinned_world.memory pinned_world.graph seat refl (λ n. refl) (λ t. refl) (λ t other_command. refl) (λ a. refl) in let copies = copies_in config world pinned_world.memory pinned_world.graph seat refl refl (λ r. refl) (λ a. refl) in let kept_fields = fields_in config world pinned_world.memory pinned_world.graph (λ r. refl) (λ r. refl) refl (λ a. refl) in search (arith, nat_tests, marks, copies, kept_fields);
     }
 
   store_step : HasNoMorePins config.mutators world.graph → (other_command : Command) (value : ℕ) → Shared config world → Mine config world (at_call other_command (Pinning value pins.Store)) command fixed → Stepped config world (at_call other_command (Pinning value pins.Store)) command Nothing fixed

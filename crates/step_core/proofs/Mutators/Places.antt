@@ -31,7 +31,7 @@ use Rattle.step_core.proofs.Machines.Stepped.{Row, OrderedRow, Stepped}
 use Rattle.step_core.proofs.Mutators.Calls.{at_rest, at_ended, at_ask, at_leave}
 use Rattle.step_core.proofs.Mutators.Entering.{at_enter, at_load_phase}
 use Rattle.step_core.proofs.Mutators.Waiting.{each_wait}
-use Rattle.step_core.proofs.Mutators.Loads.{at_load_set, at_load_root, at_load_second, at_load_third, at_load_shape}
+use Rattle.step_core.proofs.Mutators.CommandLoads.{at_load_set, at_load_root, at_load_second, at_load_third, at_load_shape}
 use Rattle.step_core.proofs.Mutators.Fields.{at_load_field, at_load_old, at_load_expected, at_load_number, at_load_name}
 use Rattle.step_core.proofs.Mutators.RootStores.{at_store_loaded, at_store_root}
 use Rattle.step_core.proofs.Mutators.Stores.{at_store_field, at_swap_field, at_exchange_field, at_store_number}
@@ -44,13 +44,13 @@ use Rattle.step_core.proofs.Mutators.Spots.{mutator_at}
 
 module _ (config : Config) (world : World) (seat made : ℕ) (kept : Kept) (command : Command) (fixed : Option Reply) where
   -- by the spot of each part of a call
-  each_load : (at : LoadSpot) → Row config world (mutator_at seat made kept (Loading at)) command fixed
+  each_load : (spot : LoadSpot) → Row config world (mutator_at seat made kept (Loading spot)) command fixed
   each_load load.First = at_load_root config world seat made kept command fixed
   each_load (load.Second first) = at_load_second config world seat made kept command fixed first
   each_load (load.Third first second) = at_load_third config world seat made kept command fixed first second
   each_load (load.Shape object second third) = at_load_shape config world seat made kept command fixed object second third
 
-  each_field : (object : ℕ) (at : FieldSpot) → Row config world (mutator_at seat made kept (OnField object at)) command fixed
+  each_field : (object : ℕ) (spot : FieldSpot) → Row config world (mutator_at seat made kept (OnField object spot)) command fixed
   each_field object fields.Load = at_load_field config world seat made kept command fixed object
   each_field object (fields.LoadExpected expect value) = at_load_expected config world seat made kept command fixed object expect value
   each_field object (fields.LoadOld value) = at_load_old config world seat made kept command fixed object value
@@ -58,19 +58,19 @@ module _ (config : Config) (world : World) (seat made : ℕ) (kept : Kept) (comm
   each_field object (fields.Swap value) = at_swap_field config world seat made kept command fixed object value
   each_field object (fields.Exchange found expect value) = at_exchange_field config world seat made kept command fixed object found expect value
 
-  each_number : (object refs : ℕ) (at : NumberSpot) → Row config world (mutator_at seat made kept (OnNumber object refs at)) command fixed
+  each_number : (object refs : ℕ) (spot : NumberSpot) → Row config world (mutator_at seat made kept (OnNumber object refs spot)) command fixed
   each_number object refs numbers.Load = at_load_number config world seat made kept command fixed object refs
   each_number object refs numbers.Store = at_store_number config world seat made kept command fixed object refs
 
-  each_show : (value : ℕ) (at : ShowSpot) → Row config world (mutator_at seat made kept (Showing value at)) command fixed
+  each_show : (value : ℕ) (spot : ShowSpot) → Row config world (mutator_at seat made kept (Showing value spot)) command fixed
   each_show value show.LoadName = at_load_name config world seat made kept command fixed value
   each_show value (show.StoreRoot r) = at_store_loaded config world seat made kept command fixed value r
 
-  each_pin : HasNoMorePins config.mutators world.graph → (value : ℕ) (at : PinSpot) → Row config world (mutator_at seat made kept (Pinning value at)) command fixed
+  each_pin : HasNoMorePins config.mutators world.graph → (value : ℕ) (spot : PinSpot) → Row config world (mutator_at seat made kept (Pinning value spot)) command fixed
   each_pin no_more value pins.Look = at_look_pin config world seat made kept command fixed value
   each_pin no_more value pins.Store = at_store_pin config world seat made kept command fixed no_more value
 
-  each_make : (at : MakeSpot) → Row config world (mutator_at seat made kept (Making at)) command fixed
+  each_make : (spot : MakeSpot) → Row config world (mutator_at seat made kept (Making spot)) command fixed
   each_make (make.Taking take) = at_taking config world seat made kept command fixed take
   each_make (make.StoreWord address done) = at_store_word config world seat made kept command fixed address done
   each_make (make.StoreRoot address) = at_store_fresh config world seat made kept command fixed address
@@ -84,27 +84,27 @@ module _ (config : Config) (world : World) (seat made : ℕ) (kept : Kept) (comm
   each_call : HasNoMorePins config.mutators world.graph → (spot : Spot) → HasTold spot → is_between_calls spot ≡ false → Row config world (mutator_at seat made kept spot) command fixed
   each_call no_more Rest told busy = absurd (cc (busy))
   each_call no_more (Ended r) told busy = absurd (cc (busy))
-  each_call no_more (Entering at next) told busy = at_enter config world seat made kept command fixed at next
+  each_call no_more (Entering spot next) told busy = at_enter config world seat made kept command fixed spot next
   each_call no_more LoadPhase told busy = at_load_phase config world seat made kept command fixed
   each_call no_more LoadSet told busy = at_load_set config world seat made kept command fixed
-  each_call no_more (Loading at) told busy = each_load at
-  each_call no_more (OnField object at) told busy = each_field object at
-  each_call no_more (Resolving address at next) told busy = at_resolve config world seat made kept command fixed at address next
-  each_call no_more (Recording at address next) told busy = at_record config world seat made kept command fixed at address next
-  each_call no_more (OnNumber object refs at) told busy = each_number object refs at
-  each_call no_more (Showing value at) told busy = each_show value at
+  each_call no_more (Loading spot) told busy = each_load spot
+  each_call no_more (OnField object spot) told busy = each_field object spot
+  each_call no_more (Resolving address spot next) told busy = at_resolve config world seat made kept command fixed spot address next
+  each_call no_more (Recording spot address next) told busy = at_record config world seat made kept command fixed spot address next
+  each_call no_more (OnNumber object refs spot) told busy = each_number object refs spot
+  each_call no_more (Showing value spot) told busy = each_show value spot
   each_call no_more (StoreRoot value) told busy = at_store_root config world seat made kept command fixed value
-  each_call no_more (Making at) told busy = each_make at
+  each_call no_more (Making spot) told busy = each_make spot
   each_call no_more AskCycle told busy = at_ask config world seat made kept command fixed
-  each_call no_more (Pinning value at) told busy = each_pin no_more value at
-  each_call no_more (Waiting at) told busy = each_wait config world seat made kept command fixed at (λ same. told (ap Waiting same))
+  each_call no_more (Pinning value spot) told busy = each_pin no_more value spot
+  each_call no_more (Waiting spot) told busy = each_wait config world seat made kept command fixed spot (λ same. told (ap Waiting same))
   each_call no_more (Leave r) told busy = at_leave config world seat made kept command fixed r
   each_call no_more Gone told busy = absurd (cc (busy))
 
   -- in a call there is no order
   called : HasNoMorePins config.mutators world.graph → (order : Order) (spot : Spot) → HasTold spot → is_between_calls spot ≡ false → OrderedRow config world (mutator_at seat made kept spot) command order fixed
   called no_more order spot told busy shared mine takes =
-      subst (λ o. Stepped config world (mutator_at seat made kept spot) command o fixed) (sym (in_call spot made order busy takes)) (each_call no_more spot told busy shared mine)
+      subst (λ order. Stepped config world (mutator_at seat made kept spot) command order fixed) (sym (in_call spot made order busy takes)) (each_call no_more spot told busy shared mine)
 
   -- by the spot
   each_place : HasNoMorePins config.mutators world.graph → (order : Order) (spot : Spot) → HasTold spot → OrderedRow config world (mutator_at seat made kept spot) command order fixed

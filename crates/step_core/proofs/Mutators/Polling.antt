@@ -36,22 +36,22 @@ raise_ready config seat made kept below = grind (arith, nat_tests)
 
 -- an answer in the table is the one that it has been waiting for
 answered_by : (world : World) (seat made raw : ℕ) (other_command command : Command) (fixed : Option Reply) → raw ≢ 0 → IsSeen raw (world.memory (Answer seat)) fixed → IsPolling world seat made other_command command fixed → IsAnswered world seat made other_command command fixed
-answered_by world seat made raw other_command command fixed some seen (inl waits) = absurd (some (seen.null waits.0.1.1))
-answered_by world seat made raw other_command command fixed some seen (inr (inl has)) = inl has
-answered_by world seat made raw other_command command fixed some seen (inr (inr is)) = inr (
+answered_by world seat made raw other_command command fixed positive seen (inl waits) = absurd (positive (seen.null waits.0.1.1))
+answered_by world seat made raw other_command command fixed positive seen (inr (inl has)) = inl has
+answered_by world seat made raw other_command command fixed positive seen (inr (inr is)) = inr (
   record {
     dst = is.0.dst;
     refs = is.0.refs;
     nums = is.0.nums;
     is = is.0.is;
-    settled = ⊎_elim (λ (both : (raw ≡ 1) × (fixed ≡ Some Full)). both.1) (λ (none : (raw ≡ 0) × (fixed ≡ None)). absurd (some none.0)) (seen.full is.1.1);
+    settled = ⊎_elim (λ (both : (raw ≡ 1) × (fixed ≡ Some Full)). both.1) (λ (none : (raw ≡ 0) × (fixed ≡ None)). absurd (positive none.0)) (seen.full is.1.1);
   },
   is.1,
 )
 
 module _ (config : Config) (words : List ℕ) (image : Counting) (block : Plot) (ghost : Ghost) (graph : Graph) (past : List Entry) (seat made : ℕ) (kept : Kept) (machines : List Actor) (command : Command) (calls : List Entry) where
-  abbrev u : World
-  u = record { memory = mixed config words image; block = block; ghost = ghost; graph = graph }
+  abbrev world_then : World
+  world_then = record { memory = mixed config words image; block = block; ghost = ghost; graph = graph }
 
   -- the word that it finds
   abbrev raw : ℕ
@@ -68,8 +68,8 @@ module _ (config : Config) (words : List ℕ) (image : Counting) (block : Plot) 
   same_entries k = ap (λ es. of_thread es (k + 1)) (append-nil past)
 
   -- it goes on, or looks again
-  own_polls : (thread : IsThread config words u (of_thread past (seat + 1)) seat polls (mutator_at seat made kept (Waiting wait.Poll))) → (holds : Bool) → (raw == 0) ≡ holds
-      → IsThread config words u (of_thread (past ++ []) (seat + 1)) seat (polled (if holds then Waiting wait.Poll else Entering Raise Waited)) (mutator_at seat made kept (if holds then Waiting wait.Poll else Entering Raise Waited))
+  own_polls : (thread : IsThread config words world_then (of_thread past (seat + 1)) seat polls (mutator_at seat made kept (Waiting wait.Poll))) → (holds : Bool) → (raw == 0) ≡ holds
+      → IsThread config words world_then (of_thread (past ++ []) (seat + 1)) seat (polled (if holds then Waiting wait.Poll else Entering Raise Waited)) (mutator_at seat made kept (if holds then Waiting wait.Poll else Entering Raise Waited))
   own_polls thread true none = record {
     fixed = thread.fixed;
     number_is = refl;
@@ -90,17 +90,17 @@ module _ (config : Config) (words : List ℕ) (image : Counting) (block : Plot) 
       copying = thread.mine.copying;
       roots = thread.mine.roots;
       rooms = thread.mine.rooms;
-      facts = answered_by u seat made raw kept.command command thread.fixed (eqb-false _ _ some) thread.seen thread.mine.facts;
+      facts = answered_by world_then seat made raw kept.command command thread.fixed (eqb-false _ _ some) thread.seen thread.mine.facts;
     };
     seen = thread.seen;
     short = thread.short;
     entries_are = same_entries seat ∙ thread.entries_are ∙ ap (λ es. es ++ entries_of seat command thread.fixed) (sym (append-nil calls));
   }
 
-  pub polls_owes : Shared config u → PromisedToMutators config block → IsThread config words u (of_thread past (seat + 1)) seat polls (mutator_at seat made kept (Waiting wait.Poll))
-      → Owes config words words u past seat machines (mixed config words image) [] (polled (if raw == 0 then Waiting wait.Poll else Entering Raise Waited))
+  pub polls_owes : Shared config world_then → PromisedToMutators config block → IsThread config words world_then (of_thread past (seat + 1)) seat polls (mutator_at seat made kept (Waiting wait.Poll))
+      → Owes config words words world_then past seat machines (mixed config words image) [] (polled (if raw == 0 then Waiting wait.Poll else Entering Raise Waited))
   polls_owes shared promised_to thread = record {
-    world = u;
+    world = world_then;
     memory_is = refl;
     graph_is = refl;
     legal = tt;
@@ -109,6 +109,6 @@ module _ (config : Config) (words : List ℕ) (image : Counting) (block : Plot) 
     promised_to = promised_to;
     own = own_polls thread (raw == 0) refl;
     others = λ k b differs there known.
-        machine_stays config words words u u (of_thread past (k + 1)) (of_thread (past ++ []) (k + 1)) k b b.machine shared
-        (record { rely = rely_same config k u; answer = refl; counts = inr (record { graph = refl; promised = λ v. refl }); aims = λ control same is. is }) (same_entries k) known;
+        machine_stays config words words world_then world_then (of_thread past (k + 1)) (of_thread (past ++ []) (k + 1)) k b b.machine shared
+        (record { rely = rely_same config k world_then; answer = refl; counts = inr (record { graph = refl; promised = λ v. refl }); aims = λ control same is. is }) (same_entries k) known;
   }

@@ -49,30 +49,30 @@ module _ (config : Config) (world : World) (seat made : ℕ) (kept : Kept) (comm
         still Recorded going = absurd (false≢true going)
         still _ going = refl
 
-    module _ (other_world : World) (shared : Shared config other_world) (keeps : Keeps config seat world other_world) (same : other_world.block ≡ world.block) where
+    module _ (next_world : World) (shared : Shared config next_world) (keeps : Keeps config seat world next_world) (same : next_world.block ≡ world.block) where
       -- what it counts on of marking then
-      marking_then : (at : RememberSpot) → (in_hand : Option ℕ) → CanRecord config other_world seat address at → other_world.ghost.recording seat ≡ in_hand → HasMarkingBy other_world seat in_hand kept.phase true
-      marking_then at in_hand can records = record { records = records; scans = can.scanning; phase_is = λ on. mine.marking.phase_is refl ∙ sym keeps.marks.phase }
+      marking_then : (spot : RememberSpot) → (in_hand : Option ℕ) → CanRecord config next_world seat address spot → next_world.ghost.recording seat ≡ in_hand → HasMarkingBy next_world seat in_hand kept.phase true
+      marking_then spot in_hand can records = record { records = records; scans = can.scanning; phase_is = λ on. mine.marking.phase_is refl ∙ sym keeps.marks.phase }
 
       -- and of evacuation
-      copying_then : SameWork world other_world seat → HasCopyingBy other_world seat false kept.cset true
-      copying_then work = copying_kept config world other_world seat false kept.cset true work keeps.copies mine.copying
+      copying_then : SameWork world next_world seat → HasCopyingBy next_world seat false kept.cset true
+      copying_then work = copying_kept config world next_world seat false kept.cset true work keeps.copies mine.copying
 
       -- its roots stand for its thread's
-      roots_then : (index : ℕ) → index < 16 → Points other_world.block (root_now other_world seat kept (Recording before address next) index) (other_world.graph.root (seat + 1) index)
-      roots_then index below = rw (now_stays config world other_world seat keeps kept (Recording before address next) index) (root_stays config world other_world seat keeps _ index (mine.roots index below))
+      roots_then : (index : ℕ) → index < 16 → Points next_world.block (root_now next_world seat kept (Recording before address next) index) (next_world.graph.root (seat + 1) index)
+      roots_then index below = rw (now_stays config world next_world seat keeps kept (Recording before address next) index) (root_stays config world next_world seat keeps _ index (mine.roots index below))
 
       -- where it goes on recording
-      mine_at : (at : RememberSpot) → satb.is_ended at ≡ false → other_world.ghost.recording seat ≡ Some address → CanRecord config other_world seat address at → SameWork world other_world seat
-          → Mine config other_world (at_spot (Recording at address next)) command fixed
-      mine_at at going records can work = record {
-        seated = seated_stays config world other_world seat keeps made false mine.seated;
-        ready = record_ready config other_world seat made kept at address next going shared can;
-        marking = marking_then at (Some address) can records;
+      mine_at : (spot : RememberSpot) → satb.is_ended spot ≡ false → next_world.ghost.recording seat ≡ Some address → CanRecord config next_world seat address spot → SameWork world next_world seat
+          → Mine config next_world (at_spot (Recording spot address next)) command fixed
+      mine_at spot going records can work = record {
+        seated = seated_stays config world next_world seat keeps made false mine.seated;
+        ready = record_ready config next_world seat made kept spot address next going shared can;
+        marking = marking_then spot (Some address) can records;
         copying = copying_then work;
         roots = roots_then;
-        rooms = λ a x is. mine.rooms a x (ap (λ plot. plot a) (sym same) ∙ is);
-        facts = (can, record_stays config world other_world seat keeps kept.command command fixed address next mine.facts.1);
+        rooms = λ address x is. mine.rooms address x (ap (λ plot. plot address) (sym same) ∙ is);
+        facts = (can, record_stays config world next_world seat keeps kept.command command fixed address next mine.facts.1);
       }
 
   module _ (other_world : World) (seated : IsSeatedIn config other_world seat made false) (marking : HasMarkingBy other_world seat None kept.phase true) (copying : HasCopyingBy other_world seat false kept.cset true) (on : other_world.memory Phase ≡ 1) (none : OnlySpares other_world seat) (shared : Shared config other_world) where
@@ -89,25 +89,25 @@ module _ (config : Config) (world : World) (seat made : ℕ) (kept : Kept) (comm
       facts = facts;
     }
     mine_recorded address overwrites.Xchg roots found =
-        subst (λ f. Mine config other_world (at_spot (after_recording address overwrites.Xchg)) command f) (sym found.settled)
+        subst (λ fixed. Mine config other_world (at_spot (after_recording address overwrites.Xchg)) command fixed) (sym found.settled)
         (field_mine config other_world seat made kept command address (Some found.name) shared seated marking copying found.small roots none found.is
         (usable_unmoved config other_world shared (omega (arith, on)) address (Some found.name) found.is))
     mine_recorded address overwrites.Cas roots settled =
-        subst (λ f. Mine config other_world (at_spot (Leave reply.Yes)) command f) (sym settled) (leaving config other_world seat made kept command reply.Yes seated (marking.records, marking.scans, copying.copies_is, copying.works_none) roots none)
+        subst (λ fixed. Mine config other_world (at_spot (Leave reply.Yes)) command fixed) (sym settled) (leaving config other_world seat made kept command reply.Yes seated (marking.records, marking.scans, copying.copies_is, copying.works_none) roots none)
 
   module _ (before : RememberSpot) (address : ℕ) (next : Overwritten) (mine : Mine config world (at_spot (Recording before address next)) command fixed) where
     -- what it counts on after a step
-    mine_then : (at : RememberSpot) (other_world : World) → Shared config other_world → Keeps config seat world other_world → other_world.block ≡ world.block → CanRecord config other_world seat address at → SameWork world other_world seat → Mine config other_world (at_spot (after_remember address next at)) command fixed
-    mine_then Recorded other_world shared keeps same can work =
-        mine_recorded other_world (seated_stays config world other_world seat keeps made false mine.seated) (marking_then before address next mine other_world shared keeps same Recorded None can can.recording) (copying_then before address next mine other_world shared keeps same work) can.phase
-        (λ a x is. mine.rooms a x (ap (λ plot. plot a) (sym same) ∙ is)) shared address next
-        (roots_then before address next mine other_world shared keeps same) (record_stays config world other_world seat keeps kept.command command fixed address next mine.facts.1)
-    mine_then at other_world shared keeps same can work = mine_at before address next mine other_world shared keeps same at refl can.recording can work
+    mine_then : (spot : RememberSpot) (next_world : World) → Shared config next_world → Keeps config seat world next_world → next_world.block ≡ world.block → CanRecord config next_world seat address spot → SameWork world next_world seat → Mine config next_world (at_spot (after_remember address next spot)) command fixed
+    mine_then Recorded next_world shared keeps same can work =
+        mine_recorded next_world (seated_stays config world next_world seat keeps made false mine.seated) (marking_then before address next mine next_world shared keeps same Recorded None can can.recording) (copying_then before address next mine next_world shared keeps same work) can.phase
+        (λ address x is. mine.rooms address x (ap (λ plot. plot address) (sym same) ∙ is)) shared address next
+        (roots_then before address next mine next_world shared keeps same) (record_stays config world next_world seat keeps kept.command command fixed address next mine.facts.1)
+    mine_then spot next_world shared keeps same can work = mine_at before address next mine next_world shared keeps same spot refl can.recording can work
 
   -- each step
-  pub at_record : (at : RememberSpot) (address : ℕ) (next : Overwritten) → Row config world (at_spot (Recording at address next)) command fixed
-  at_record at address next shared mine =
-      let step = ((recording_steps.steps config seat address).goes world at (going_now at address next mine) shared mine.facts.0).step in
+  pub at_record : (spot : RememberSpot) (address : ℕ) (next : Overwritten) → Row config world (at_spot (Recording spot address next)) command fixed
+  at_record spot address next shared mine =
+      let step = ((recording_steps.steps config seat address).goes world spot (going_now spot address next mine) shared mine.facts.0).step in
       record {
         world = step.world;
         memory = step.memory;
@@ -115,6 +115,6 @@ module _ (config : Config) (world : World) (seat made : ℕ) (kept : Kept) (comm
         legal = tt;
         settles = λ r e. cc;
         shared = step.shared;
-        mine = mine_then at address next mine (satb.next_at at (world.memory (satb.touch_at config seat address at).word)) step.world step.shared step.keeps step.own.2 step.own.0 step.own.1;
+        mine = mine_then spot address next mine (satb.next_at spot (world.memory (satb.touch_at config seat address spot).word)) step.world step.shared step.keeps step.own.2 step.own.0 step.own.1;
         others = step.others;
       }

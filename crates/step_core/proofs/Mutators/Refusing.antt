@@ -37,12 +37,12 @@ module _ (config : Config) (world : World) (seat made : ℕ) (kept : Kept) (comm
       by_facts (inr is) = (let settled = is.0.settled in cc)
   polls (Waiting (wait.StoreRoot address)) mine = absurd (let more = mine.facts.0.1.1 in omega (arith, full, more))
   polls (Waiting (wait.ClearAnswer reply)) mine = absurd (let settled = mine.facts.0 in cc)
-  polls (Entering at Waited) mine = absurd (by_facts mine.facts)
+  polls (Entering spot Waited) mine = absurd (by_facts mine.facts)
     where
-      by_facts : SpotFacts config world seat made kept command None (Entering at Waited) → ⊥
+      by_facts : SpotFacts config world seat made kept command None (Entering spot Waited) → ⊥
       by_facts (inl has) = (let more = has.1.1 in omega (arith, full, more))
       by_facts (inr is) = (let settled = is.0.settled in cc)
-  polls (Entering at Call) mine = absurd (let none = (mine.seated.unasked refl).1 in omega (arith, full, none))
+  polls (Entering spot Call) mine = absurd (let none = (mine.seated.unasked refl).1 in omega (arith, full, none))
   polls _ mine = absurd (let none = (mine.seated.unasked refl).1 in omega (arith, full, none))
 
   -- it makes an object

@@ -41,7 +41,7 @@ use Rattle.step_core.proofs.Mutators.Spots.{mutator_at}
 use Rattle.step_core.proofs.Machines.Naming.{same_words, one_reference, not_one, copied, word_in}
 use Rattle.step_core.proofs.Machines.Stable.{root_stays, now_stays, seated_stays, resolved_stays}
 use Rattle.step_core.proofs.Mutators.InHand.{field_mine}
-use Rattle.step_core.proofs.Mutators.Resolves.{resolves_by, resolving_begins, ResolvesAlone, resolving_step, resolving_inside, resolving_answers}
+use Rattle.step_core.proofs.Mutators.ResolvingInCommon.{resolves_by, resolving_begins, ResolvesAlone, resolving_step, resolving_inside, resolving_answers}
 use Rattle.step_core.proofs.Machines.Ready.{leaving, ready_of, number_small}
 use Rattle.alloc_buffers.specs.Facts.{OnlySpares}
 
@@ -100,12 +100,12 @@ usable_found config world phase cset got reference shared phase_is set_is other 
         (copy_cases (world.block got) (body_of n body.0 body.1) body.2)
 
 -- a resolving can make its next access where it can resolve and has not ended
-pub resolving_ready : (config : Config) (world : World) (seat made : ℕ) (kept : Kept) (address : ℕ) (at : ResolveSpot) (next : Loaded) → Shared config world → IsResolving config world seat address at → resolves.is_ended at ≡ false
-    → is_ready config seat made kept (Resolving address at next) ≡ true
-resolving_ready config world seat made kept address at next shared can going =
-    let is = resolves_by config world seat address at shared can in
+pub resolving_ready : (config : Config) (world : World) (seat made : ℕ) (kept : Kept) (address : ℕ) (spot : ResolveSpot) (next : Loaded) → Shared config world → IsResolving config world seat address spot → resolves.is_ended spot ≡ false
+    → is_ready config seat made kept (Resolving address spot next) ≡ true
+resolving_ready config world seat made kept address spot next shared can going =
+    let is = resolves_by config world seat address spot shared can in
     and_from _ _
-    (and_from _ _ (is_word_from config (resolves.touch_at config seat address at).word (resolving_inside config world seat address at shared can)) refl)
+    (and_from _ _ (is_word_from config (resolves.touch_at config seat address spot).word (resolving_inside config world seat address spot shared can)) refl)
     (and_from _ _
     (let piece = copy_piece config world shared address is.there in piece_begins config world shared address piece.0 piece.1 (let long = piece.2 in omega (arith, long)))
     (and_from _ _ is.ready (rw going refl)))
@@ -139,7 +139,7 @@ module _ (config : Config) (world : World) (seat made : ℕ) (kept : Kept) (comm
           })
       by_comparison (inl other) =
           let differs : same_reference reference (world.graph.root (seat + 1) cas.expected) ≡ false = not_one config world shared found expect reference _ stands cas.expect_is.stands other.1 in
-          rw (words ∙ differs) (subst (λ f. Mine config world (mutator_at seat made kept (Leave reply.No)) command f) (sym other.0)
+          rw (words ∙ differs) (subst (λ fixed. Mine config world (mutator_at seat made kept (Leave reply.No)) command fixed) (sym other.0)
           (leaving config world seat made kept command reply.No seated (marking.records, marking.scans, copying.copies_is, copying.works_none) roots none))
 
   -- the reference lies in the set: the mutator resolves it
@@ -194,7 +194,7 @@ module _ (config : Config) (world : World) (seat made : ℕ) (kept : Kept) (comm
   mine_resolved fixed address answer ForRoot is roots found =
       let body = named_body (world.block address) found.name found.is in
       let target : TargetIn config world answer body.0 body.1 found.name = is.named (body_of found.name body.0 body.1) body.2 in
-      subst (λ f. Mine config world (mutator_at seat made kept (after_resolved address answer ForRoot)) command f) (sym found.settled)
+      subst (λ fixed. Mine config world (mutator_at seat made kept (after_resolved address answer ForRoot)) command fixed) (sym found.settled)
       (field_mine config world seat made kept command answer (Some found.name) shared seated marking copying found.small
       (λ index below. answered (ap name_at target.piece) found.is index (roots index below)) none (ap name_at target.piece) (inr (found.name, body.0, body.1, target)))
     where
@@ -237,39 +237,39 @@ module _ (config : Config) (world : World) (seat made : ℕ) (kept : Kept) (comm
 
     module _ (other_world : World) (shared : Shared config other_world) (keeps : Keeps config seat world other_world) where
       -- what it counts on of marking and of evacuation then
-      marking_then : (at : ResolveSpot) → ResolvesAlone config other_world seat address at → HasMarkingBy other_world seat None kept.phase true
-      marking_then at alone = let is = resolves_by config other_world seat address at shared alone.can in record { records = is.records_none; scans = is.scans_none; phase_is = λ on. mine.marking.phase_is refl ∙ sym keeps.marks.phase }
+      marking_then : (spot : ResolveSpot) → ResolvesAlone config other_world seat address spot → HasMarkingBy other_world seat None kept.phase true
+      marking_then spot alone = let is = resolves_by config other_world seat address spot shared alone.can in record { records = is.records_none; scans = is.scans_none; phase_is = λ on. mine.marking.phase_is refl ∙ sym keeps.marks.phase }
 
-      copying_then : (at : ResolveSpot) → ResolvesAlone config other_world seat address at → HasCopyingBy other_world seat (is_copier at) kept.cset true
-      copying_then at alone = record { copies_is = (resolves_by config other_world seat address at shared alone.can).copying; works_none = alone.working; set_is = λ on. mine.copying.set_is refl ∙ sym keeps.copies.cset }
+      copying_then : (spot : ResolveSpot) → ResolvesAlone config other_world seat address spot → HasCopyingBy other_world seat (is_copier spot) kept.cset true
+      copying_then spot alone = record { copies_is = (resolves_by config other_world seat address spot shared alone.can).copying; works_none = alone.working; set_is = λ on. mine.copying.set_is refl ∙ sym keeps.copies.cset }
 
       -- its roots stand for its thread's
       roots_then : (index : ℕ) → index < 16 → Points other_world.block (root_resolving other_world seat (dst_of kept.command) address next index) (other_world.graph.root (seat + 1) index)
       roots_then index below = rw (now_stays config world other_world seat keeps kept (Resolving address before next) index) (root_stays config world other_world seat keeps _ index (mine.roots index below))
 
       -- where it goes on resolving
-      mine_at : (at : ResolveSpot) → resolves.is_ended at ≡ false → ResolvesAlone config other_world seat address at → Mine config other_world (at_spot (Resolving address at next)) command fixed
-      mine_at at going alone = record {
+      mine_at : (spot : ResolveSpot) → resolves.is_ended spot ≡ false → ResolvesAlone config other_world seat address spot → Mine config other_world (at_spot (Resolving address spot next)) command fixed
+      mine_at spot going alone = record {
         seated = seated_stays config world other_world seat keeps made false mine.seated;
-        ready = resolving_ready config other_world seat made kept address at next shared alone.can going;
-        marking = marking_then at alone;
-        copying = copying_then at alone;
+        ready = resolving_ready config other_world seat made kept address spot next shared alone.can going;
+        marking = marking_then spot alone;
+        copying = copying_then spot alone;
         roots = roots_then;
-        rooms = (resolves_by config other_world seat address at shared alone.can).rooms;
+        rooms = (resolves_by config other_world seat address spot shared alone.can).rooms;
         facts = (alone.can, resolved_stays config world other_world seat keeps kept.command command fixed address next mine.facts.1);
       }
 
       -- what it counts on after a step
-      mine_then : (at : ResolveSpot) → ResolvesAlone config other_world seat address at → Mine config other_world (at_spot (after_resolve address next at)) command fixed
+      mine_then : (spot : ResolveSpot) → ResolvesAlone config other_world seat address spot → Mine config other_world (at_spot (after_resolve address next spot)) command fixed
       mine_then (Resolved answer) alone =
           mine_resolved config other_world seat made kept command shared (seated_stays config world other_world seat keeps made false mine.seated) (marking_then (Resolved answer) alone) (copying_then (Resolved answer) alone) (resolves_by config other_world seat address (Resolved answer) shared alone.can).rooms
           fixed address answer next (resolving_answers config other_world seat address answer alone.can) roots_then (resolved_stays config world other_world seat keeps kept.command command fixed address next mine.facts.1)
-      mine_then at alone = mine_at at refl alone
+      mine_then spot alone = mine_at spot refl alone
 
   -- each step
-  pub at_resolve : (at : ResolveSpot) (address : ℕ) (next : Loaded) → Row config world (at_spot (Resolving address at next)) command fixed
-  at_resolve at address next shared mine =
-      let step = resolving_step config world seat address kept.phase at (going_now at address next mine) shared (mine.marking.phase_is refl) (record { can = mine.facts.0; working = mine.copying.works_none }) in
+  pub at_resolve : (spot : ResolveSpot) (address : ℕ) (next : Loaded) → Row config world (at_spot (Resolving address spot next)) command fixed
+  at_resolve spot address next shared mine =
+      let step = resolving_step config world seat address kept.phase spot (going_now spot address next mine) shared (mine.marking.phase_is refl) (record { can = mine.facts.0; working = mine.copying.works_none }) in
       record {
         world = step.world;
         memory = step.memory;
@@ -277,6 +277,6 @@ module _ (config : Config) (world : World) (seat made : ℕ) (kept : Kept) (comm
         legal = tt;
         settles = λ r e. cc;
         shared = step.shared;
-        mine = mine_then at address next mine step.world step.shared step.keeps (resolves.next_at config address kept.phase at (world.memory (resolves.touch_at config seat address at).word)) step.own;
+        mine = mine_then spot address next mine step.world step.shared step.keeps (resolves.next_at config address kept.phase spot (world.memory (resolves.touch_at config seat address spot).word)) step.own;
         others = step.others;
       }

@@ -32,8 +32,8 @@ seated_written : (config : Config) (world other_world : World) (seat made dst va
 seated_written config world other_world seat made dst value block count memory new seated = record {
   below = seated.below;
   counted = ap (λ f. f (seat + 1)) count ∙ seated.counted;
-  usable = λ i below. subst (λ b. IsUsable config (other_world.memory Cset) (other_world.memory Evac) b (other_world.memory (Root seat i))) (sym block)
-      (subst (λ (memory : Word → ℕ). IsUsable config (memory Cset) (memory Evac) world.block (memory (Root seat i))) (sym memory) (usable_written config (world.memory Cset) (world.memory Evac) world.block world.memory seat dst value seated.usable new i below));
+  usable = λ index below. subst (λ b. IsUsable config (other_world.memory Cset) (other_world.memory Evac) b (other_world.memory (Root seat index))) (sym block)
+      (subst (λ (memory : Word → ℕ). IsUsable config (memory Cset) (memory Evac) world.block (memory (Root seat index))) (sym memory) (usable_written config (world.memory Cset) (world.memory Evac) world.block world.memory seat dst value seated.usable new index below));
   unasked = λ calm. let was = seated.unasked calm in (
     ap (λ (memory : Word → ℕ). memory (Wait seat)) memory ∙ was.0,
     ap (λ (memory : Word → ℕ). memory (Answer seat)) memory ∙ was.1,
@@ -50,7 +50,7 @@ module _ (config : Config) (world : World) (seat made : ℕ) (kept : Kept) (comm
   dst = dst_of kept.command
 
   -- the store of a loaded reference, which is settled, into a root
-  pub at_store_loaded : (value : ℕ) (r : Reply) → Row config world (at_spot (Showing value (show.StoreRoot r))) command fixed
+  pub at_store_loaded : (value : ℕ) (answer : Reply) → Row config world (at_spot (Showing value (show.StoreRoot answer))) command fixed
   at_store_loaded value r shared mine =
       let stands : Points world.block value (world.graph.root (seat + 1) dst) =
       subst (λ word. Points world.block word (world.graph.root (seat + 1) dst)) (cond-true (dst == dst) value (world.memory (Root seat dst)) (eq-eqb dst dst refl)) (mine.roots dst mine.facts.1) in
@@ -66,8 +66,8 @@ module _ (config : Config) (world : World) (seat made : ℕ) (kept : Kept) (comm
             (leaving config _ seat made kept command r
             (seated_written config world (accessed config world (at_spot (Showing value (show.StoreRoot r)))) seat made dst value refl refl refl mine.facts.2 mine.seated)
             (mine.marking.records, mine.marking.scans, mine.copying.copies_is, mine.copying.works_none)
-            (λ i below. subst (λ word. Points world.block word (world.graph.root (seat + 1) i)) (root_written world.memory seat dst value i) (mine.roots i below)) mine.rooms);
-        others = λ j d. let marks = marks_in config world (accessed config world (at_spot (Showing value (show.StoreRoot r)))).memory (accessed config world (at_spot (Showing value (show.StoreRoot r)))).graph j refl (λ n. refl) (λ t. refl) (λ t k. refl) (λ a. refl) in let copies = copies_in config world (accessed config world (at_spot (Showing value (show.StoreRoot r)))).memory (accessed config world (at_spot (Showing value (show.StoreRoot r)))).graph j refl refl (λ r. refl) (λ a. refl) in let kept_fields = fields_in config world (accessed config world (at_spot (Showing value (show.StoreRoot r)))).memory (accessed config world (at_spot (Showing value (show.StoreRoot r)))).graph (λ r. refl) (λ r. refl) refl (λ a. refl) in search (arith, nat_tests, marks, copies, kept_fields);
+            (λ index below. subst (λ word. Points world.block word (world.graph.root (seat + 1) index)) (root_written world.memory seat dst value index) (mine.roots index below)) mine.rooms);
+        others = λ seat d. let marks = marks_in config world (accessed config world (at_spot (Showing value (show.StoreRoot r)))).memory (accessed config world (at_spot (Showing value (show.StoreRoot r)))).graph seat refl (λ n. refl) (λ t. refl) (λ t k. refl) (λ a. refl) in let copies = copies_in config world (accessed config world (at_spot (Showing value (show.StoreRoot r)))).memory (accessed config world (at_spot (Showing value (show.StoreRoot r)))).graph seat refl refl (λ r. refl) (λ a. refl) in let kept_fields = fields_in config world (accessed config world (at_spot (Showing value (show.StoreRoot r)))).memory (accessed config world (at_spot (Showing value (show.StoreRoot r)))).graph (λ r. refl) (λ r. refl) refl (λ a. refl) in search (arith, nat_tests, marks, copies, kept_fields);
       }
 
   -- the world in which a root is a word, and in the graph a reference
@@ -87,7 +87,7 @@ module _ (config : Config) (world : World) (seat made : ℕ) (kept : Kept) (comm
     settles = λ r e. (mine.facts.0, refl);
     shared = shared;
     mine = leaving config _ seat made kept command reply.Ok (seated_written config world (rooted_world value reference) seat made dst value refl refl refl new mine.seated) (mine.marking.records, mine.marking.scans, mine.copying.copies_is, mine.copying.works_none) (roots_written world.block world.memory world.graph.root seat dst value reference mine.roots stands) mine.rooms;
-    others = λ j d. let marks = marks_in config world (rooted_world value reference).memory (rooted_world value reference).graph j refl (λ n. refl) (λ t. refl) (λ t k. refl) (λ a. refl) in let copies = copies_in config world (rooted_world value reference).memory (rooted_world value reference).graph j refl refl (λ r. refl) (λ a. refl) in let kept_fields = fields_in config world (rooted_world value reference).memory (rooted_world value reference).graph (λ r. refl) (λ r. refl) refl (λ a. refl) in search (arith, nat_tests, marks, copies, kept_fields);
+    others = λ seat d. let marks = marks_in config world (rooted_world value reference).memory (rooted_world value reference).graph seat refl (λ n. refl) (λ t. refl) (λ t k. refl) (λ a. refl) in let copies = copies_in config world (rooted_world value reference).memory (rooted_world value reference).graph seat refl refl (λ r. refl) (λ a. refl) in let kept_fields = fields_in config world (rooted_world value reference).memory (rooted_world value reference).graph (λ r. refl) (λ r. refl) refl (λ a. refl) in search (arith, nat_tests, marks, copies, kept_fields);
   }
 
   -- the store of a reference into a root settles Ok

@@ -23,32 +23,32 @@ no_more_opening threads t i none = grind (arith, nat_tests)
 
 -- a reference goes into a root of a thread
 with_root_keeps : (threads : ℕ) (graph : Graph) (t r : ℕ) (reference : Reference) → 1 ≤ t → t ≤ threads → is_root r ≡ true → HasNoMoreRoots threads graph → HasNoMoreRoots threads (with_root graph t r reference)
-with_root_keeps threads graph t r reference least most root few u k none =
-    let before = few u k none in
+with_root_keeps threads graph t r reference least most root has_no_more_roots u k none =
+    let before = has_no_more_roots u k none in
     grind (arith, nat_tests)
 
 -- a change of an object changes no root
 named_keeps : (threads : ℕ) (graph : Graph) (reference : Reference) (object : Object) → HasNoMoreRoots threads graph → HasNoMoreRoots threads (with_named graph reference object)
-named_keeps threads graph None object few = few
-named_keeps threads graph (Some n) object few = few
+named_keeps threads graph None object has_no_more_roots = has_no_more_roots
+named_keeps threads graph (Some n) object has_no_more_roots = has_no_more_roots
 
 -- a change on an object that may be missing
 on_keeps : {A : Type 0} (threads : ℕ) (found : Option A) (graph : Graph) (f : A → Outcome) → HasNoMoreRoots threads graph → ((x : A) → HasNoMoreRoots threads (f x).graph) → HasNoMoreRoots threads (on found graph f).graph
-on_keeps threads None graph f few more = few
-on_keeps threads (Some x) graph f few more = more x
+on_keeps threads None graph f has_no_more_roots more = has_no_more_roots
+on_keeps threads (Some x) graph f has_no_more_roots more = more x
 
 -- one of two changes
 either_keeps : (threads : ℕ) (holds : Bool) (x y : Outcome) → HasNoMoreRoots threads x.graph → HasNoMoreRoots threads y.graph → HasNoMoreRoots threads (if holds then x else y).graph
-either_keeps threads true x y one other = one
-either_keeps threads false x y one other = other
+either_keeps threads true x y has_no_more_roots other = has_no_more_roots
+either_keeps threads false x y has_no_more_roots other = other
 
 -- a change of a field
 field_keeps : (threads : ℕ) (graph : Graph) (thread obj field : ℕ) (reference : Reference) → HasNoMoreRoots threads graph → HasNoMoreRoots threads (with_field graph thread obj field reference)
-field_keeps threads graph thread obj field reference few = named_keeps threads graph (graph.root thread obj) (record { refs = slice_set (named graph (graph.root thread obj)).refs field reference; nums = (named graph (graph.root thread obj)).nums }) few
+field_keeps threads graph thread obj field reference has_no_more_roots = named_keeps threads graph (graph.root thread obj) (record { refs = slice_set (named graph (graph.root thread obj)).refs field reference; nums = (named graph (graph.root thread obj)).nums }) has_no_more_roots
 
 -- a change of a number
 number_keeps : (threads : ℕ) (graph : Graph) (thread obj index value : ℕ) → HasNoMoreRoots threads graph → HasNoMoreRoots threads (with_number graph thread obj index value)
-number_keeps threads graph thread obj index value few = named_keeps threads graph (graph.root thread obj) (record { refs = (named graph (graph.root thread obj)).refs; nums = slice_set (named graph (graph.root thread obj)).nums index value }) few
+number_keeps threads graph thread obj index value has_no_more_roots = named_keeps threads graph (graph.root thread obj) (record { refs = (named graph (graph.root thread obj)).refs; nums = slice_set (named graph (graph.root thread obj)).nums index value }) has_no_more_roots
 
 module _ (threads thread : ℕ) (least : 1 ≤ thread) (most : thread ≤ threads) (graph : Graph) (few : HasNoMoreRoots threads graph) where
   -- each command in range
@@ -57,7 +57,7 @@ module _ (threads thread : ℕ) (least : 1 ≤ thread) (most : thread ≤ thread
       with_root_keeps threads (with_fresh graph thread (blank refs nums)) thread dst (Some (fresh graph thread)) least most (and_parts _ _ valid).0 few
   outcome_keeps (Get dst src field) valid =
       on_keeps threads (field_at graph thread src field) graph (λ v. answers (shown v) (with_root graph thread dst v)) few
-      (λ v. with_root_keeps threads graph thread dst v least most (and_parts _ _ valid).0 few)
+      (λ reference. with_root_keeps threads graph thread dst reference least most (and_parts _ _ valid).0 few)
   outcome_keeps (Set obj field val) valid =
       on_keeps threads (field_at graph thread obj field) graph (λ v. answers reply.Ok (with_field graph thread obj field (graph.root thread val))) few
       (λ v. field_keeps threads graph thread obj field (graph.root thread val) few)
@@ -68,7 +68,7 @@ module _ (threads thread : ℕ) (least : 1 ≤ thread) (most : thread ≤ thread
       (λ v. either_keeps threads (same_reference v (graph.root thread expect)) one other (field_keeps threads graph thread obj field (graph.root thread val) few) few)
   outcome_keeps (Xchg dst obj field val) valid =
       on_keeps threads (field_at graph thread obj field) graph (λ v. answers (shown v) (with_root (with_field graph thread obj field (graph.root thread val)) thread dst v)) few
-      (λ v. with_root_keeps threads (with_field graph thread obj field (graph.root thread val)) thread dst v least most (and_parts _ _ valid).0
+      (λ reference. with_root_keeps threads (with_field graph thread obj field (graph.root thread val)) thread dst reference least most (and_parts _ _ valid).0
       (field_keeps threads graph thread obj field (graph.root thread val) few))
   outcome_keeps (Rd obj index) valid =
       on_keeps threads (number_at graph thread obj index) graph (λ n. answers (reply.Number n) graph) few (λ v. few)
@@ -88,24 +88,24 @@ module _ (threads thread : ℕ) (least : 1 ≤ thread) (most : thread ≤ thread
   pinned_keeps slot place (Some n) = few
 
   -- so does each reply
-  reply_keeps : (command : Command) (r : Reply) → is_valid command ≡ true → HasNoMoreRoots threads (after_reply graph thread command r)
+  reply_keeps : (command : Command) (answer : Reply) → is_valid command ≡ true → HasNoMoreRoots threads (after_reply graph thread command answer)
   reply_keeps (Pin slot obj) (reply.At place) valid = pinned_keeps slot place (pinned_by graph thread (Pin slot obj))
   reply_keeps (Pin slot obj) _ valid = few
-  reply_keeps command r valid = outcome_keeps command valid
+  reply_keeps command answer valid = outcome_keeps command valid
 
 -- each settled entry
 entry_keeps : (threads : ℕ) (graph : Graph) (entry : Entry) → IsSettled threads entry → HasNoMoreRoots threads graph → HasNoMoreRoots threads (after_entry graph entry)
-entry_keeps threads graph entry settled few = by_full (is_full entry.reply)
+entry_keeps threads graph entry settled has_no_more_roots = by_full (is_full entry.reply)
   where
     by_full : (holds : Bool) → HasNoMoreRoots threads (if holds then graph else after_reply graph entry.thread entry.command entry.reply)
-    by_full true = few
-    by_full false = reply_keeps threads entry.thread settled.least settled.most graph few entry.command entry.reply (and_parts (is_valid entry.command) (fits_value entry.command) settled.valid).0
+    by_full true = has_no_more_roots
+    by_full false = reply_keeps threads entry.thread settled.least settled.most graph has_no_more_roots entry.command entry.reply (and_parts (is_valid entry.command) (fits_value entry.command) settled.valid).0
 
 -- the same after a whole history
-pub no_more_after : (threads : ℕ) (graph : Graph) (es : List Entry) → All (IsSettled threads) es → HasNoMoreRoots threads graph → HasNoMoreRoots threads (after graph es)
-no_more_after threads graph [] each few = few
-no_more_after threads graph (e ∷ es) each few =
-    no_more_after threads (after_entry graph e) es (All-tail (IsSettled threads) e es each) (entry_keeps threads graph e (All-head (IsSettled threads) e es each) few)
+pub no_more_after : (threads : ℕ) (graph : Graph) (entries : List Entry) → All (IsSettled threads) entries → HasNoMoreRoots threads graph → HasNoMoreRoots threads (after graph entries)
+no_more_after threads graph [] each has_no_more_roots = has_no_more_roots
+no_more_after threads graph (entry ∷ entries) each has_no_more_roots =
+    no_more_after threads (after_entry graph entry) entries (All-tail (IsSettled threads) entry entries each) (entry_keeps threads graph entry (All-head (IsSettled threads) entry entries each) has_no_more_roots)
 
 -- the opening has nothing pinned
 pub no_more_pins_opening : (threads : ℕ) → HasNoMorePins threads (graphs.opening threads)
@@ -113,8 +113,8 @@ no_more_pins_opening threads t i none = refl
 
 -- something goes into a pin slot of a thread
 with_pin_keeps : (threads : ℕ) (graph : Graph) (t slot : ℕ) (held : Option Pinned) → 1 ≤ t → t ≤ threads → is_slot slot ≡ true → HasNoMorePins threads graph → HasNoMorePins threads (with_pin graph t slot held)
-with_pin_keeps threads graph t slot held least most is few u k none =
-    let before = few u k none in
+with_pin_keeps threads graph t slot held least most is has_no_more_pins u k none =
+    let before = has_no_more_pins u k none in
     grind (arith, nat_tests)
 
 -- what a command does that pins and unpins nothing leaves all slots as they are
@@ -138,48 +138,48 @@ number_pins graph thread obj index value = named_pins graph (graph.root thread o
 
 module _ (threads thread : ℕ) (least : 1 ≤ thread) (most : thread ≤ threads) (graph : Graph) (few : HasNoMorePins threads graph) where
   -- where the slots are the same
-  same_pins : (h : Graph) → h.pin ≡ graph.pin → HasNoMorePins threads h
-  same_pins h same u k none = ap (λ p. p u k) same ∙ few u k none
+  same_pins : (graph_then : Graph) → graph_then.pin ≡ graph.pin → HasNoMorePins threads graph_then
+  same_pins graph_then same u k none = ap (λ p. p u k) same ∙ few u k none
 
   emptied_keeps : (slot : ℕ) (held : Option Pinned) → is_slot slot ≡ true → HasNoMorePins threads (on held graph (λ _. answers reply.Ok (with_pin graph thread slot None))).graph
   emptied_keeps slot None valid = few
-  emptied_keeps slot (Some p) valid = with_pin_keeps threads graph thread slot None least most valid few
+  emptied_keeps slot (Some pinned) valid = with_pin_keeps threads graph thread slot None least most valid few
 
   pinned_keep : (slot place : ℕ) (reference : Reference) → is_slot slot ≡ true → HasNoMorePins threads (with_pinned graph thread slot reference place)
   pinned_keep slot place None valid = few
   pinned_keep slot place (Some n) valid = with_pin_keeps threads graph thread slot (Some (record { name = n; place = place })) least most valid few
 
   -- so after each reply
-  reply_keep : (command : Command) (r : Reply) → is_valid command ≡ true → HasNoMorePins threads (after_reply graph thread command r)
+  reply_keep : (command : Command) (answer : Reply) → is_valid command ≡ true → HasNoMorePins threads (after_reply graph thread command answer)
   reply_keep (Pin slot obj) (reply.At place) valid = pinned_keep slot place (pinned_by graph thread (Pin slot obj)) (and_parts _ _ valid).0
   reply_keep (Pin slot obj) _ valid = few
-  reply_keep (Unpin slot) r valid = emptied_keeps slot (graph.pin thread slot) valid
-  reply_keep (New dst refs nums) r valid = few
-  reply_keep (Get dst src field) r valid = same_pins (outcome graph thread (Get dst src field)).graph (on_pins (field_at graph thread src field) graph (λ v. answers (shown v) (with_root graph thread dst v)) (λ v. refl))
-  reply_keep (Set obj field val) r valid = same_pins (outcome graph thread (Set obj field val)).graph
+  reply_keep (Unpin slot) answer valid = emptied_keeps slot (graph.pin thread slot) valid
+  reply_keep (New dst refs nums) answer valid = few
+  reply_keep (Get dst src field) answer valid = same_pins (outcome graph thread (Get dst src field)).graph (on_pins (field_at graph thread src field) graph (λ v. answers (shown v) (with_root graph thread dst v)) (λ v. refl))
+  reply_keep (Set obj field val) answer valid = same_pins (outcome graph thread (Set obj field val)).graph
       (on_pins (field_at graph thread obj field) graph (λ v. answers reply.Ok (with_field graph thread obj field (graph.root thread val))) (λ v. field_pins graph thread obj field (graph.root thread val)))
-  reply_keep (Cas obj field expect val) r valid =
+  reply_keep (Cas obj field expect val) answer valid =
       let one = answers reply.Yes (with_field graph thread obj field (graph.root thread val)) in
       let other = answers reply.No graph in
       same_pins (outcome graph thread (Cas obj field expect val)).graph
       (on_pins (field_at graph thread obj field) graph (λ v. if same_reference v (graph.root thread expect) then one else other)
       (λ v. either_pins (same_reference v (graph.root thread expect)) one other graph (field_pins graph thread obj field (graph.root thread val)) refl))
-  reply_keep (Xchg dst obj field val) r valid = same_pins (outcome graph thread (Xchg dst obj field val)).graph
+  reply_keep (Xchg dst obj field val) answer valid = same_pins (outcome graph thread (Xchg dst obj field val)).graph
       (on_pins (field_at graph thread obj field) graph (λ v. answers (shown v) (with_root (with_field graph thread obj field (graph.root thread val)) thread dst v)) (λ v. field_pins graph thread obj field (graph.root thread val)))
-  reply_keep (Rd obj index) r valid = same_pins (outcome graph thread (Rd obj index)).graph (on_pins (number_at graph thread obj index) graph (λ n. answers (reply.Number n) graph) (λ n. refl))
-  reply_keep (Wr obj index value) r valid = same_pins (outcome graph thread (Wr obj index value)).graph
+  reply_keep (Rd obj index) answer valid = same_pins (outcome graph thread (Rd obj index)).graph (on_pins (number_at graph thread obj index) graph (λ n. answers (reply.Number n) graph) (λ n. refl))
+  reply_keep (Wr obj index value) answer valid = same_pins (outcome graph thread (Wr obj index value)).graph
       (on_pins (number_at graph thread obj index) graph (λ v. answers reply.Ok (with_number graph thread obj index value)) (λ v. number_pins graph thread obj index value))
-  reply_keep _ r valid = few
+  reply_keep _ answer valid = few
 
 -- and each settled entry
 entry_keep : (threads : ℕ) (graph : Graph) (entry : Entry) → IsSettled threads entry → HasNoMorePins threads graph → HasNoMorePins threads (after_entry graph entry)
-entry_keep threads graph entry settled few = by_full (is_full entry.reply)
+entry_keep threads graph entry settled has_no_more_pins = by_full (is_full entry.reply)
   where
     by_full : (holds : Bool) → HasNoMorePins threads (if holds then graph else after_reply graph entry.thread entry.command entry.reply)
-    by_full true = few
-    by_full false = reply_keep threads entry.thread settled.least settled.most graph few entry.command entry.reply (and_parts (is_valid entry.command) (fits_value entry.command) settled.valid).0
+    by_full true = has_no_more_pins
+    by_full false = reply_keep threads entry.thread settled.least settled.most graph has_no_more_pins entry.command entry.reply (and_parts (is_valid entry.command) (fits_value entry.command) settled.valid).0
 
-pub no_more_pins_after : (threads : ℕ) (graph : Graph) (es : List Entry) → All (IsSettled threads) es → HasNoMorePins threads graph → HasNoMorePins threads (after graph es)
-no_more_pins_after threads graph [] each few = few
-no_more_pins_after threads graph (e ∷ es) each few =
-    no_more_pins_after threads (after_entry graph e) es (All-tail (IsSettled threads) e es each) (entry_keep threads graph e (All-head (IsSettled threads) e es each) few)
+pub no_more_pins_after : (threads : ℕ) (graph : Graph) (entries : List Entry) → All (IsSettled threads) entries → HasNoMorePins threads graph → HasNoMorePins threads (after graph entries)
+no_more_pins_after threads graph [] each has_no_more_pins = has_no_more_pins
+no_more_pins_after threads graph (entry ∷ entries) each has_no_more_pins =
+    no_more_pins_after threads (after_entry graph entry) entries (All-tail (IsSettled threads) entry entries each) (entry_keep threads graph entry (All-head (IsSettled threads) entry entries each) has_no_more_pins)

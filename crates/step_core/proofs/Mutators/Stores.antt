@@ -28,7 +28,7 @@ use Rattle.mutator.specs.Rows.{Mutating, touch_of, next_of, given_at, overwritte
 use Rattle.mutator.specs.Told.{told_of}
 use Rattle.heap_world.specs.World.{World, Points, TargetIn, IsThing, IsCovered, IsCurrent, Shared}
 use Rattle.step_core.proofs.Machines.Stepped.{IsRootWord, HasObject, NameTheSame, IsCas, IsXchg, Mine, Stepped, Row}
-use Rattle.heap_world.proofs.Updates.{updated}
+use Rattle.heap_world.proofs.FunctionUpdates.{updated}
 use Rattle.heap_world.proofs.Updated.{usable_current}
 use Rattle.step_core.proofs.Machines.Ready.{leaving}
 use Rattle.step_core.proofs.Machines.Naming.{object_in, field_in, number_in, one_reference, shown_is}
@@ -76,20 +76,20 @@ module _ (graph : Graph) (thread obj : ℕ) (name : Name) (object : Object) (roo
 
 -- A step that stores into an object and settles a reply. The object of its name is another then, the one that its words
 -- say, and roots of the mutator may be others.
-module _ (config : Config) (world : World) (mutator : Mutating) (object refs nums at value : ℕ) (name : Name) (o : Object) (root : ℕ → ℕ → Reference) (command : Command) (fixed : Option Reply) (r : Reply) where
+module _ (config : Config) (world : World) (mutator : Mutating) (object refs nums at value : ℕ) (name : Name) (o : Object) (root : ℕ → ℕ → Reference) (command : Command) (fixed : Option Reply) (answer : Reply) where
   -- the step is as it should be
-  store_settles : touched world.memory (touch_of config mutator Nothing) ≡ write world.memory (Heap at) value → told_of world.memory mutator ≡ Some r → given_at mutator.spot ≡ None → fixed ≡ None → is_full r ≡ false → pinned_by world.graph (mutator.seat + 1) command ≡ None
-      → Shared config world → TargetIn config world object refs nums name → object + 3 ≤ at → at < object + (3 + refs + nums) → ((i : ℕ) → i < refs → at ≡ object + 3 + i → IsCovered config world object i) → ((i : ℕ) → i < refs → at ≡ object + 3 + i → IsCurrent world.block value)
-      → IsThing (updated (λ a. world.memory (Heap a)) at value) world.block object refs nums name o
-      → outcome world.graph (mutator.seat + 1) command ≡ answers r (changed world.graph name o root)
-      → ((seat i : ℕ) → seat ≢ mutator.seat → root (seat + 1) i ≡ world.graph.root (seat + 1) i)
-      → Mine config (stored world at value (changed world.graph name o root)) (next_of config mutator Nothing (world.memory (touch_of config mutator Nothing).word)) command (Some r)
+  store_settles : touched world.memory (touch_of config mutator Nothing) ≡ write world.memory (Heap at) value → told_of world.memory mutator ≡ Some answer → given_at mutator.spot ≡ None → fixed ≡ None → is_full answer ≡ false → pinned_by world.graph (mutator.seat + 1) command ≡ None
+      → Shared config world → TargetIn config world object refs nums name → object + 3 ≤ at → at < object + (3 + refs + nums) → ((index : ℕ) → index < refs → at ≡ object + 3 + index → IsCovered config world object index) → ((index : ℕ) → index < refs → at ≡ object + 3 + index → IsCurrent world.block value)
+      → IsThing (updated (λ address. world.memory (Heap address)) at value) world.block object refs nums name o
+      → outcome world.graph (mutator.seat + 1) command ≡ answers answer (changed world.graph name o root)
+      → ((seat index : ℕ) → seat ≢ mutator.seat → root (seat + 1) index ≡ world.graph.root (seat + 1) index)
+      → Mine config (stored world at value (changed world.graph name o root)) (next_of config mutator Nothing (world.memory (touch_of config mutator Nothing).word)) command (Some answer)
       → Stepped config world mutator command Nothing fixed
   store_settles memory told given unsettled other none shared target behind to_end covered current is answered roots mine = record {
     world = stored world at value (changed world.graph name o root);
     memory = sym memory;
-    graph = rw told (sym (graph_answer world.graph mutator.seat command r other none ∙ ap (λ x. x.graph) answered));
-    legal = rw told (legal_answer config world.graph mutator.seat command r other none (ap (λ x. x.reply) answered));
+    graph = rw told (sym (graph_answer world.graph mutator.seat command answer other none ∙ ap (λ x. x.graph) answered));
+    legal = rw told (legal_answer config world.graph mutator.seat command answer other none (ap (λ x. x.reply) answered));
     settles = λ q e. (unsettled, given);
     shared = shared_stored config world object refs nums at value name o root shared target (omega (arith, behind)) to_end covered current is;
     mine = rw told mine;
@@ -107,8 +107,8 @@ module _ (config : Config) (world : World) (mutator : Mutating) (object field va
   world_then = stored world (object + 3 + field) value (changed world.graph of.name object_then root)
 
   -- the words are those of the object
-  object_stands : IsThing (updated (λ a. world.memory (Heap a)) (object + 3 + field) value) world.block object of.refs of.nums of.name object_then
-  object_stands = field_stored (λ a. world.memory (Heap a)) world.block object of.refs of.nums of.name _ (object_in config world shared mutator.seat obj object of).2 field value (world.graph.root (mutator.seat + 1) val) below value_is.stands
+  object_stands : IsThing (updated (λ address. world.memory (Heap address)) (object + 3 + field) value) world.block object of.refs of.nums of.name object_then
+  object_stands = field_stored (λ address. world.memory (Heap address)) world.block object of.refs of.nums of.name _ (object_in config world shared mutator.seat obj object of).2 field value (world.graph.root (mutator.seat + 1) val) below value_is.stands
 
   -- marking needs the field no more, which is the only one that is stored
   covered_then : (i : ℕ) → i < of.refs → object + 3 + field ≡ object + 3 + i → IsCovered config world object i
@@ -123,14 +123,14 @@ module _ (config : Config) (world : World) (mutator : Mutating) (object field va
   shared_then = shared_stored config world object of.refs of.nums (object + 3 + field) value of.name object_then root shared of.target (omega arith) (omega arith) covered_then current_then object_stands
 
   -- the step is as it should be
-  field_settles : (command : Command) (fixed : Option Reply) (r : Reply)
-      → touched world.memory (touch_of config mutator Nothing) ≡ write world.memory (Heap (object + 3 + field)) value → told_of world.memory mutator ≡ Some r → given_at mutator.spot ≡ None → fixed ≡ None → is_full r ≡ false → pinned_by world.graph (mutator.seat + 1) command ≡ None
-      → outcome world.graph (mutator.seat + 1) command ≡ answers r (changed world.graph of.name object_then root)
-      → ((seat i : ℕ) → seat ≢ mutator.seat → root (seat + 1) i ≡ world.graph.root (seat + 1) i)
-      → Mine config world_then (next_of config mutator Nothing (world.memory (touch_of config mutator Nothing).word)) command (Some r)
+  field_settles : (command : Command) (fixed : Option Reply) (answer : Reply)
+      → touched world.memory (touch_of config mutator Nothing) ≡ write world.memory (Heap (object + 3 + field)) value → told_of world.memory mutator ≡ Some answer → given_at mutator.spot ≡ None → fixed ≡ None → is_full answer ≡ false → pinned_by world.graph (mutator.seat + 1) command ≡ None
+      → outcome world.graph (mutator.seat + 1) command ≡ answers answer (changed world.graph of.name object_then root)
+      → ((seat index : ℕ) → seat ≢ mutator.seat → root (seat + 1) index ≡ world.graph.root (seat + 1) index)
+      → Mine config world_then (next_of config mutator Nothing (world.memory (touch_of config mutator Nothing).word)) command (Some answer)
       → Stepped config world mutator command Nothing fixed
-  field_settles command fixed r memory told given unsettled other none answered roots mine =
-      store_settles config world mutator object of.refs of.nums (object + 3 + field) value of.name object_then root command fixed r memory told given unsettled other none shared of.target (omega arith) (omega arith) covered_then current_then object_stands answered roots mine
+  field_settles command fixed answer memory told given unsettled other none answered roots mine =
+      store_settles config world mutator object of.refs of.nums (object + 3 + field) value of.name object_then root command fixed answer memory told given unsettled other none shared of.target (omega arith) (omega arith) covered_then current_then object_stands answered roots mine
 
 module _ (config : Config) (world : World) (seat made : ℕ) (kept : Kept) (command : Command) (fixed : Option Reply) where
   abbrev at_spot : Spot → Mutating
@@ -161,10 +161,10 @@ module _ (config : Config) (world : World) (seat made : ℕ) (kept : Kept) (comm
 
   -- The swap of a field settles the reference that it had. In a world in which marking needs the field no more:
   swap_settles : (world : World) (object value : ℕ) → (shared : Shared config world) → fixed ≡ None → (is : IsXchg config world seat command object field value dst) → (covered : IsCovered config world object field)
-      → ((v : Reference) → Points world.block (world.memory (Heap (object + 3 + field))) v → let root : ℕ → ℕ → Reference = (with_root world.graph (seat + 1) dst v).root in
+      → ((reference : Reference) → Points world.block (world.memory (Heap (object + 3 + field))) reference → let root : ℕ → ℕ → Reference = (with_root world.graph (seat + 1) dst reference).root in
       Shared config (world_then config world (at_spot (OnField object (fields.Swap value))) object field value is.obj is.val shared is.of is.below is.value_is covered root)
       → Mine config (world_then config world (at_spot (OnField object (fields.Swap value))) object field value is.obj is.val shared is.of is.below is.value_is covered root)
-      (at_spot (after_swap config kept.phase kept.cset (world.memory (Heap (object + 3 + field))))) command (Some (shown v)))
+      (at_spot (after_swap config kept.phase kept.cset (world.memory (Heap (object + 3 + field))))) command (Some (shown reference)))
       → Stepped config world (at_spot (OnField object (fields.Swap value))) command Nothing fixed
   swap_settles world object value shared unsettled is covered mine =
       let o = object_in config world shared seat is.obj object is.of in
@@ -174,7 +174,7 @@ module _ (config : Config) (world : World) (seat made : ℕ) (kept : Kept) (comm
       let answered = xchg_outcome world.graph (seat + 1) is.obj is.of.name o.0 is.of.root_is o.1 dst field is.val v.0 v.1 in
       field_settles config world (at_spot (OnField object (fields.Swap value))) object field value is.obj is.val shared is.of is.below is.value_is covered root command fixed (shown v.0)
       refl (ap (λ x. Some x) (shown_is config world shared got v.0 v.2)) refl unsettled (shown_not_full v.0) (ap (pinned_by world.graph (seat + 1)) is.is) (ap (λ k. outcome world.graph (seat + 1) k) is.is ∙ answered)
-      (λ j i d. cond-false ((j + 1 == seat + 1) && (i == dst)) v.0 (world.graph.root (j + 1) i) (grind (arith, nat_tests)))
+      (λ j index d. cond-false ((j + 1 == seat + 1) && (index == dst)) v.0 (world.graph.root (j + 1) index) (grind (arith, nat_tests)))
       (mine v.0 v.2 (shared_then config world (at_spot (OnField object (fields.Swap value))) object field value is.obj is.val shared is.of is.below is.value_is covered root))
 
   -- with the reference in hand, where it is to be recorded
@@ -183,21 +183,21 @@ module _ (config : Config) (world : World) (seat made : ℕ) (kept : Kept) (comm
   swap_field object value shared mine (Overwrites.leaves other covered) =
       let got : ℕ = world.memory (Heap (object + 3 + field)) in
       swap_settles world object value shared mine.facts.0 mine.facts.1 covered
-      (λ v stands shared_now. rw other
-      (found_mine config _ seat made kept command shared_now mine.seated mine.marking mine.copying mine.rooms got v mine.facts.1.small (roots_then world.block (λ i. world.memory (Root seat i)) world.graph.root (seat + 1) dst got v mine.roots stands) stands))
+      (λ reference stands shared_now. rw other
+      (found_mine config _ seat made kept command shared_now mine.seated mine.marking mine.copying mine.rooms got reference mine.facts.1.small (roots_then world.block (λ index. world.memory (Root seat index)) world.graph.root (seat + 1) dst got reference mine.roots stands) stands))
   swap_field object value shared mine (Overwrites.takes records held covered) =
       let got : ℕ = world.memory (Heap (object + 3 + field)) in
       stepped_in_hand config world (at_spot (OnField object (fields.Swap value))) got command fixed held
       (swap_settles (with_in_hand world seat got) object value held.shared mine.facts.0 (xchg_stays config world (with_in_hand world seat got) seat held.keeps command object field value dst mine.facts.1) covered
       (λ v stands shared_now.
-      let named = named_if_not_0 config (λ r. world.memory (Top r)) world.block shared.parsable.plotted got v stands (recorded_some kept.phase got records).1 in
+      let named = named_if_not_0 config (λ region. world.memory (Top region)) world.block shared.parsable.plotted got v stands (recorded_some kept.phase got records).1 in
       let can = can_stored config (with_in_hand world seat got) seat got (object + 3 + field) value _ held.own in
       rw records (record {
         seated = mine.seated;
         ready = record_ready config _ seat made kept LoadCount got overwrites.Xchg refl shared_now can;
         marking = record { records = held.own.recording; scans = held.own.scanning; phase_is = mine.marking.phase_is };
         copying = mine.copying;
-        roots = roots_then world.block (λ i. world.memory (Root seat i)) world.graph.root (seat + 1) dst got v mine.roots stands;
+        roots = roots_then world.block (λ index. world.memory (Root seat index)) world.graph.root (seat + 1) dst got v mine.roots stands;
         rooms = mine.rooms;
         facts = (can, record { name = named.0; settled = ap (λ r. Some (shown r)) named.1; is = named.2; small = mine.facts.1.small });
       })))
@@ -272,7 +272,7 @@ module _ (config : Config) (world : World) (seat made : ℕ) (kept : Kept) (comm
       rooms = mine.rooms;
       facts = (mine.facts.0, mine.facts.1);
     });
-    others = λ j d. rely_same config j world;
+    others = λ seat d. rely_same config seat world;
   }
 
   -- the exchange of a field settles Yes where it has the word that was found
@@ -290,10 +290,10 @@ module _ (config : Config) (world : World) (seat made : ℕ) (kept : Kept) (comm
       let is = mine.facts.1 in
       let o = object_in config world shared seat is.obj object is.of in
       let at = object + 3 + refs + index in
-      let stands = number_stored (λ a. world.memory (Heap a)) world.block object is.of.refs is.of.nums is.of.name o.0 o.2 index value is.below in
+      let stands = number_stored (λ address. world.memory (Heap address)) world.block object is.of.refs is.of.nums is.of.name o.0 o.2 index value is.below in
       let answered = wr_outcome world.graph (seat + 1) is.obj is.of.name o.0 is.of.root_is o.1 index value _ (number_in config world shared seat is.obj object index is.of is.below) in
       store_settles config world (at_spot (OnNumber object refs numbers.Store)) object is.of.refs is.of.nums at value is.of.name (with_value o.0 index value) world.graph.root command fixed reply.Ok
       refl refl refl mine.facts.0 refl (ap (pinned_by world.graph (seat + 1)) is.is) shared is.of.target (omega arith) (omega (arith, is.below, is.refs_are)) (λ i small same. absurd (let refs_are = is.refs_are in omega (arith, small, same, refs_are))) (λ i small same. absurd (let refs_are = is.refs_are in omega (arith, small, same, refs_are)))
-      (subst (λ (x : ℕ). IsThing (updated (λ a. world.memory (Heap a)) (object + 3 + x + index) value) world.block object is.of.refs is.of.nums is.of.name (with_value o.0 index value)) (sym is.refs_are) stands)
+      (subst (λ (x : ℕ). IsThing (updated (λ address. world.memory (Heap address)) (object + 3 + x + index) value) world.block object is.of.refs is.of.nums is.of.name (with_value o.0 index value)) (sym is.refs_are) stands)
       (ap (λ k. outcome world.graph (seat + 1) k) is.is ∙ answered) (λ j i d. refl)
       (leaving config _ seat made kept command reply.Ok mine.seated (mine.marking.records, mine.marking.scans, mine.copying.copies_is, mine.copying.works_none) mine.roots mine.rooms)

@@ -77,52 +77,52 @@ module _ (config : Config) (world : World) (seat made : ℕ) (kept : Kept) (comm
     }
 
     -- what it counts on of marking at another spot
-    marking_at : (next : TakeSpot) (w : World) (knows : Bool) → Keeps config seat world w → CanTake config w seat words next → HasMarkingBy w seat None kept.phase knows
-    marking_at next w knows keeps can = record { records = can.records_none; scans = can.scans_none; phase_is = λ on. mine.marking.phase_is refl ∙ sym keeps.marks.phase }
+    marking_at : (next : TakeSpot) (next_world : World) (knows : Bool) → Keeps config seat world next_world → CanTake config next_world seat words next → HasMarkingBy next_world seat None kept.phase knows
+    marking_at next next_world knows keeps can = record { records = can.records_none; scans = can.scans_none; phase_is = λ on. mine.marking.phase_is refl ∙ sym keeps.marks.phase }
 
     -- and of evacuation
-    copying_at : (w : World) (knows : Bool) → Keeps config seat world w → SameWork world w seat → HasCopyingBy w seat false kept.cset knows
-    copying_at w knows keeps work = record {
+    copying_at : (next_world : World) (knows : Bool) → Keeps config seat world next_world → SameWork world next_world seat → HasCopyingBy next_world seat false kept.cset knows
+    copying_at next_world knows keeps work = record {
       copies_is = work.copying ∙ mine.copying.copies_is;
       works_none = work.working ∙ mine.copying.works_none;
       set_is = λ on. mine.copying.set_is refl ∙ sym keeps.copies.cset;
     }
 
     -- what it counts on at another spot of the taking
-    mine_at : (next : TakeSpot) (w : World) → is_going next ≡ true → Keeps config seat world w → SameWork world w seat → CanTake config w seat words next
-        → Mine config w (at_spot (Making (make.Taking next))) command fixed
-    mine_at next w going keeps work can = record {
-      seated = seated_stays config world w seat keeps made false mine.seated;
+    mine_at : (next : TakeSpot) (next_world : World) → is_going next ≡ true → Keeps config seat world next_world → SameWork world next_world seat → CanTake config next_world seat words next
+        → Mine config next_world (at_spot (Making (make.Taking next))) command fixed
+    mine_at next next_world going keeps work can = record {
+      seated = seated_stays config world next_world seat keeps made false mine.seated;
       ready = (let both = and_parts _ _ can.ready in taking_ready config seat made kept command fixed mine.facts.0 next both.0 going both.1);
-      marking = marking_at next w true keeps can;
-      copying = copying_at w true keeps work;
-      roots = λ i below. rw (keeps.root_words i) (root_stays config world w seat keeps _ i (mine.roots i below));
+      marking = marking_at next next_world true keeps can;
+      copying = copying_at next_world true keeps work;
+      roots = λ i below. rw (keeps.root_words i) (root_stays config world next_world seat keeps _ i (mine.roots i below));
       rooms = can.rooms;
       facts = (mine.facts.0, can.facts);
     }
 
     -- what it counts on after a step of the taking: with room in hand it goes on with the object's words, and without room it asks
     -- for the object
-    mine_then : (next : TakeSpot) (w : World) → Shared config w → Keeps config seat world w → SameWork world w seat → CanTake config w seat words next → Mine config w (at_spot (after_take next)) command fixed
-    mine_then (Ended NoRoom end) w shared keeps work can = record {
-      seated = seated_waiting config w seat made false (seated_stays config world w seat keeps made false mine.seated);
+    mine_then : (next : TakeSpot) (next_world : World) → Shared config next_world → Keeps config seat world next_world → SameWork world next_world seat → CanTake config next_world seat words next → Mine config next_world (at_spot (after_take next)) command fixed
+    mine_then (Ended NoRoom end) next_world shared keeps work can = record {
+      seated = seated_waiting config next_world seat made false (seated_stays config world next_world seat keeps made false mine.seated);
       ready = request_ready config seat made kept command fixed mine.facts.0 mine.seated.below;
-      marking = marking_at (Ended NoRoom end) w false keeps can;
-      copying = copying_at w false keeps work;
-      roots = λ i below. rw (keeps.root_words i) (root_stays config world w seat keeps _ i (mine.roots i below));
+      marking = marking_at (Ended NoRoom end) next_world false keeps can;
+      copying = copying_at next_world false keeps work;
+      roots = λ i below. rw (keeps.root_words i) (root_stays config world next_world seat keeps _ i (mine.roots i below));
       rooms = can.rooms;
-      facts = (mine.facts.0, asked_stays config world w seat keeps nothing (mine.seated.unasked refl));
+      facts = (mine.facts.0, asked_stays config world next_world seat keeps nothing (mine.seated.unasked refl));
     }
-    mine_then (Ended (At address) end) w shared keeps work can = record {
-      seated = seated_stays config world w seat keeps made false mine.seated;
-      ready = word_ready config seat made kept command fixed mine.facts.0 (λ r. w.memory (Top r)) w.block shared.parsable.plotted address can.facts.here mine.seated.below 0 (omega arith);
-      marking = marking_at (Ended (At address) end) w true keeps can;
-      copying = copying_at w true keeps work;
-      roots = λ i below. rw (keeps.root_words i) (root_stays config world w seat keeps _ i (mine.roots i below));
+    mine_then (Ended (At address) end) next_world shared keeps work can = record {
+      seated = seated_stays config world next_world seat keeps made false mine.seated;
+      ready = word_ready config seat made kept command fixed mine.facts.0 (λ region. next_world.memory (Top region)) next_world.block shared.parsable.plotted address can.facts.here mine.seated.below 0 (omega arith);
+      marking = marking_at (Ended (At address) end) next_world true keeps can;
+      copying = copying_at next_world true keeps work;
+      roots = λ i below. rw (keeps.root_words i) (root_stays config world next_world seat keeps _ i (mine.roots i below));
       rooms = can.rooms;
       facts = (mine.facts.0, record { room = can.facts.here; within = omega arith; stored = λ k below. absurd (omega arith) }, omega arith);
     }
-    mine_then next w shared keeps work can = mine_at next w refl keeps work can
+    mine_then next next_world shared keeps work can = mine_at next next_world refl keeps work can
 
     -- the step of the taking is a step of the mutator
     lifted : TakeStep config world seat words Fresh take → Stepped config world (at_spot (Making (make.Taking take))) command Nothing fixed

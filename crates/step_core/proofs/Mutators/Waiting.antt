@@ -35,7 +35,7 @@ use Rattle.step_core.proofs.Mutators.FreshRoot.{taken_made, usable_made, HasNew,
 
 module _ (config : Config) (world : World) (seat made : ℕ) (kept : Kept) (command : Command) (fixed : Option Reply) where
   abbrev at_spot : WaitSpot → Mutating
-  at_spot at = mutator_at seat made kept (Waiting at)
+  at_spot spot = mutator_at seat made kept (Waiting spot)
 
   -- how many references the command's object has
   abbrev refs : ℕ
@@ -75,7 +75,7 @@ module _ (config : Config) (world : World) (seat made : ℕ) (kept : Kept) (comm
         ),
       );
     };
-    others = λ j d. let marks = marks_in config world (accessed config world (at_spot wait.StoreRequest)).memory world.graph j refl (λ n. refl) (λ t. refl) (λ t k. refl) (λ a. refl) in let copies = copies_in config world (accessed config world (at_spot wait.StoreRequest)).memory world.graph j refl refl (λ r. refl) (λ a. refl) in let kept_fields = fields_in config world (accessed config world (at_spot wait.StoreRequest)).memory world.graph (λ r. refl) (λ r. refl) refl (λ a. refl) in search (arith, nat_tests, marks, copies, kept_fields);
+    others = λ seat d. let marks = marks_in config world (accessed config world (at_spot wait.StoreRequest)).memory world.graph seat refl (λ n. refl) (λ t. refl) (λ t k. refl) (λ a. refl) in let copies = copies_in config world (accessed config world (at_spot wait.StoreRequest)).memory world.graph seat refl refl (λ r. refl) (λ a. refl) in let kept_fields = fields_in config world (accessed config world (at_spot wait.StoreRequest)).memory world.graph (λ r. refl) (λ r. refl) refl (λ a. refl) in search (arith, nat_tests, marks, copies, kept_fields);
   }
 
   -- the word by which it asks for a pause is no word that its facts speak of
@@ -130,7 +130,7 @@ module _ (config : Config) (world : World) (seat made : ℕ) (kept : Kept) (comm
       rooms = mine.rooms;
       facts = inl (heard_stays config world (accessed config world (at_spot wait.StepOut)) seat (state_keeps config world seat seat 0) (λ is. is) made kept.command command fixed mine.facts);
     };
-    others = λ j d. let marks = marks_in config world (accessed config world (at_spot wait.StepOut)).memory world.graph j refl (λ n. refl) (λ t. refl) (λ t k. refl) (λ a. refl) in let copies = copies_in config world (accessed config world (at_spot wait.StepOut)).memory world.graph j refl refl (λ r. refl) (λ a. refl) in let kept_fields = fields_in config world (accessed config world (at_spot wait.StepOut)).memory world.graph (λ r. refl) (λ r. refl) refl (λ a. refl) in search (arith, nat_tests, marks, copies, kept_fields);
+    others = λ seat d. let marks = marks_in config world (accessed config world (at_spot wait.StepOut)).memory world.graph seat refl (λ n. refl) (λ t. refl) (λ t k. refl) (λ a. refl) in let copies = copies_in config world (accessed config world (at_spot wait.StepOut)).memory world.graph seat refl refl (λ r. refl) (λ a. refl) in let kept_fields = fields_in config world (accessed config world (at_spot wait.StepOut)).memory world.graph (λ r. refl) (λ r. refl) refl (λ a. refl) in search (arith, nat_tests, marks, copies, kept_fields);
   }
 
   -- What it finds where it polls: its word as it counts, or 0, where the control has not stored the word yet. It goes on with an
@@ -186,7 +186,7 @@ module _ (config : Config) (world : World) (seat made : ℕ) (kept : Kept) (comm
       by_full false other = ⊎_elim
           (λ given. record {
             seated = mine.seated;
-            ready = given_ready config seat made kept command fixed given.0 (λ r. world.memory (Top r)) world.block (world.memory (Answer seat)) shared.parsable.plotted given.1.2.here mine.seated.below;
+            ready = given_ready config seat made kept command fixed given.0 (λ region. world.memory (Top region)) world.block (world.memory (Answer seat)) shared.parsable.plotted given.1.2.here mine.seated.below;
             marking = mine.marking;
             copying = mine.copying;
             roots = mine.roots;
@@ -199,7 +199,7 @@ module _ (config : Config) (world : World) (seat made : ℕ) (kept : Kept) (comm
   module _ (address : ℕ) (shared : Shared config world) (mine : Mine config world (at_spot (wait.StoreRoot address)) command fixed) where
     -- the object that was promised stands at the address
     promise : IsPromise world.memory world.block world.graph.count seat refs nums address
-    promise = subst (λ a. IsPromise world.memory world.block world.graph.count seat refs nums a) mine.facts.1 mine.facts.0.1.2
+    promise = subst (λ address. IsPromise world.memory world.block world.graph.count seat refs nums address) mine.facts.1 mine.facts.0.1.2
 
     -- it has all its words
     has : HasNew config world seat made command kept.command fixed address
@@ -232,7 +232,7 @@ module _ (config : Config) (world : World) (seat made : ℕ) (kept : Kept) (comm
         refl,
         mine.facts.0.1.0,
         λ a words is. let old = promise_before has a seat words is in old.0 (promise.only a words old.1),
-        (refs, nums, subst (λ a. TargetIn config (made_world has) a refs nums (next_name seat made)) (sym mine.facts.1) (taken_made has)),
+        (refs, nums, subst (λ address. TargetIn config (made_world has) address refs nums (next_name seat made)) (sym mine.facts.1) (taken_made has)),
         record { dst = dst_of kept.command; refs = refs; nums = nums; is = mine.facts.0.0.is },
       );
     }
@@ -251,7 +251,7 @@ module _ (config : Config) (world : World) (seat made : ℕ) (kept : Kept) (comm
   }
 
   -- the step that takes the answer away
-  pub at_clear_answer : (r : Reply) → Row config world (at_spot (wait.ClearAnswer r)) command fixed
+  pub at_clear_answer : (answer : Reply) → Row config world (at_spot (wait.ClearAnswer answer)) command fixed
   at_clear_answer r shared mine = record {
     world = accessed config world (at_spot (wait.ClearAnswer r));
     memory = refl;
@@ -263,11 +263,11 @@ module _ (config : Config) (world : World) (seat made : ℕ) (kept : Kept) (comm
         (leaving config (accessed config world (at_spot (wait.ClearAnswer r))) seat made kept command r
         (record { below = mine.seated.below; counted = mine.seated.counted; usable = mine.seated.usable; unasked = λ calm. (mine.facts.1, cond-true (seat == seat) _ _ (eq-eqb seat seat refl), mine.facts.2) })
         (mine.marking.records, mine.marking.scans, mine.copying.copies_is, mine.copying.works_none) mine.roots mine.rooms);
-    others = λ j d. let marks = marks_in config world (accessed config world (at_spot (wait.ClearAnswer r))).memory world.graph j refl (λ n. refl) (λ t. refl) (λ t k. refl) (λ a. refl) in let copies = copies_in config world (accessed config world (at_spot (wait.ClearAnswer r))).memory world.graph j refl refl (λ r. refl) (λ a. refl) in let kept_fields = fields_in config world (accessed config world (at_spot (wait.ClearAnswer r))).memory world.graph (λ r. refl) (λ r. refl) refl (λ a. refl) in search (arith, nat_tests, marks, copies, kept_fields);
+    others = λ seat d. let marks = marks_in config world (accessed config world (at_spot (wait.ClearAnswer r))).memory world.graph seat refl (λ n. refl) (λ t. refl) (λ t k. refl) (λ a. refl) in let copies = copies_in config world (accessed config world (at_spot (wait.ClearAnswer r))).memory world.graph seat refl refl (λ r. refl) (λ a. refl) in let kept_fields = fields_in config world (accessed config world (at_spot (wait.ClearAnswer r))).memory world.graph (λ r. refl) (λ r. refl) refl (λ a. refl) in search (arith, nat_tests, marks, copies, kept_fields);
   }
 
   -- by the spot, but for the polling
-  pub each_wait : (at : WaitSpot) → (at ≡ wait.Poll → world.memory (Answer seat) ≡ 1 → fixed ≡ Some reply.Full) → Row config world (at_spot at) command fixed
+  pub each_wait : (spot : WaitSpot) → (spot ≡ wait.Poll → world.memory (Answer seat) ≡ 1 → fixed ≡ Some reply.Full) → Row config world (at_spot spot) command fixed
   each_wait wait.StoreRequest told = at_store_request
   each_wait wait.AskRoom told = at_ask_room
   each_wait wait.StepOut told = at_step_out

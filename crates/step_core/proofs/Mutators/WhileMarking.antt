@@ -19,7 +19,7 @@ abbrev pub world_with : World → (Word → ℕ) → Graph → World
 world_with world memory graph = record { memory = memory; block = world.block; ghost = world.ghost; graph = graph }
 
 -- nothing of marking changes where none of its words does, and no word of the heap
-pub marks_in : (config : Config) (world : World) (memory : Word → ℕ) (graph : Graph) (seat : ℕ) → memory Phase ≡ world.memory Phase → ((n : ℕ) → memory (Grey n) ≡ world.memory (Grey n)) → ((mutator : ℕ) → memory (Count mutator) ≡ world.memory (Count mutator))
+pub marks_in : (config : Config) (world : World) (memory : Word → ℕ) (graph : Graph) (seat : ℕ) → memory Phase ≡ world.memory Phase → ((number : ℕ) → memory (Grey number) ≡ world.memory (Grey number)) → ((mutator : ℕ) → memory (Count mutator) ≡ world.memory (Count mutator))
     → ((mutator index : ℕ) → memory (Buffer mutator index) ≡ world.memory (Buffer mutator index)) → ((address : ℕ) → memory (Heap address) ≡ world.memory (Heap address)) → RelyMarks config seat world (world_with world memory graph)
 marks_in config world memory graph seat phase greys counts buffers heap =
     rely_marks config world (world_with world memory graph) seat phase greys counts buffers refl (λ mutator. refl) refl (λ address is. is) (λ address is. heap (address + 1))
@@ -36,30 +36,30 @@ pub fields_in : (config : Config) (world : World) (memory : Word → ℕ) (graph
 fields_in config world memory graph tams limits claim heap = fields_kept config world (world_with world memory graph) refl tams limits claim heap
 
 -- what a mutator counts on of marking stays while others step
-pub marking_relied : (config : Config) (world other_world : World) (seat : ℕ) (in_hand : Option ℕ) (loaded : ℕ) (knows : Bool) → RelyMarks config seat world other_world → HasMarkingBy world seat in_hand loaded knows → HasMarkingBy other_world seat in_hand loaded knows
-marking_relied config world other_world seat in_hand loaded knows marks marking = record {
+pub marking_relied : (config : Config) (world next_world : World) (seat : ℕ) (in_hand : Option ℕ) (loaded : ℕ) (knows : Bool) → RelyMarks config seat world next_world → HasMarkingBy world seat in_hand loaded knows → HasMarkingBy next_world seat in_hand loaded knows
+marking_relied config world next_world seat in_hand loaded knows marks marking = record {
   records = marks.recording ∙ marking.records;
   scans = marks.scanning ∙ marking.scans;
   phase_is = λ on. marking.phase_is on ∙ sym marks.keeps.phase;
 }
 
 -- and so does what it counts on of evacuation
-pub copying_relied : (config : Config) (world other_world : World) (seat : ℕ) (copies : Bool) (loaded : ℕ) (knows : Bool) → RelyCopies config seat world other_world → HasCopyingBy world seat copies loaded knows → HasCopyingBy other_world seat copies loaded knows
-copying_relied config world other_world seat copies loaded knows copied copying = record {
+pub copying_relied : (config : Config) (world next_world : World) (seat : ℕ) (copies : Bool) (loaded : ℕ) (knows : Bool) → RelyCopies config seat world next_world → HasCopyingBy world seat copies loaded knows → HasCopyingBy next_world seat copies loaded knows
+copying_relied config world next_world seat copies loaded knows copied copying = record {
   copies_is = copied.copying ∙ copying.copies_is;
   works_none = copied.working ∙ copying.works_none;
   set_is = λ on. copying.set_is on ∙ sym copied.keeps.cset;
 }
 
 -- a field that marking needs no more stays one
-done_stays : (config : Config) (world other_world : World) (a k : ℕ) → KeepsMarks config world other_world → NeedsNoMarking world.ghost.snapshot (NotedIn config world) a k → NeedsNoMarking other_world.ghost.snapshot (NotedIn config other_world) a k
-done_stays config world other_world a k marks is =
-    subst (λ s. NeedsNoMarking s (NotedIn config other_world) a k) (sym marks.snapshot) (⊎_elim (λ null. inl null) (λ noted. inr (marks.noted (was_at world.ghost.snapshot a k) noted)) is)
+done_stays : (config : Config) (world next_world : World) (a k : ℕ) → KeepsMarks config world next_world → NeedsNoMarking world.ghost.snapshot (NotedIn config world) a k → NeedsNoMarking next_world.ghost.snapshot (NotedIn config next_world) a k
+done_stays config world next_world a k marks is =
+    subst (λ s. NeedsNoMarking s (NotedIn config next_world) a k) (sym marks.snapshot) (⊎_elim (λ null. inl null) (λ noted. inr (marks.noted (was_at world.ghost.snapshot a k) noted)) is)
 
 -- so does what a Set counts on
-pub covered_stays : (config : Config) (world other_world : World) (address k : ℕ) → KeepsMarks config world other_world → IsCovered config world address k → IsCovered config other_world address k
-covered_stays config world other_world address k marks covered refs nums name is below =
-    done_stays config world other_world address k marks (covered refs nums name (ap (λ (snapshot : Snapshot). snapshot.block address) (sym marks.snapshot) ∙ is) below)
+pub covered_stays : (config : Config) (world next_world : World) (address k : ℕ) → KeepsMarks config world next_world → IsCovered config world address k → IsCovered config next_world address k
+covered_stays config world next_world address k marks covered refs nums name is below =
+    done_stays config world next_world address k marks (covered refs nums name (ap (λ (snapshot : Snapshot). snapshot.block address) (sym marks.snapshot) ∙ is) below)
 
 -- while nobody marks, marking needs no field
 pub covered_unmarked : (config : Config) (world : World) (address k : ℕ) → Shared config world → world.memory Phase ≢ 1 → IsCovered config world address k
@@ -68,16 +68,16 @@ covered_unmarked config world address k shared off refs nums name is below =
     absurd (cc (none))
 
 -- Marking needs a field no more where the reference that it has is null or noted.
-pub covered_found : (config : Config) (world other_world : World) (address k : ℕ) → Shared config world → KeepsMarks config world other_world → (world.memory (Heap (address + 3 + k)) ≡ 0) ⊎ NotedIn config other_world (world.memory (Heap (address + 3 + k))) → IsCovered config other_world address k
-covered_found config world other_world address k shared marks found refs nums name is below =
+pub covered_found : (config : Config) (world next_world : World) (address k : ℕ) → Shared config world → KeepsMarks config world next_world → (world.memory (Heap (address + 3 + k)) ≡ 0) ⊎ NotedIn config next_world (world.memory (Heap (address + 3 + k))) → IsCovered config next_world address k
+covered_found config world next_world address k shared marks found refs nums name is below =
     let was : world.ghost.snapshot.block address ≡ Some (thing name refs nums) = ap (λ (snapshot : Snapshot). snapshot.block address) (sym marks.snapshot) ∙ is in
     by_edge (shared.marked.traced.edges address refs nums k name was below)
   where
-    by_edge : IsTracedAt config world.ghost.snapshot (λ b. world.memory (Heap b)) (λ n. world.memory (Black n)) world.ghost.scanning (NotedIn config world) address k → NeedsNoMarking other_world.ghost.snapshot (NotedIn config other_world) address k
-    by_edge (IsTracedAt.done is_done) = done_stays config world other_world address k marks is_done
+    by_edge : IsTracedAt config world.ghost.snapshot (λ address. world.memory (Heap address)) (λ number. world.memory (Black number)) world.ghost.scanning (NotedIn config world) address k → NeedsNoMarking next_world.ghost.snapshot (NotedIn config next_world) address k
+    by_edge (IsTracedAt.done is_done) = done_stays config world next_world address k marks is_done
     by_edge (IsTracedAt.stands same scan) =
-        subst (λ s. NeedsNoMarking s (NotedIn config other_world) address k) (sym marks.snapshot)
-        (⊎_elim (λ null. inl (sym same ∙ null)) (λ noted. inr (subst (NotedIn config other_world) same noted)) found)
+        subst (λ s. NeedsNoMarking s (NotedIn config next_world) address k) (sym marks.snapshot)
+        (⊎_elim (λ null. inl (sym same ∙ null)) (λ noted. inr (subst (NotedIn config next_world) same noted)) found)
 
 -- the bit that a mutator waits stays where a cycle is asked for, and is there where a mutator has asked for room
 pub still_waits : (n : ℕ) → bit_at n 1 ≡ 1 → bit_at (bit_or n 1) 1 ≡ 1
@@ -88,12 +88,12 @@ now_waits n = bit_at_set_same w64 n 1 (omega arith)
 
 -- what is relied on twice
 marks_twice : (config : Config) (seat : ℕ) (u v w : World) → u.memory Phase ≡ 1 → RelyMarks config seat u v → RelyMarks config seat v w → RelyMarks config seat u w
-marks_twice config seat u v w marking first second = record {
+marks_twice config seat world other_world next_world marking first second = record {
   keeps = record {
     phase = second.keeps.phase ∙ first.keeps.phase;
     snapshot = second.keeps.snapshot ∙ first.keeps.snapshot;
     markable = λ off a is. second.keeps.markable (λ two. off (sym first.keeps.phase ∙ two)) a (first.keeps.markable off a is);
-    shapes = λ a is. second.keeps.shapes a (first.keeps.markable (λ two. omega (arith, two, marking)) a is) ∙ first.keeps.shapes a is;
+    shapes = λ address is. second.keeps.shapes address (first.keeps.markable (λ two. omega (arith, two, marking)) address is) ∙ first.keeps.shapes address is;
     noted = λ a is. second.keeps.noted a (first.keeps.noted a is);
   };
   recording = second.recording ∙ first.recording;
@@ -104,12 +104,12 @@ marks_twice config seat u v w marking first second = record {
 }
 
 copies_twice : (config : Config) (seat : ℕ) (u v w : World) → RelyCopies config seat u v → RelyCopies config seat v w → RelyCopies config seat u w
-copies_twice config seat u v w first second =
-    let set_then : (address : ℕ) → IsCollected config (u.memory Cset) address → IsCollected config (v.memory Cset) address = λ address is. subst (λ set. IsCollected config set address) (sym first.keeps.cset) is in
+copies_twice config seat world other_world next_world first second =
+    let set_then : (address : ℕ) → IsCollected config (world.memory Cset) address → IsCollected config (other_world.memory Cset) address = λ address is. subst (λ set. IsCollected config set address) (sym first.keeps.cset) is in
     record {
       keeps = record {
         cset = second.keeps.cset ∙ first.keeps.cset;
-        bodies = λ address b is. second.keeps.bodies address b (first.keeps.bodies address b is);
+        bodies = λ address body is. second.keeps.bodies address body (first.keeps.bodies address body is);
         moveds = λ address refs nums to name is. second.keeps.moveds address refs nums to name (first.keeps.moveds address refs nums to name is);
         spents = λ address words to is. second.keeps.spents address words to (first.keeps.spents address words to is);
         pieces = λ address x inside is.
@@ -128,9 +128,9 @@ copies_twice config seat u v w first second =
     }
 
 fields_twice : (config : Config) (u v w : World) → u.memory Phase ≡ 1 → KeepsFields config u v → KeepsFields config v w → KeepsFields config u w
-fields_twice config u v w marking first second = record {
+fields_twice config world other_world next_world marking first second = record {
   tams = λ r. second.tams r ∙ first.tams r;
-  limits = λ r. second.limits r ∙ first.limits r;
+  limits = λ region. second.limits region ∙ first.limits region;
   deads = λ a words is. second.deads a words (first.deads a words is);
   fillers = λ a words is. second.fillers a words (first.fillers a words is);
   claims = λ all. second.claims (first.claims all);
@@ -139,29 +139,29 @@ fields_twice config u v w marking first second = record {
 
 -- where objects are marked
 pub rely_twice : (config : Config) (seat : ℕ) (u v w : World) → u.memory Phase ≡ 1 → Rely config seat u v → Rely config seat v w → Rely config seat u w
-rely_twice config seat u v w marking first second = record {
+rely_twice config seat world other_world next_world marking first second = record {
   names = λ a name is. second.names a name (first.names a name is);
-  targets = λ a refs nums name is. second.targets a refs nums name (first.targets a refs nums name is);
+  targets = λ address refs nums name is. second.targets address refs nums name (first.targets address refs nums name is);
   rooms = λ a x is room. second.rooms a x (first.rooms a x is room) room;
   no_rooms = λ a x is room. first.no_rooms a x (second.no_rooms a x is room) room;
-  room_words = λ a k x is room below. second.room_words a k x (first.rooms a x is room) room below ∙ first.room_words a k x is room below;
+  room_words = λ address k piece is room below. second.room_words address k piece (first.rooms address piece is room) room below ∙ first.room_words address k piece is room below;
   promises = λ a words is. second.promises a words (first.promises a words is);
-  no_promises = λ a words is. first.no_promises a words (second.no_promises a words is);
-  promise_words = λ a words k is below. second.promise_words a words k (first.promises a words is) below ∙ first.promise_words a words k is below;
+  no_promises = λ address words is. first.no_promises address words (second.no_promises address words is);
+  promise_words = λ address words k is below. second.promise_words address words k (first.promises address words is) below ∙ first.promise_words address words k is below;
   current = second.current ∙ first.current;
   opens = λ r is. second.opens r (first.opens r is);
-  owners = λ r is. second.owners r (first.owners r is);
-  tops = λ r is. second.tops r (first.owners r is) ∙ first.tops r is;
+  owners = λ region is. second.owners region (first.owners region is);
+  tops = λ region is. second.tops region (first.owners region is) ∙ first.tops region is;
   root_words = λ i. second.root_words i ∙ first.root_words i;
   roots = λ i. second.roots i ∙ first.roots i;
-  pin_words = λ i. second.pin_words i ∙ first.pin_words i;
+  pin_words = λ index. second.pin_words index ∙ first.pin_words index;
   pins = λ i. second.pins i ∙ first.pins i;
   count = second.count ∙ first.count;
   wait = second.wait ∙ first.wait;
   answer = second.answer ∙ first.answer;
   state = second.state ∙ first.state;
   asked = λ is. second.asked (first.asked is);
-  marks = marks_twice config seat u v w marking first.marks second.marks;
-  copies = copies_twice config seat u v w first.copies second.copies;
-  fields = fields_twice config u v w marking first.fields second.fields;
+  marks = marks_twice config seat world other_world next_world marking first.marks second.marks;
+  copies = copies_twice config seat world other_world next_world first.copies second.copies;
+  fields = fields_twice config world other_world next_world marking first.fields second.fields;
 }

@@ -50,13 +50,13 @@ IsIn spot = is_within (standing_at spot) ≡ true
 
 -- one of two
 either_in : (holds : Bool) (spot other_spot : Spot) → IsIn spot → IsIn other_spot → IsIn (if holds then spot else other_spot)
-either_in true spot other_spot one other = one
-either_in false spot other_spot one other = other
+either_in true spot other_spot is_in other = is_in
+either_in false spot other_spot is_in other = other
 
 -- one of two while it waits
-either_waits : (holds : Bool) (x y : WaitSpot) → is_within (wait_standing x) ≡ true → is_within (wait_standing y) ≡ true → is_within (wait_standing (if holds then x else y)) ≡ true
-either_waits true x y one other = one
-either_waits false x y one other = other
+either_waits : (holds : Bool) (spot other_spot : WaitSpot) → is_within (wait_standing spot) ≡ true → is_within (wait_standing other_spot) ≡ true → is_within (wait_standing (if holds then spot else other_spot)) ≡ true
+either_waits true spot other_spot one other = one
+either_waits false spot other_spot one other = other
 
 first_in : (command : Command) → IsIn (first_spot command)
 first_in (New dst refs nums) = refl
@@ -87,7 +87,7 @@ recorded_in found overwrites.Cas = refl
 overwritten_in : (phase found : ℕ) (next : Overwritten) → IsIn (overwritten phase found next)
 overwritten_in phase found next = either_in (is_to_record phase found) (Recording LoadCount found next) (after_recording found next) refl (recorded_in found next)
 
-remember_in : (address : ℕ) (next : Overwritten) (at : RememberSpot) → IsIn (after_remember address next at)
+remember_in : (address : ℕ) (next : Overwritten) (spot : RememberSpot) → IsIn (after_remember address next spot)
 remember_in address next Recorded = recorded_in address next
 remember_in address next _ = refl
 
@@ -99,11 +99,11 @@ resolved_in found answer (ToCompare object expect value) = either_in (answer == 
 loaded_in : (config : Config) (phase cset found : ℕ) (next : Loaded) → IsIn (with_loaded config phase cset found next)
 loaded_in config phase cset found next = either_in (must_resolve config phase cset found) (Resolving found LoadHeader next) (after_resolved found found next) refl (resolved_in found found next)
 
-resolve_in : (found : ℕ) (next : Loaded) (at : ResolveSpot) → IsIn (after_resolve found next at)
+resolve_in : (found : ℕ) (next : Loaded) (spot : ResolveSpot) → IsIn (after_resolve found next spot)
 resolve_in found next (Resolved answer) = resolved_in found answer next
 resolve_in found next _ = refl
 
-take_in : (at : TakeSpot) → IsIn (after_take at)
+take_in : (spot : TakeSpot) → IsIn (after_take spot)
 take_in (take.Ended (At address) end) = refl
 take_in (take.Ended NoRoom end) = refl
 take_in _ = refl
@@ -128,14 +128,14 @@ goes_on_in config mutator order got (OnField object (fields.Swap value)) is =
     either_in (is_to_record mutator.kept.phase got) (Recording LoadCount got overwrites.Xchg) (with_loaded config mutator.kept.phase mutator.kept.cset got ForRoot) refl (loaded_in config mutator.kept.phase mutator.kept.cset got ForRoot)
 goes_on_in config mutator order got (OnField object (fields.Exchange found expect value)) is =
     either_in (got == found) (overwritten mutator.kept.phase found overwrites.Cas) (OnField object (fields.LoadExpected expect value)) (overwritten_in mutator.kept.phase found overwrites.Cas) refl
-goes_on_in config mutator order got (Resolving address at next) is = resolve_in address next (resolves.next_at config address mutator.kept.phase at got)
-goes_on_in config mutator order got (Recording at address next) is = remember_in address next (satb.next_at at got)
+goes_on_in config mutator order got (Resolving address spot next) is = resolve_in address next (resolves.next_at config address mutator.kept.phase spot got)
+goes_on_in config mutator order got (Recording spot address next) is = remember_in address next (satb.next_at spot got)
 goes_on_in config mutator order got (OnNumber object refs numbers.Load) is = refl
 goes_on_in config mutator order got (OnNumber object refs numbers.Store) is = refl
 goes_on_in config mutator order got (Showing value show.LoadName) is = refl
 goes_on_in config mutator order got (Showing value (show.StoreRoot r)) is = refl
 goes_on_in config mutator order got (StoreRoot value) is = refl
-goes_on_in config mutator order got (Making (make.Taking at)) is = take_in (take_next config mutator.kept.command at got)
+goes_on_in config mutator order got (Making (make.Taking spot)) is = take_in (take_next config mutator.kept.command spot got)
 goes_on_in config mutator order got (Making (make.StoreWord address done)) is = refl
 goes_on_in config mutator order got (Making (make.StoreRoot address)) is = refl
 goes_on_in config mutator order got AskCycle is = refl
@@ -163,8 +163,8 @@ goes_on_in config mutator order got _ is = cc
 pub spares_outside : (seat : ℕ) (kept : Kept) (spot : Spot) (a : ℕ) (piece : Block) → is_within (standing_at spot) ≡ false → IsRoomOf seat kept spot a piece → IsSpare seat piece
 spares_outside seat kept Rest a piece out is = is
 spares_outside seat kept (Ended reply) a piece out is = is
-spares_outside seat kept (Entering at then_on) a piece out is = is
-spares_outside seat kept (Waiting at) a piece out is = is
+spares_outside seat kept (Entering spot then_on) a piece out is = is
+spares_outside seat kept (Waiting spot) a piece out is = is
 spares_outside seat kept Gone a piece out is = is
 spares_outside seat kept _ a piece out is = absurd (cc (out))
 
@@ -172,8 +172,8 @@ spares_outside seat kept _ a piece out is = absurd (cc (out))
 pub outside_spares : (seat : ℕ) (kept : Kept) (spot : Spot) (a : ℕ) (piece : Block) → is_within (standing_at spot) ≡ false → IsSpare seat piece → IsRoomOf seat kept spot a piece
 outside_spares seat kept Rest a piece out is = is
 outside_spares seat kept (Ended reply) a piece out is = is
-outside_spares seat kept (Entering at then_on) a piece out is = is
-outside_spares seat kept (Waiting at) a piece out is = is
+outside_spares seat kept (Entering spot then_on) a piece out is = is
+outside_spares seat kept (Waiting spot) a piece out is = is
 outside_spares seat kept Gone a piece out is = is
 outside_spares seat kept _ a piece out is = absurd (cc (out))
 
@@ -181,8 +181,8 @@ outside_spares seat kept _ a piece out is = absurd (cc (out))
 pub records_outside : (spot : Spot) → is_within (standing_at spot) ≡ false → recording_of spot ≡ None
 records_outside Rest out = refl
 records_outside (Ended reply) out = refl
-records_outside (Entering at then_on) out = refl
-records_outside (Waiting at) out = refl
+records_outside (Entering spot then_on) out = refl
+records_outside (Waiting spot) out = refl
 records_outside Gone out = refl
 records_outside _ out = absurd (cc (out))
 
@@ -190,7 +190,7 @@ records_outside _ out = absurd (cc (out))
 pub copies_outside : (spot : Spot) → is_within (standing_at spot) ≡ false → copies_at spot ≡ false
 copies_outside Rest out = refl
 copies_outside (Ended reply) out = refl
-copies_outside (Entering at then_on) out = refl
-copies_outside (Waiting at) out = refl
+copies_outside (Entering spot then_on) out = refl
+copies_outside (Waiting spot) out = refl
 copies_outside Gone out = refl
 copies_outside _ out = absurd (cc (out))

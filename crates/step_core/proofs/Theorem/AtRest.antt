@@ -25,15 +25,15 @@ use Rattle.step_core.specs.Sound.{world_of}
 use Rattle.step_core.proofs.Control.Asked.{asking_at}
 use Rattle.step_core.proofs.Machines.Owed.{IsResting, ControlFacts, IsControl, IsMachine}
 use Rattle.step_core.proofs.Theorem.Induction.{Goes}
-use Rattle.step_core.proofs.Control.Paused.{asking, words_stand, mutator_asks}
-use Rattle.step_core.proofs.Control.Pauses.{open_world}
+use Rattle.step_core.proofs.Control.NewImageCounts.{asking, words_stand, mutator_asks}
+use Rattle.step_core.proofs.Control.OutsideImage.{open_world}
 use Rattle.step_core.proofs.Machines.Roles.{number_of, machine_there, mutator_there, control_of}
 
 -- the control rests where it works on no unit
 still_at : (config : Config) (world : World) (number : ℕ) (spot : ControlSpot) → is_working spot ≡ false → ControlFacts config world number spot → IsResting world number
-still_at config world number (control.Working at) calm facts = absurd cc
+still_at config world number (control.Working spot) calm facts = absurd cc
 still_at config world number control.LookFree calm facts = facts.0
-still_at config world number (control.Stopping at) calm facts = facts.0
+still_at config world number (control.Stopping spot) calm facts = facts.0
 still_at config world number (control.LoadWord index extent) calm facts = facts.0
 still_at config world number control.LookLeft calm facts = facts
 still_at config world number control.StoreEnd calm facts = facts
@@ -111,7 +111,7 @@ module _ (config : Config) (graph : Graph) (stage : Stage Actor) (past : List En
     usable = stands.usable;
     none = stands.none;
     uncarved = stands.uncarved;
-    asked = λ t below. subst (IsAsked (view config stage.words) stands.block the_graph.count t) (none_asks t below) (stands.asked t below);
+    asked = λ mutator below. subst (IsAsked (view config stage.words) stands.block the_graph.count mutator) (none_asks mutator below) (stands.asked mutator below);
     heard = λ t refs nums below is. absurd cc;
     promised_to = stands.promised_to;
     unmarking = stands.unmarking;

@@ -21,7 +21,7 @@ use Rattle.heap_world.proofs.Roomless.{only_spares}
 
 -- an idle control holds no image
 idle_holds : (config : Config) (phase cset : ℕ) (graph : Graph) (machine : Machine) → HasNumber config (control_number config) machine → IsIdle phase cset graph (control_number config) machine → image_read machine ≡ None
-idle_holds config phase cset graph (controlling h) number calm = ap (λ spot. stored_image spot h.image) calm.0
+idle_holds config phase cset graph (controlling control) number calm = ap (λ spot. stored_image spot control.image) calm.0
 idle_holds config phase cset graph _ number calm = refl
 
 -- What holds of a stage that begins a graph.
@@ -52,7 +52,7 @@ module _ (config : Config) (stage : Stage Actor) (graph : Graph) (begins : Begin
         let new = begins.machines k a is in
         subst (λ memory. IsMachine config stage.words (record { memory = memory; block = begins.stands.block; ghost = begins.stands.ghost; graph = graph }) [] k a a.machine) (sym whole_begins)
         (machine_begins config stage.words (record { memory = view config stage.words; block = begins.stands.block; ghost = begins.stands.ghost; graph = graph }) k a a.machine refl new.number_is new.idle new.calls new.valid
-        (record { roots = begins.stands.roots; spares = λ seat a. only_spares begins.stands.block begins.stands.none begins.stands.uncarved a seat; asked = begins.stands.asked; unmarking = begins.stands.unmarking; uncopying = begins.stands.uncopying; usable = begins.stands.usable }));
+        (record { roots = begins.stands.roots; spares = λ seat address. only_spares begins.stands.block begins.stands.none begins.stands.uncarved address seat; asked = begins.stands.asked; unmarking = begins.stands.unmarking; uncopying = begins.stands.uncopying; usable = begins.stands.usable }));
   }
 
   pub goes_begins : Goes config graph stage []

@@ -3,6 +3,7 @@ use Rattle.std.proofs.Common.{◌≡◌, ◌≢◌, ℕ, ◌+◌, ◌<◌, true,
 use Rattle.std.specs.Prelude.{slice_get, slice_index}
 use Rattle.std.proofs.lemmas.Option.{same_Some}
 use Rattle.std.proofs.lemmas.Bool.{cases_Bool, false≢true}
+use Rattle.heap_words.proofs.Lists.{slice_get-set_same}
 use Rattle.heap_words.specs.declared.config.Config.{Config}
 use Rattle.heap_words.specs.Access.{table_index}
 use Rattle.heap_words.specs.Words.{Left, Answer, Pin, word_at, view, table_words}
@@ -11,7 +12,6 @@ use Rattle.heap_words.proofs.Rows.{word_inside}
 use Rattle.heap_words.specs.Touch.{touch, subtracts, placed}
 use Rattle.heap_words.specs.Steps.{Stage, Event, act, go, HasReached, Finds}
 use Rattle.heap_words.proofs.Laws.{act-event}
-use Rattle.heap_words.proofs.Places.{slice_get-set_same}
 use Rattle.heap_words.proofs.Runs.{reached_has}
 use Rattle.heap_words.proofs.Touches.{table_index-access_at}
 use Rattle.shen_graph.specs.declared.order.Order.{Order}
@@ -195,12 +195,12 @@ module _ (change : Change) (law : PausesByParts change) (config : Config) (graph
   of_heap = record {
     words = goes.follows.words;
     machines = goes.follows.seats;
-    roles = λ number a there. number_of config stage.words the_world (of_thread entries (number + 1)) number a a.machine (known number a there);
+    roles = λ number actor there. number_of config stage.words the_world (of_thread entries (number + 1)) number actor actor.machine (known number actor there);
     mutators = λ number below.
         let there = machine_there config stage.words the_world entries stage.machines goes.follows.seats number (omega (arith, below)) in
         let role = mutator_of config number there.0.machine (number_of config stage.words the_world (of_thread entries (number + 1)) number there.0 there.0.machine (known number there.0 there.1)) below in
         record { actor = there.0; mutator = role.0; here = record { here = there.1; is = role.1 } };
-    numbers = λ number a m here. let thread = thread_of number a m here in (thread.number_is, subst (λ k. k < config.mutators) thread.number_is thread.mine.seated.below);
+    numbers = λ number actor mutator here. let thread = thread_of number actor mutator here in (thread.number_is, subst (λ k. k < config.mutators) thread.number_is thread.mine.seated.below);
   }
 
   -- of all: it is sound
@@ -213,10 +213,10 @@ module _ (change : Change) (law : PausesByParts change) (config : Config) (graph
     entries = goes.follows.entries;
     no_more = goes.follows.no_more;
     no_more_pins = goes.follows.no_more_pins;
-    pinned = λ t i below small. pin_held config the_world goes.follows.shared (the_world.memory (Pin t i)) (the_world.graph.pin (t + 1) i) (goes.follows.shared.pinned t i below small);
+    pinned = λ mutator slot below small. pin_held config the_world goes.follows.shared (the_world.memory (Pin mutator slot)) (the_world.graph.pin (mutator + 1) slot) (goes.follows.shared.pinned mutator slot below small);
     threads = λ number a m here.
         let thread = thread_of number a m here in
-        let seen = subst (λ k. IsSeen (view config stage.words (Answer number)) (the_world.memory (Answer k)) thread.fixed) (sym thread.number_is) thread.seen in
+        let seen = subst (λ mutator. IsSeen (view config stage.words (Answer number)) (the_world.memory (Answer mutator)) thread.fixed) (sym thread.number_is) thread.seen in
         record {
           fixed = thread.fixed;
           entries_are = thread.entries_are;
@@ -251,9 +251,9 @@ pause_is_empty change law config graph stage entries goes pause = record {
   nobody = out;
   no_helper = help_out;
   no_access = λ number actor m order here.
-      let x : Helping = helping_by config order m in
-      help_leaves_image config x.seat x.spot (ap is_within (help_hinted_stands config (hint_in order) m) ∙ help_out number actor m here);
-  only_polls = λ number actor m order here takes. outside_touch config m.seat m.made m.kept order m.spot (out number actor m here) takes;
+      let helper : Helping = helping_by config order m in
+      help_leaves_image config helper.seat helper.spot (ap is_within (help_hinted_stands config (hint_in order) m) ∙ help_out number actor m here);
+  only_polls = λ number actor mutator order here takes. outside_touch config mutator.seat mutator.made mutator.kept order mutator.spot (out number actor mutator here) takes;
 }
   where
     out : (number : ℕ) (actor : Actor) (m : Mutating) → IsMutator stage number actor m → is_within (standing_at m.spot) ≡ false
@@ -289,10 +289,10 @@ module _ (change : Change) (law : PausesByParts change) (config : Config) (stage
   -- a word that a machine finds in some run is fit
   pub found_fit : (number : ℕ) (actor : Actor) (order : Order) (told_it : ℕ) → Finds (kind change config) stage number actor order told_it → IsFitFor config order told_it actor.machine
   unfolding kind
-  found_fit number actor order told_it f =
-      (reached_has (kind change config) (λ t. slice_get t.machines number ≡ Some actor → told_it ≡ slice_index t.words (table_index (plan_of config order actor.machine)) → IsFitFor config order told_it actor.machine) stage f.stage
-      (λ events here found. subst (λ n. IsFitFor config order n actor.machine) (sym found) (((every_run events).fit number actor here).fit order f.takes))
-      f.reached) f.here f.found
+  found_fit number actor order told_it finds =
+      (reached_has (kind change config) (λ t. slice_get t.machines number ≡ Some actor → told_it ≡ slice_index t.words (table_index (plan_of config order actor.machine)) → IsFitFor config order told_it actor.machine) stage finds.stage
+      (λ events here found. subst (λ n. IsFitFor config order n actor.machine) (sym found) (((every_run events).fit number actor here).fit order finds.takes))
+      finds.reached) finds.here finds.found
 
   -- what the control has read of the image is as the table has it
   pub run_aims : (events : List (Event Order)) (number : ℕ) (actor : Actor) (control : Controlling)

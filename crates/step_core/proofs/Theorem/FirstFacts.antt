@@ -12,6 +12,7 @@ use Rattle.std.proofs.lemmas.Bool.Decides.{nat_tests}
 use Rattle.heap_words.specs.declared.config.Config.{Config}
 use Rattle.heap_words.specs.Ranges.{seat_count}
 use Rattle.std.specs.Prelude.{List}
+use Rattle.shen_graph.proofs.Lists.{all_alike}
 use Rattle.heap_words.specs.Steps.{Event}
 use Rattle.shen_graph.specs.declared.order.Order.{Order}
 use Rattle.regions.specs.Place.{base_of}
@@ -28,7 +29,6 @@ use Rattle.heap_world.specs.Represents.{Represents}
 use Rattle.step_core.specs.Begins.{HasCalledNothing, IsCalmOutside, Begins, Run, first_graph}
 use Rattle.step_core.proofs.Mutators.Roots.{no_more_opening, no_more_pins_opening}
 use Rattle.shen_graph.proofs.PlainLemmas.{same_name-true}
-use Rattle.heap_world.proofs.NewObject.{all_alike}
 use Rattle.heap_world.proofs.Roomless.{rooms_none}
 use Rattle.heap_world.proofs.Keeping.{usable_now}
 use Rattle.heap_world.proofs.Copies.{none_evacuated}
@@ -91,17 +91,17 @@ object_only config name object is = let parts = cond_some (same_name name hub) (
 -- no top is past its region
 top_within : (config : Config) (region : ℕ) → first_memory config (Top region) ≤ config.region_words
 top_within config region = ⊎_elim
-    (λ (same : region ≡ 0). subst (λ k. first_memory config (Top k) ≤ config.region_words) (sym same) (let long = config.in_range.least_words in omega arith))
+    (λ (same : region ≡ 0). subst (λ region. first_memory config (Top region) ≤ config.region_words) (sym same) (let long = config.in_range.least_words in omega arith))
     (λ (other : region ≡ 0 → ⊥). let none = top_other config region other in omega arith)
     (cases_eq region 0)
 
 -- the hub lies in the part in use
-first_plotted : (config : Config) → IsPlotted config (λ r. first_memory config (Top r)) (first_block config)
+first_plotted : (config : Config) → IsPlotted config (λ region. first_memory config (Top region)) (first_block config)
 first_plotted config = record {
-  tops = λ r within. top_within config r;
+  tops = λ region within. top_within config region;
   in_use = λ a b is.
       let at : a ≡ config.region_words = (block_only config a b is).0 in
-      subst (λ x. IsInUse config (λ r. first_memory config (Top r)) a (words_of x)) (block_only config a b is).1
+      subst (λ x. IsInUse config (λ region. first_memory config (Top region)) a (words_of x)) (block_only config a b is).1
       (record { region = 0; within = (let some = config.in_range.least_regions in omega arith); from_base = omega arith; to_top = omega arith });
   apart = λ a b x y is_x is_y before.
       let one = (block_only config a x is_x).0 in let two = (block_only config b y is_y).0 in omega arith;
@@ -112,18 +112,18 @@ first_base : (config : Config) → base_of config 0 ≡ config.region_words
 first_base config = omega arith
 
 -- the part in use is the hub
-first_filled : (config : Config) → IsFilled config (λ r. first_memory config (Top r)) (first_block config)
+first_filled : (config : Config) → IsFilled config (λ region. first_memory config (Top region)) (first_block config)
 first_filled config = record {
-  first = λ r within used. ⊎_elim
-      (λ (same : r ≡ 0). (thing hub 16 0, subst (λ a. first_block config a ≡ Some (thing hub 16 0)) (sym (first_base config) ∙ ap (base_of config) (sym same)) (block_hub config)))
-      (λ (other : r ≡ 0 → ⊥). let none = top_other config r other in absurd (omega arith))
-      (cases_eq r 0);
+  first = λ region within used. ⊎_elim
+      (λ (same : region ≡ 0). (thing hub 16 0, subst (λ a. first_block config a ≡ Some (thing hub 16 0)) (sym (first_base config) ∙ ap (base_of config) (sym same)) (block_hub config)))
+      (λ (other : region ≡ 0 → ⊥). let none = top_other config region other in absurd (omega arith))
+      (cases_eq region 0);
   next = λ r a x within from is below.
       let at : a ≡ config.region_words = (block_only config a x is).0 in
       let long : words_of x ≡ 19 = ap words_of (sym (block_only config a x is).1) in
       absurd (⊎_elim
       (λ (same : r ≡ 0).
-      let top : first_memory config (Top r) ≡ 19 = ap (λ k. first_memory config (Top k)) same in
+      let top : first_memory config (Top r) ≡ 19 = ap (λ region. first_memory config (Top region)) same in
       let start : base_of config r ≡ config.region_words = ap (base_of config) same ∙ first_base config in
       omega (arith, below, top, start, long, at))
       (λ (other : r ≡ 0 → ⊥). let none = top_other config r other in omega (arith, below, from, none, long, at))
@@ -131,7 +131,7 @@ first_filled config = record {
 }
 
 -- the words of the hub are those of a blank object
-hub_object : (config : Config) → IsThing (λ a. first_memory config (Heap a)) (first_block config) config.region_words 16 0 hub (blank 16 0)
+hub_object : (config : Config) → IsThing (λ address. first_memory config (Heap address)) (first_block config) config.region_words 16 0 hub (blank 16 0)
 hub_object config = record {
   header = heap_first config;
   shape = heap_second config;
@@ -142,12 +142,12 @@ hub_object config = record {
   nums_are = refl;
   references = λ i reference is.
       subst (λ r. Points (first_block config) (first_memory config (Heap (config.region_words + 3 + i))) r) (sym (all_alike 16 i None reference is))
-      (ap (λ a. first_memory config (Heap a)) (omega arith) ∙ heap_later config (3 + i) (omega arith));
+      (ap (λ address. first_memory config (Heap address)) (omega arith) ∙ heap_later config (3 + i) (omega arith));
   numbers = λ i n is. cc;
 }
 
 -- the words are those of the graph's one object
-first_objects : (config : Config) → AreObjects (λ a. first_memory config (Heap a)) (first_block config) (first_graph config).object
+first_objects : (config : Config) → AreObjects (λ address. first_memory config (Heap address)) (first_block config) (first_graph config).object
 first_objects config = record {
   each = λ a refs nums name is.
       let at : config.region_words ≡ a = sym (block_only config a _ is).0 in
@@ -156,19 +156,19 @@ first_objects config = record {
       let sizes : 16 ≡ refs = cc in
       let none : 0 ≡ nums = cc in (
         blank 16 0,
-        ap (λ n. (first_graph config).object n) (sym names),
-        subst (λ n. IsThing (λ b. first_memory config (Heap b)) (first_block config) a refs nums n (blank 16 0)) names
-            (subst (λ b. IsThing (λ b. first_memory config (Heap b)) (first_block config) b refs nums hub (blank 16 0)) at
-            (subst (λ r. IsThing (λ b. first_memory config (Heap b)) (first_block config) config.region_words r nums hub (blank 16 0)) sizes
-            (subst (λ m. IsThing (λ b. first_memory config (Heap b)) (first_block config) config.region_words 16 m hub (blank 16 0)) none (hub_object config)))),
+        ap (λ name. (first_graph config).object name) (sym names),
+        subst (λ n. IsThing (λ address. first_memory config (Heap address)) (first_block config) a refs nums n (blank 16 0)) names
+            (subst (λ b. IsThing (λ address. first_memory config (Heap address)) (first_block config) b refs nums hub (blank 16 0)) at
+            (subst (λ r. IsThing (λ address. first_memory config (Heap address)) (first_block config) config.region_words r nums hub (blank 16 0)) sizes
+            (subst (λ m. IsThing (λ address. first_memory config (Heap address)) (first_block config) config.region_words 16 m hub (blank 16 0)) none (hub_object config)))),
       );
   once = λ a b refs nums more_refs more_nums name is_a is_b. (block_only config a _ is_a).0 ∙ sym (block_only config b _ is_b).0;
 }
 
 -- region 0 is not free
 first_free_even : (n : ℕ) → 1 ≤ n → bit_at (first_free n) 0 ≡ 0
-first_free_even zero some = absurd (omega arith)
-first_free_even (suc n) some =
+first_free_even zero positive = absurd (omega arith)
+first_free_even (suc n) positive =
     let double : 2 ^ suc n ≡ 2 * 2 ^ n = pow-succ' 2 n in
     let lowest = bit_at_lowest (first_free (suc n)) in
     omega (arith, double, lowest)
@@ -178,16 +178,16 @@ first_free_small : (n : ℕ) → first_free n < 2 ^ n
 first_free_small n = let some = pow_pos n in omega (arith, some)
 
 -- region 0 is in use, and no other has a top
-first_free_word : (config : Config) → IsFreeWord config (first_memory config Free) (λ r. first_memory config (Top r)) (λ _. None)
+first_free_word : (config : Config) → IsFreeWord config (first_memory config Free) (λ region. first_memory config (Top region)) (λ _. None)
 first_free_word config = record {
   no_more = first_free_small config.regions;
-  empty = λ r within bit. ⊎_elim
-      (λ (same : r ≡ 0).
+  empty = λ region within bit. ⊎_elim
+      (λ (same : region ≡ 0).
       let set : bit_at (first_free config.regions) 0 ≡ 1 = subst (λ k. bit_at (first_free config.regions) k ≡ 1) same bit in
       let even = first_free_even config.regions (let some = config.in_range.least_regions in omega (arith, some)) in
       absurd (omega (arith, sym even ∙ set)))
-      (λ (other : r ≡ 0 → ⊥). top_other config r other)
-      (cases_eq r 0);
+      (λ (other : region ≡ 0 → ⊥). top_other config region other)
+      (cases_eq region 0);
   nobodys = λ r within bit. refl;
 }
 
@@ -218,14 +218,14 @@ first_counter : (config : Config) → first_memory config Evac ≡ 0
 first_counter config = rooted_else config Evac (λ k. refl) config.mutators
 
 first_evacuated : (config : Config)
-    → IsEvacuating config (first_memory config Phase) (first_memory config Cset) (first_memory config Evac) (first_memory config Claim) (first_memory config Free) (λ r. first_memory config (Top r)) (λ r. first_memory config (Tams r)) (λ a. first_memory config (Heap a)) (λ n. first_memory config (Black n))
+    → IsEvacuating config (first_memory config Phase) (first_memory config Cset) (first_memory config Evac) (first_memory config Claim) (first_memory config Free) (λ region. first_memory config (Top region)) (λ region. first_memory config (Tams region)) (λ address. first_memory config (Heap address)) (λ number. first_memory config (Black number))
     (first_block config) (λ r. None) (λ seat. false) (λ seat. None)
 first_evacuated config =
-    subst (λ set. IsEvacuating config (first_memory config Phase) set (first_memory config Evac) (first_memory config Claim) (first_memory config Free) (λ r. first_memory config (Top r)) (λ r. first_memory config (Tams r)) (λ a. first_memory config (Heap a)) (λ n. first_memory config (Black n))
+    subst (λ set. IsEvacuating config (first_memory config Phase) set (first_memory config Evac) (first_memory config Claim) (first_memory config Free) (λ region. first_memory config (Top region)) (λ region. first_memory config (Tams region)) (λ address. first_memory config (Heap address)) (λ number. first_memory config (Black number))
     (first_block config) (λ r. None) (λ seat. false) (λ seat. None)) (sym (first_set config))
-    (subst (λ evac. IsEvacuating config (first_memory config Phase) 0 evac (first_memory config Claim) (first_memory config Free) (λ r. first_memory config (Top r)) (λ r. first_memory config (Tams r)) (λ a. first_memory config (Heap a)) (λ n. first_memory config (Black n))
+    (subst (λ evac. IsEvacuating config (first_memory config Phase) 0 evac (first_memory config Claim) (first_memory config Free) (λ region. first_memory config (Top region)) (λ region. first_memory config (Tams region)) (λ address. first_memory config (Heap address)) (λ number. first_memory config (Black number))
     (first_block config) (λ r. None) (λ seat. false) (λ seat. None)) (sym (first_counter config))
-    (none_evacuated config (first_memory config Phase) (first_memory config Claim) (first_memory config Free) (λ r. first_memory config (Top r)) (λ r. first_memory config (Tams r)) (λ a. first_memory config (Heap a)) (λ n. first_memory config (Black n))
+    (none_evacuated config (first_memory config Phase) (first_memory config Claim) (first_memory config Free) (λ region. first_memory config (Top region)) (λ region. first_memory config (Tams region)) (λ address. first_memory config (Heap address)) (λ number. first_memory config (Black number))
     (first_block config) (λ r. None) (λ seat. false) (λ seat. None) (λ late. (let none = first_phase config in omega (arith, none, late))) (none_moved config) (none_spent config) (λ seat below. refl)))
 
 -- what machines share holds of the opening
@@ -242,7 +242,7 @@ first_shared config = record {
   contents = record {
     objects = first_objects config;
     given = λ name o is.
-        subst (λ n. IsGiven config (λ t. 0) n) (sym (object_only config name o is).0)
+        subst (λ name. IsGiven config (λ t. 0) name) (sym (object_only config name o is).0)
         (record { thread = omega arith; made = omega arith; by_thread = λ one. absurd (omega arith); small = omega arith });
   };
   owned = record {
@@ -256,19 +256,19 @@ first_shared config = record {
     outside = λ seat some. absurd (some (rooted_else config (Current seat) (λ k. refl) config.mutators));
   };
   phased = record { phase_is = (let none = first_phase config in omega (arith, none)); cset_is = λ other. rooted_else config Cset (λ k. refl) config.mutators; evac_is = λ other. rooted_else config Evac (λ k. refl) config.mutators };
-  unwritten = record { blanks = λ a seat words is. absurd (none_promised config a seat words is); headers = λ a words is. absurd (let no = (block_only config a (dead words) is).1 in cc); lengths = λ a words is. absurd (let no = (block_only config a (dead words) is).1 in cc); fillers = λ a words is. (let no = (block_only config a (filler words) is).1 in cc) };
-  marked = none_marked config (first_memory config Phase) (λ n. first_memory config (Grey n)) (λ n. first_memory config (Black n)) (λ t. first_memory config (Count t)) (λ t k. first_memory config (Buffer t k)) (λ r. first_memory config (Top r))
-      (λ r. first_memory config (Tams r)) (λ a. first_memory config (Heap a)) (first_block config) (λ seat. None) (λ seat. None) (first_phase config);
+  unwritten = record { blanks = λ address seat words is. absurd (none_promised config address seat words is); headers = λ address words is. absurd (let no = (block_only config address (dead words) is).1 in cc); lengths = λ a words is. absurd (let no = (block_only config a (dead words) is).1 in cc); fillers = λ a words is. (let no = (block_only config a (filler words) is).1 in cc) };
+  marked = none_marked config (first_memory config Phase) (λ number. first_memory config (Grey number)) (λ number. first_memory config (Black number)) (λ mutator. first_memory config (Count mutator)) (λ mutator entry. first_memory config (Buffer mutator entry)) (λ region. first_memory config (Top region))
+      (λ region. first_memory config (Tams region)) (λ address. first_memory config (Heap address)) (first_block config) (λ seat. None) (λ seat. None) (first_phase config);
   evacuated = first_evacuated config;
   updated = λ on. absurd (let none = first_phase config in omega (arith, none, on));
-  pinned = λ t i below small. rooted_else config (Pin t i) (λ k. refl) config.mutators;
+  pinned = λ mutator slot below small. rooted_else config (Pin mutator slot) (λ k. refl) config.mutators;
 }
 
 -- the words of the roots stand for the graph's
 first_roots : (config : Config) (mutator index : ℕ) → mutator < config.mutators → Points (first_block config) (first_memory config (Root mutator index)) ((first_graph config).root (mutator + 1) index)
 first_roots config mutator index below = ⊎_elim
     (λ (same : index ≡ 0).
-    subst (λ j. Points (first_block config) (first_memory config (Root mutator j)) ((first_graph config).root (mutator + 1) j)) (sym same) zeroth)
+    subst (λ index. Points (first_block config) (first_memory config (Root mutator index)) ((first_graph config).root (mutator + 1) index)) (sym same) zeroth)
     (λ (other : index ≡ 0 → ⊥).
     let none : (first_graph config).root (mutator + 1) index ≡ None = grind (arith, nat_tests) in
     rw none (rooted_else config (Root mutator index) (λ t. and_right _ _ (ne_eqb 0 index (λ e. other (sym e)))) config.mutators))
@@ -287,10 +287,10 @@ first_stands config = record {
   block = first_block config;
   ghost = no_ghost;
   shared = first_shared config;
-  roots = λ t i below small. first_roots config t i below;
-  usable = λ t i below small. subst (λ set. IsUsable config set (first_memory config Evac) (first_block config) (first_memory config (Root t i))) (sym (first_set config)) (usable_now config (first_memory config Evac) (first_block config) (none_moved config) _ _ (first_roots config t i below));
+  roots = λ mutator index below small. first_roots config mutator index below;
+  usable = λ mutator index below small. subst (λ set. IsUsable config set (first_memory config Evac) (first_block config) (first_memory config (Root mutator index))) (sym (first_set config)) (usable_now config (first_memory config Evac) (first_block config) (none_moved config) _ _ (first_roots config mutator index below));
   none = λ a seat words is. no_room config a seat (hand seat words) is refl;
-  uncarved = λ a seat words is. no_room config a seat (carved seat words) is refl;
+  uncarved = λ address seat words is. no_room config address seat (carved seat words) is refl;
   asked = λ t below. (rooted_else config (Wait t) (λ k. refl) config.mutators, rooted_else config (Answer t) (λ k. refl) config.mutators, λ a words is. none_promised config a t words is);
   heard = λ t refs nums below is. absurd (cc (is));
   promised_to = λ a seat words is. absurd (none_promised config a seat words is);
@@ -325,7 +325,7 @@ opening_begins config = record {
   words = length-opening config;
   seats = length-map-range_with_len (opening_actor config) 0 (seat_count config.mutators config.helpers);
   stands = subst (λ m. Represents config m (first_graph config) (λ t. nothing)) (sym (view-opening config)) (first_stands config);
-  outside = subst (λ m. IsCalmOutside config m) (sym (view-opening config)) (first_outside config);
+  outside = subst (λ memory. IsCalmOutside config memory) (sym (view-opening config)) (first_outside config);
   machines = λ k a there.
       let within = slice_get_within _ k a there in
       let count : length (opening config).machines ≡ seat_count config.mutators config.helpers = length-map-range_with_len (opening_actor config) 0 (seat_count config.mutators config.helpers) in
@@ -333,7 +333,7 @@ opening_begins config = record {
       let is : opening_actor config k ≡ a =
       sym (get_or-map-range_with_len (opening_actor config) 0 (seat_count config.mutators config.helpers) k k a below (omega arith))
       ∙ get_or_from_slice_get (opening config).machines k a a there in
-      subst (λ b. HasCalledNothing config (view config (opening config).words Phase) (view config (opening config).words Cset) (first_graph config) k b) is
+      subst (λ actor. HasCalledNothing config (view config (opening config).words Phase) (view config (opening config).words Cset) (first_graph config) k actor) is
       (subst (λ phase. HasCalledNothing config phase (view config (opening config).words Cset) (first_graph config) k (opening_actor config k)) (sym (ap (λ m. m Phase) (view-opening config) ∙ first_phase config))
       (subst (λ set. HasCalledNothing config 0 set (first_graph config) k (opening_actor config k)) (sym (ap (λ m. m Cset) (view-opening config) ∙ first_set config)) (first_new config k below)));
 }

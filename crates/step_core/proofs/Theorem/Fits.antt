@@ -81,7 +81,7 @@ module _ (change : Change) (law : PausesByParts change) (config : Config) (graph
     fit_whole _ here = tt
 
     fit_unit : (spot : ControlSpot) → slice_get stage.machines number ≡ Some (actor_of (controlling (control_at spot))) → UnitGoesOn config spot (slice_index stage.words (table_index (control_access config (control_at spot))))
-    fit_unit (Working at) here = work_fit change law config graph stage entries number seen phase cset hints image command calls follows shaken at here
+    fit_unit (Working spot) here = work_fit change law config graph stage entries number seen phase cset hints image command calls follows shaken spot here
     fit_unit _ here = tt
 
   control_fit_by_itself : (control : Controlling) → slice_get stage.machines number ≡ Some (actor_of (controlling control))
@@ -90,7 +90,7 @@ module _ (change : Change) (law : PausesByParts change) (config : Config) (graph
 
 -- who takes a hint loads no image
 whole_hinted : (config : Config) (phase : ℕ) (spot : ControlSpot) (image : List ℕ) (got : ℕ) → controls.takes_hint spot ≡ true → IsWholeImage config phase spot image got
-whole_hinted config phase (Working at) image got takes = tt
+whole_hinted config phase (Working spot) image got takes = tt
 whole_hinted config phase _ image got takes = absurd (cc (takes))
 
 -- Under each order: with a hint it is so in the stage in which the machine goes on with the hint.

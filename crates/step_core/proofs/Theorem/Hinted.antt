@@ -5,12 +5,12 @@ use Rattle.std.specs.Prelude.{slice_get, slice_set, slice_index, count_by}
 use Rattle.std.proofs.lemmas.Bool.{cases_eq}
 use Rattle.std.proofs.lemmas.List.{length-set}
 use Rattle.std.proofs.lemmas.Option.{same_Some}
+use Rattle.heap_words.proofs.Lists.{slice_get-set_other, slice_get-set_same}
 use Rattle.heap_words.specs.declared.config.Config.{Config}
 use Rattle.heap_words.specs.Words.{Word}
 use Rattle.heap_words.specs.Access.{table_index, got_of}
 use Rattle.heap_words.specs.declared.access.Access.{Access}
 use Rattle.heap_words.specs.Steps.{Stage, accessed, moved}
-use Rattle.heap_words.proofs.Places.{slice_get-set_same, slice_get-set_other}
 use Rattle.shen_graph.specs.declared.command.Command.{Command}
 use Rattle.shen_graph.specs.declared.order.Order.{Order}
 use Rattle.shen_graph.specs.declared.order.Order.TheVariants.{Nothing}
@@ -64,13 +64,13 @@ module _ (config : Config) (stage : Stage Actor) (number : ℕ) (before next : A
   there = slice_get-set_same stage.machines number before next here
 
   -- each machine is one of the stage before that stands where it does
-  known : (k : ℕ) (actor : Actor) → slice_get replaced.machines k ≡ Some actor → (other_actor : Actor) × (slice_get stage.machines k ≡ Some other_actor) × (standing actor ≡ standing other_actor)
-  known k actor is = ⊎_elim
-      (λ (same : k ≡ number).
+  known : (index : ℕ) (actor : Actor) → slice_get replaced.machines index ≡ Some actor → (other_actor : Actor) × (slice_get stage.machines index ≡ Some other_actor) × (standing actor ≡ standing other_actor)
+  known index actor is = ⊎_elim
+      (λ (same : index ≡ number).
       let new : next ≡ actor = same_Some next actor (sym there ∙ ap (slice_get replaced.machines) (sym same) ∙ is) in
       (before, ap (slice_get stage.machines) same ∙ here, ap standing (sym new) ∙ takes.stands))
-      (λ (other : k ≢ number). (actor, sym (slice_get-set_other stage.machines number k next other) ∙ is, refl))
-      (cases_eq k number)
+      (λ (other : index ≢ number). (actor, sym (slice_get-set_other stage.machines number index next other) ∙ is, refl))
+      (cases_eq index number)
 
   -- the image that counts is the same
   image_same : image_of (slice_get replaced.machines (control_number config)) ≡ image_of (slice_get stage.machines (control_number config))

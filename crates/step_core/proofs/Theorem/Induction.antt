@@ -4,6 +4,7 @@ use Rattle.std.proofs.Common.{◌≡◌, ℕ, ◌+◌, Bool, true, false, List, 
 use Rattle.std.specs.Prelude.{slice_get, if◌then◌else◌}
 use Rattle.std.proofs.lemmas.Bool.{and_parts}
 use Rattle.std.proofs.lemmas.List.{append-nil}
+use Rattle.shen_graph.proofs.Bools.{false_from_flip}
 use Rattle.heap_words.specs.declared.config.Config.{Config}
 use Rattle.heap_words.specs.Steps.{Stage, Event, moved, act_of, act, go}
 use Rattle.shen_graph.specs.declared.command.Command.{Command}
@@ -28,7 +29,6 @@ use Rattle.step_core.specs.History.{told_of_machine, told, history, told_by}
 use Rattle.step_core.specs.Sound.{world_of}
 use Rattle.step_core.proofs.Machines.Owed.{IsMachine, Follows}
 use Rattle.step_core.proofs.Handshake.Machines.{standing, is_left, event_obeys, event_counts}
-use Rattle.step_core.proofs.Helpers.Stable.{is_off}
 use Rattle.step_core.proofs.Control.Held.{IsKept}
 use Rattle.step_core.proofs.Machines.Roles.{number_of, can_go}
 use Rattle.step_core.proofs.Mutators.Events.{follows_mutator}
@@ -38,50 +38,50 @@ use Rattle.step_core.proofs.Machines.Hinting.{help_hinted_gone, control_hinted_g
 use Rattle.step_core.proofs.Theorem.Hinted.{TakesPlace, replaced, there, follows_replaced, kept_replaced, counted_replaced, moved_replaced, helper_takes_place, control_takes_place}
 
 -- an event of a machine, by its role
-follows_order : (change : Change) → PausesByParts change → (config : Config) (graph : Graph) (s : Stage Actor) (past : List Entry) (number : ℕ) (order : Order) (command : Command) (calls : List Entry) (machine : Machine)
-    → slice_get s.machines number ≡ Some (record { machine = machine; command = command; calls = calls })
-    → takes_of machine order ≡ true → Follows config graph s past → IsKept config s
-    → Follows config graph (moved (kind change config) s number (record { machine = machine; command = command; calls = calls }) order)
-    (past ++ told_by config s (record { machine = machine; command = command; calls = calls }) order machine)
-follows_order change law config graph s past number order command calls (mutating m) here takes follows shaken = follows_mutator change config graph s past number order m command calls follows shaken here takes
-follows_order change law config graph s past number Nothing command calls (helping h) here takes follows shaken =
-    follows_helper change config graph s past number h command calls follows shaken here (is_off (help.is_gone h.spot) takes)
-follows_order change law config graph s past number (Begin begun) command calls (helping h) here takes follows shaken = absurd (cc (takes))
-follows_order change law config graph s past number End command calls (helping h) here takes follows shaken = absurd (cc (takes))
-follows_order change law config graph s past number Nothing command calls (controlling k) here takes follows shaken =
-    by_spot change law config graph s past number k.seen k.phase k.cset k.hints k.image command calls follows shaken k.spot (is_off (is_gone k.spot) takes) here
-follows_order change law config graph s past number (Hint address) command calls (helping h) here takes follows shaken =
-    let next : Helping = helping_by config (Hint address) h in
-    let place = helper_takes_place config number (Hint address) h command calls in
-    let stage : Stage Actor = replaced config s number (actor_of (helping h)) (actor_of (helping next)) here place in
-    subst (λ t. Follows config graph t (past ++ [])) (moved_replaced config s number (actor_of (helping h)) (actor_of (helping next)) here place change (Hint address) refl (λ got. refl))
+follows_order : (change : Change) → PausesByParts change → (config : Config) (graph : Graph) (stage : Stage Actor) (past : List Entry) (number : ℕ) (order : Order) (command : Command) (calls : List Entry) (machine : Machine)
+    → slice_get stage.machines number ≡ Some (record { machine = machine; command = command; calls = calls })
+    → takes_of machine order ≡ true → Follows config graph stage past → IsKept config stage
+    → Follows config graph (moved (kind change config) stage number (record { machine = machine; command = command; calls = calls }) order)
+    (past ++ told_by config stage (record { machine = machine; command = command; calls = calls }) order machine)
+follows_order change law config graph stage past number order command calls (mutating mutator) here takes follows shaken = follows_mutator change config graph stage past number order mutator command calls follows shaken here takes
+follows_order change law config graph stage past number Nothing command calls (helping helper) here takes follows shaken =
+    follows_helper change config graph stage past number helper command calls follows shaken here (false_from_flip (help.is_gone helper.spot) takes)
+follows_order change law config graph stage past number (Begin begun) command calls (helping helper) here takes follows shaken = absurd (cc (takes))
+follows_order change law config graph stage past number End command calls (helping helper) here takes follows shaken = absurd (cc (takes))
+follows_order change law config graph stage past number Nothing command calls (controlling control) here takes follows shaken =
+    by_spot change law config graph stage past number control.seen control.phase control.cset control.hints control.image command calls follows shaken control.spot (false_from_flip (is_gone control.spot) takes) here
+follows_order change law config graph s past number (Hint address) command calls (helping helper) here takes follows shaken =
+    let next : Helping = helping_by config (Hint address) helper in
+    let place = helper_takes_place config number (Hint address) helper command calls in
+    let stage : Stage Actor = replaced config s number (actor_of (helping helper)) (actor_of (helping next)) here place in
+    subst (λ stage. Follows config graph stage (past ++ [])) (moved_replaced config s number (actor_of (helping helper)) (actor_of (helping next)) here place change (Hint address) refl (λ got. refl))
     (follows_helper change config graph stage past number next command calls
-    (follows_replaced config s number (actor_of (helping h)) (actor_of (helping next)) here place graph past follows) (kept_replaced config s number (actor_of (helping h)) (actor_of (helping next)) here place shaken)
-    (there config s number (actor_of (helping h)) (actor_of (helping next)) here place)
-    (help_hinted_gone config (Some address) h ∙ is_off (help.is_gone h.spot) (and_parts _ _ takes).1))
+    (follows_replaced config s number (actor_of (helping helper)) (actor_of (helping next)) here place graph past follows) (kept_replaced config s number (actor_of (helping helper)) (actor_of (helping next)) here place shaken)
+    (there config s number (actor_of (helping helper)) (actor_of (helping next)) here place)
+    (help_hinted_gone config (Some address) helper ∙ false_from_flip (help.is_gone helper.spot) (and_parts _ _ takes).1))
   where
     actor_of : Machine → Actor
     actor_of machine = record { machine = machine; command = command; calls = calls }
-follows_order change law config graph s past number (Hint address) command calls (controlling k) here takes follows shaken =
-    let next : Controlling = controlling_by config (Hint address) k in
-    let place = control_takes_place config number (Hint address) k command calls in
-    let stage : Stage Actor = replaced config s number (actor_of (controlling k)) (actor_of (controlling next)) here place in
-    subst (λ t. Follows config graph t (past ++ told_storing config s k.spot k.image)) (moved_replaced config s number (actor_of (controlling k)) (actor_of (controlling next)) here place change (Hint address) refl (λ got. refl))
-    (subst (λ es. Follows config graph (moved (kind change config) stage number (actor_of (controlling next)) Nothing) (past ++ es)) (told_hinted stage k.spot (and_parts _ _ takes).0)
+follows_order change law config graph s past number (Hint address) command calls (controlling control) here takes follows shaken =
+    let next : Controlling = controlling_by config (Hint address) control in
+    let place = control_takes_place config number (Hint address) control command calls in
+    let stage : Stage Actor = replaced config s number (actor_of (controlling control)) (actor_of (controlling next)) here place in
+    subst (λ stage. Follows config graph stage (past ++ told_storing config s control.spot control.image)) (moved_replaced config s number (actor_of (controlling control)) (actor_of (controlling next)) here place change (Hint address) refl (λ got. refl))
+    (subst (λ es. Follows config graph (moved (kind change config) stage number (actor_of (controlling next)) Nothing) (past ++ es)) (told_hinted stage control.spot (and_parts _ _ takes).0)
     (by_spot change law config graph stage past number next.seen next.phase next.cset next.hints next.image command calls
-    (follows_replaced config s number (actor_of (controlling k)) (actor_of (controlling next)) here place graph past follows) (kept_replaced config s number (actor_of (controlling k)) (actor_of (controlling next)) here place shaken)
-    next.spot (control_hinted_gone config (Some address) k ∙ is_off (is_gone k.spot) (and_parts _ _ takes).1)
-    (there config s number (actor_of (controlling k)) (actor_of (controlling next)) here place)))
+    (follows_replaced config s number (actor_of (controlling control)) (actor_of (controlling next)) here place graph past follows) (kept_replaced config s number (actor_of (controlling control)) (actor_of (controlling next)) here place shaken)
+    next.spot (control_hinted_gone config (Some address) control ∙ false_from_flip (is_gone control.spot) (and_parts _ _ takes).1)
+    (there config s number (actor_of (controlling control)) (actor_of (controlling next)) here place)))
   where
     actor_of : Machine → Actor
     actor_of machine = record { machine = machine; command = command; calls = calls }
 
     -- it stores no word of an image, with the hint and without
-    told_hinted : (t : Stage Actor) (spot : ControlSpot) → controls.takes_hint spot ≡ true → told_storing config t (controls.hinted_by config (Some address) spot) k.image ≡ told_storing config s spot k.image
+    told_hinted : (t : Stage Actor) (spot : ControlSpot) → controls.takes_hint spot ≡ true → told_storing config t (controls.hinted_by config (Some address) spot) control.image ≡ told_storing config s spot control.image
     told_hinted t (Working at) takes_it = refl
     told_hinted t _ takes_it = absurd (cc (takes_it))
-follows_order change law config graph s past number (Begin begun) command calls (controlling k) here takes follows shaken = absurd (cc (takes))
-follows_order change law config graph s past number End command calls (controlling k) here takes follows shaken = absurd (cc (takes))
+follows_order change law config graph stage past number (Begin begun) command calls (controlling control) here takes follows shaken = absurd (cc (takes))
+follows_order change law config graph stage past number End command calls (controlling control) here takes follows shaken = absurd (cc (takes))
 
 -- Of a stage: it follows the history, the handshake is kept in it, and Left counts the mutators that have not ended.
 pub record Goes (config : Config) (graph : Graph) (stage : Stage Actor) (past : List Entry) : Type 0 where
@@ -124,9 +124,9 @@ goes_event change law config graph stage past event goes = record {
     by_machine (Some actor) here = by_order actor (takes_of actor.machine event.order) here refl
 
 -- a run
-pub goes_run : (change : Change) → PausesByParts change → (config : Config) (graph : Graph) (stage : Stage Actor) (past : List Entry) (es : List (Event Order)) → Goes config graph stage past → Goes config graph (go (kind change config) stage es) (past ++ history change config stage es)
+pub goes_run : (change : Change) → PausesByParts change → (config : Config) (graph : Graph) (stage : Stage Actor) (past : List Entry) (events : List (Event Order)) → Goes config graph stage past → Goes config graph (go (kind change config) stage events) (past ++ history change config stage events)
 unfolding go history
-goes_run change law config graph stage past [] goes = subst (λ h. Goes config graph stage h) (sym (append-nil past)) goes
-goes_run change law config graph stage past (e ∷ es) goes =
-    subst (λ h. Goes config graph (go (kind change config) (act (kind change config) stage e) es) h) (append_assoc past (told config stage e) (history change config (act (kind change config) stage e) es))
-    (goes_run change law config graph (act (kind change config) stage e) (past ++ told config stage e) es (goes_event change law config graph stage past e goes))
+goes_run change law config graph stage past [] goes = subst (λ past. Goes config graph stage past) (sym (append-nil past)) goes
+goes_run change law config graph stage past (event ∷ events) goes =
+    subst (λ past. Goes config graph (go (kind change config) (act (kind change config) stage event) events) past) (append_assoc past (told config stage event) (history change config (act (kind change config) stage event) events))
+    (goes_run change law config graph (act (kind change config) stage event) (past ++ told config stage event) events (goes_event change law config graph stage past event goes))

@@ -21,7 +21,7 @@ length-stored config word value words long = length-set words _ _ ∙ long
 -- the memory after the roots of so many mutators
 abbrev pub rooted_memory : Config → ℕ → Word → ℕ
 rooted_memory config zero = λ w. 0
-rooted_memory config (suc t) = write (rooted_memory config t) (Root t 0) config.region_words
+rooted_memory config (suc mutator) = write (rooted_memory config mutator) (Root mutator 0) config.region_words
 
 -- so do the stores into roots
 length-rooted : (config : Config) (mutator : ℕ) (words : List ℕ) → length words ≡ table_words config → length (rooted config mutator words) ≡ table_words config
@@ -65,7 +65,7 @@ view-opening config =
     let top_long = length-stored config (Top 0) 19 _ free_long in
     let header_long = length-stored config (Heap config.region_words) 1 _ top_long in
     let shape_long = length-stored config (Heap (config.region_words + 1)) 69632 _ header_long in
-    let first : IsWord config (Heap config.region_words) = subst (λ a. IsWord config (Heap a)) (add-zero config.region_words) (in_heap config 0 (omega arith)) in
+    let first : IsWord config (Heap config.region_words) = subst (λ address. IsWord config (Heap address)) (add-zero config.region_words) (in_heap config 0 (omega arith)) in
     view-stored config (Heap (config.region_words + 2)) 1 _ _ (in_heap config 2 (omega arith)) shape_long
     (view-stored config (Heap (config.region_words + 1)) 69632 _ _ (in_heap config 1 (omega arith)) header_long
     (view-stored config (Heap config.region_words) 1 _ _ first top_long

@@ -30,7 +30,7 @@ module _ (config : Config) (graph : Graph) (stage : Stage Actor) (entries : List
     rooms = goes.follows.shared.owned.rooms.seated;
     promised_to = goes.follows.promised_to;
     mutators = λ number a m here. let mine = (thread_of number a m here).mine in record { made = mine.seated.counted; roots = mine.roots; rooms = mine.rooms };
-    asked = λ number a m here going. let thread = thread_of number a m here in has_asked config the_world m.seat m.made m.kept a.command thread.fixed m.spot going thread.mine;
-    seats = λ number a here. in_seat config stage.words the_world (of_thread entries (number + 1)) number a a.machine (goes.follows.machines number a here);
-    served = λ number a m here. let thread = thread_of number a m here in served config the_world m a.command thread.fixed thread.mine;
+    asked = λ number actor mutator here going. let thread = thread_of number actor mutator here in has_asked config the_world mutator.seat mutator.made mutator.kept actor.command thread.fixed mutator.spot going thread.mine;
+    seats = λ number actor here. in_seat config stage.words the_world (of_thread entries (number + 1)) number actor actor.machine (goes.follows.machines number actor here);
+    served = λ number actor mutator here. let thread = thread_of number actor mutator here in served config the_world mutator actor.command thread.fixed thread.mine;
   }

@@ -1,4 +1,4 @@
-use Rattle.control.proofs.Cleared.{IsCleared}
+use Rattle.control.proofs.ZeroedWords.{IsCleared}
 use Rattle.control.proofs.pause.clear.Given as goal
 
 abbrev pub invariant-loop-at : goal.invariant-loop-at

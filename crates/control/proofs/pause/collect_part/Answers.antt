@@ -28,7 +28,7 @@ module _ (old : Image) (extent : Extent) (part : extent ≢ Whole) (clear : IsCl
 
   goes_old : CanGoOn d (memory_of old) loaded
   goes_old =
-      subst (λ m. CanGoOn d m loaded) (sym (memory-image_in old clear))
+      subst (λ memory. CanGoOn d memory loaded) (sym (memory-image_in old clear))
       (goes_by d extent part (image_in old) (part_in d extent (image_in old)) (part_of_all d extent (image_in old)) can)
 
   -- and once the words are 0 there at which free words begin
@@ -39,7 +39,7 @@ module _ (old : Image) (extent : Extent) (part : extent ≢ Whole) (clear : IsCl
 
     goes_mid : CanGoOn (config_of mid) (memory_of mid) loaded
     goes_mid =
-        subst (λ k. CanGoOn k (memory_of mid) loaded) (sym config) (subst (λ m. CanGoOn d m loaded) (sym memory_is)
+        subst (λ config. CanGoOn config (memory_of mid) loaded) (sym config) (subst (λ memory. CanGoOn d memory loaded) (sym memory_is)
         (goes_by d extent part (image_in mid) (part_in d extent (image_in old)) (part_of_cleared d extent part (image_in old) (image_in mid) starts (length-image_in old) cleared of_heap) can))
 
     -- and collected

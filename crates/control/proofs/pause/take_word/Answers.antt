@@ -75,7 +75,7 @@ module _ (old mid : Image) (extent now : Extent) (phase index word : ℕ) (less 
       seen_then seen = ap (seen_after seen) memory_then ∙ seen_made collect_image d extent phase index word (image_in old) long less own last starts (image_in new) made_then seen
 
 -- the index of the next word, and that of the end
-next_is : (old mid : Image) (extent now : Extent) (phase index word n : ℕ) (k : Config) → k ≡ config_of mid → config_of mid ≡ config_of old → now ≡ extent_after phase index extent word → n ≡ next_loaded k now index
+next_is : (old mid : Image) (extent now : Extent) (phase index word n : ℕ) (config : Config) → config ≡ config_of mid → config_of mid ≡ config_of old → now ≡ extent_after phase index extent word → n ≡ next_loaded config now index
     → n ≡ next_loaded (config_of old) (extent_after phase index extent word) index
 next_is old mid extent now phase index word n k read config now_is is =
     is ∙ ap (λ e. next_loaded e now index) (read ∙ config) ∙ ap (λ e. next_loaded (config_of old) e index) now_is

@@ -1,7 +1,8 @@
-use Rattle.std.proofs.Common.{◌≡◌, ◌≢◌, ◌+◌, ◌<◌, ℕ, Bool, true, false, List, length, set, take, ⊎_elim, refl, sym, ap, ◌∙◌, subst, arith}
+use Rattle.std.proofs.Common.{◌≡◌, ◌≢◌, ◌+◌, ◌<◌, ℕ, true, false, List, length, set, take, ⊎_elim, sym, ap, ◌∙◌, subst, arith}
 use Rattle.std.specs.Prelude.{◌||◌, nat_eq, if◌then◌else◌, slice_index}
 use Rattle.std.proofs.lemmas.Bool.{cases_eq, cond-true, eq-eqb, ne_eqb, or_right}
 use Rattle.std.proofs.lemmas.List.{get_or-set_same, get_or-set_other, take_all}
+use Rattle.shen_graph.proofs.Bools.{or_false}
 use Rattle.heap_world.specs.Walk.{has}
 use Rattle.heap_world.specs.Change.{image_words}
 use Rattle.image_graph.specs.State.{config_of}
@@ -9,10 +10,6 @@ use Rattle.control.specs.Image.{image_in}
 use Rattle.control.proofs.Images.{length-image_in}
 use Rattle.control.proofs.Starting.{has_more}
 use Rattle.control.proofs.starts.clear_starts.Goals as goal
-
-or_none : (holds : Bool) → (holds || false) ≡ holds
-or_none true = refl
-or_none false = refl
 
 -- one more index is made 0
 module _ (starts xs ys : List ℕ) (number : ℕ) (some : number < length starts) (inside : slice_index starts number < length ys)
@@ -23,11 +20,11 @@ module _ (starts xs ys : List ℕ) (number : ℕ) (some : number < length starts
   one_more : (index : ℕ) → slice_index (set ys start 0) index ≡ (if has (take (number + 1) starts) index then 0 else slice_index xs index)
   one_more index = ⊎_elim
       (λ (same : index ≡ start).
-      subst (λ j. slice_index (set ys start 0) j ≡ 0) (sym same) (get_or-set_same ys start 0 0 inside)
+      subst (λ index. slice_index (set ys start 0) index ≡ 0) (sym same) (get_or-set_same ys start 0 0 inside)
       ∙ sym (cond-true (has (take (number + 1) starts) index) 0 (slice_index xs index) (has_more starts number index some ∙ or_right (has (take number starts) index) (nat_eq index start) (eq-eqb index start same))))
       (λ (other : index ≢ start).
       get_or-set_other ys start index 0 0 other ∙ cleared index
-      ∙ ap (λ b. if b then 0 else slice_index xs index) (sym (has_more starts number index some ∙ ap (λ b. has (take number starts) index || b) (ne_eqb index start other) ∙ or_none (has (take number starts) index))))
+      ∙ ap (λ b. if b then 0 else slice_index xs index) (sym (has_more starts number index some ∙ ap (λ b. has (take number starts) index || b) (ne_eqb index start other) ∙ or_false (has (take number starts) index))))
       (cases_eq index start)
 
 pub put_word-requires-clause-index : goal.put_word-requires-clause-index
@@ -47,8 +44,8 @@ loop-number-preserved c =
     record {
       config = c.put_word.ensures.config ∙ c.loop-number.invariant.config;
       clear = c.put_word.ensures.clear;
-      cleared = λ k. ap (λ ys. slice_index ys k) c.put_word.ensures.image
-          ∙ one_more starts (image_in c.args.image.now) (image_in c.loop-number.image) number some (omega (arith, long, of.1)) c.loop-number.invariant.cleared k;
+      cleared = λ index. ap (λ ys. slice_index ys index) c.put_word.ensures.image
+          ∙ one_more starts (image_in c.args.image.now) (image_in c.loop-number.image) number some (omega (arith, long, of.1)) c.loop-number.invariant.cleared index;
     }
 
 pub returns-clause-image : goal.returns-clause-image

@@ -13,9 +13,9 @@ use Rattle.control.proofs.starts.start_of.Goals as goal
 
 -- where a buffer has free words, the first of them is a word of the heap
 first_is_word : (config : Config) (word : ℕ) → (word ≢ 0 → IsInside config word) → next_in word < end_in word → IsWord config (Heap (next_in word))
-first_is_word config word inside some =
-    let is : IsInside config word = inside (λ none. let end : end_in word ≡ 0 = ap end_in none in omega (arith, some, end)) in
-    regions_tile.in_heap config (buffer_region config word) (next_in word) is.region (record { from = is.from_base; before = (let to = is.to_end in omega (arith, some, to)) })
+first_is_word config word inside below =
+    let is : IsInside config word = inside (λ none. let end : end_in word ≡ 0 = ap end_in none in omega (arith, below, end)) in
+    regions_tile.in_heap config (buffer_region config word) (next_in word) is.region (record { from = is.from_base; before = (let to = is.to_end in omega (arith, below, to)) })
 
 pub heap_at-requires : goal.heap_at-requires
 heap_at-requires c =
@@ -23,7 +23,7 @@ heap_at-requires c =
     let next = c.next_of-next.ensures in
     let end = c.end_of-end.ensures in
     let some : next_in word < end_in word = omega (arith, c.if-next-end.true, next, end) in
-    subst (λ a. IsWord c.args.config (Heap a)) (sym next) (first_is_word c.args.config word c.requires some)
+    subst (λ address. IsWord c.args.config (Heap address)) (sym next) (first_is_word c.args.config word c.requires some)
 
 pub returns-then-next-end-clause-value : goal.returns-then-next-end-clause-value
 returns-then-next-end-clause-value c =
@@ -32,7 +32,7 @@ returns-then-next-end-clause-value c =
     let next = c.next_of-next.ensures in
     let end = c.end_of-end.ensures in
     let some : next_in word < end_in word = omega (arith, c.if-next-end.true, next, end) in
-    let at : c.heap_at.result ≡ word_at config (Heap (next_in word)) = c.heap_at.ensures ∙ ap (λ a. word_at config (Heap a)) next in
+    let at : c.heap_at.result ≡ word_at config (Heap (next_in word)) = c.heap_at.ensures ∙ ap (λ address. word_at config (Heap address)) next in
     ap (λ n. n - c.image_start.result) at ∙ ap (λ n. word_at config (Heap (next_in word)) - n) c.image_start.ensures.value
     ∙ sym (cond-true (nat_lt (next_in word) (end_in word)) (word_at config (Heap (next_in word)) - image_start config) (heap_index config) (lt-ltb _ _ some))
 
@@ -44,7 +44,7 @@ returns-then-next-end-clause-heap c =
     let end = c.end_of-end.ensures in
     let some : next_in word < end_in word = omega (arith, c.if-next-end.true, next, end) in
     let is = first_is_word config word c.requires some in
-    let at : c.heap_at.result ≡ word_at config (Heap (next_in word)) = c.heap_at.ensures ∙ ap (λ a. word_at config (Heap a)) next in
+    let at : c.heap_at.result ≡ word_at config (Heap (next_in word)) = c.heap_at.ensures ∙ ap (λ address. word_at config (Heap address)) next in
     let start = c.image_start.ensures.value in
     (omega (arith, at, start, is.0, is.1), omega (arith, at, start, is.0, is.1))
 

@@ -43,11 +43,11 @@ loop-seat-preserved c =
     let long = c.loop-seat.invariant.long in
     record {
       long = length-set starts seat c.start_of.result ∙ long;
-      of_seat = λ s less. ⊎_elim
-          (λ (same : s ≡ seat). subst (λ j. slice_index (set starts seat c.start_of.result) j ≡ start_index config (memory (Current j))) (sym same)
+      of_seat = λ other_seat less. ⊎_elim
+          (λ (same : other_seat ≡ seat). subst (λ other_seat. slice_index (set starts seat c.start_of.result) other_seat ≡ start_index config (memory (Current other_seat))) (sym same)
           (get_or-set_same starts seat c.start_of.result 0 (omega (arith, long, below, mutators, helpers)) ∙ start))
-          (λ (other : s ≢ seat). get_or-set_other starts seat s c.start_of.result 0 other ∙ c.loop-seat.invariant.of_seat s (omega (arith, less, other)))
-          (cases_eq s seat);
+          (λ (other : other_seat ≢ seat). get_or-set_other starts seat other_seat c.start_of.result 0 other ∙ c.loop-seat.invariant.of_seat other_seat (omega (arith, less, other)))
+          (cases_eq other_seat seat);
       heap = one_more_of_heap config starts seat c.start_of.result (subst (λ d. IsHeapIndex d c.start_of.result) same_config c.start_of.ensures.heap) c.loop-seat.invariant.heap;
     }
 

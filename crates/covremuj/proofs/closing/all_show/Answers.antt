@@ -15,7 +15,7 @@ returns-then-not-shows-clause-shown c =
     let l = c.loop-at in
     let d = c.index-handles-at.result in
     let asked = c.args.asked in
-    let is = subst (λ n. shows asked n l.at (get_or l.handles l.at d).held ≡ false) l.invariant.2 (sym c.shows.ensures.shown ∙ c.if-not-shows.true) in
+    let is = subst (λ count. shows asked count l.at (get_or l.handles l.at d).held ≡ false) l.invariant.2 (sym c.shows.ensures.shown ∙ c.if-not-shows.true) in
     sym (ap (each_shows asked) (sym l.invariant.0) ∙ show_not asked (length (seats_held l.handles)) l.handles l.at d (omega (arith, c.loop-at-test.true, l.auto.handles)) is)
 
 pub loop-at-preserved : goal.loop-at-preserved

@@ -29,7 +29,7 @@ pub returns-clause-history : goal.returns-clause-history
 returns-clause-history c up =
     let l = c.loop-at in
     let before = l.invariant.1 in
-    let long : length (seats_held l.handles) ≡ length l.handles = length-map l.handles (λ (h : Handle). h.held) in
+    let long : length (seats_held l.handles) ≡ length l.handles = length-map l.handles (λ (handle : Handle). handle.held) in
     let past = c.loop-at-test.false in
     let same = l.auto.handles in
     let none : any_held (seats_held l.handles) ≡ false = ap any_held (sym (take_all l.at (seats_held l.handles) (omega (arith, long, past, same)))) ∙ l.invariant.0 in

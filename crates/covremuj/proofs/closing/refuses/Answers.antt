@@ -14,6 +14,6 @@ returns-clause-answer c =
     let numbered = c.all_show-numbered.ensures.shown ∙ ap (each_shows Numbered) first in
     let over = c.all_show-over.ensures.shown ∙ ap (each_shows c.args.last) second in
     some_answered c.args.last hs c.answer_by.result (some_there (length hs) c.is_empty.result c.is_empty.ensures c.if-is_empty.false)
-    (subst (λ b. AnswersBy b (each_shows Numbered (seats_held hs)) (each_shows c.args.last (seats_held hs)) c.answer_by.result) filled
-    (subst (λ b. AnswersBy c.all_show-filled.result b (each_shows c.args.last (seats_held hs)) c.answer_by.result) numbered
-    (subst (λ b. AnswersBy c.all_show-filled.result c.all_show-numbered.result b c.answer_by.result) over c.answer_by.ensures)))
+    (subst (λ filled. AnswersBy filled (each_shows Numbered (seats_held hs)) (each_shows c.args.last (seats_held hs)) c.answer_by.result) filled
+    (subst (λ numbered. AnswersBy c.all_show-filled.result numbered (each_shows c.args.last (seats_held hs)) c.answer_by.result) numbered
+    (subst (λ over. AnswersBy c.all_show-filled.result c.all_show-numbered.result over c.answer_by.result) over c.answer_by.ensures)))

@@ -8,5 +8,5 @@ use Rattle.covremuj.proofs.closing.with_next.Goals as goal
 
 pub returns-in-Some : goal.returns-in-Some
 returns-in-Some c before given =
-    subst (λ (found : Option (Box Seat)). AreGathered (before ++ seat_in (option_map (λ (b : Box Seat). b.value) found)) c.with.result) (sym c.in-Some.is)
+    subst (λ (found : Option (Box Seat)). AreGathered (before ++ seat_in (option_map (λ (box : Box Seat). box.value) found)) c.with.result) (sym c.in-Some.is)
     (subst (λ (seat : Seat). AreGathered (before ++ seat ∷ []) c.with.result) c.into_inner.ensures (c.with.ensures before given))

@@ -30,7 +30,7 @@ hold-requires-clause-count c =
     let same : seats_held hs ≡ held = set_same c.refuses-why.new.handles 0 c.index-handles-0.result c.room_for.new.handle c.room_for.ensures.held ∙ c.refuses-why.ensures.held in
     let here : AreFollowedHere (seats_in held) c.in-Some-renewed.following = subst (λ (os : List (Option Seat)). AreFollowedHere (seats_in os) c.in-Some-renewed.following) same c.in-Some-renewed.ensures.goes_on in
     let first = first_counts held (subst (AnswersAsked Ended held) why c.refuses-why.ensures.answer) in
-    c.renewed.ensures.count ∙ sym (length-map hs (λ (h : Handle). h.held)) ∙ ap (λ (os : List (Option Seat)). length os) same
+    c.renewed.ensures.count ∙ sym (length-map hs (λ (handle : Handle). handle.held)) ∙ ap (λ (os : List (Option Seat)). length os) same
     ∙ sym first.2 ∙ ap (λ (config : Config). seat_count config.mutators config.helpers) (here.config 0 first.0 first.1) ∙ sym here.followed.goes_on.fresh.count
 
 pub returns-in-Some-renewed-clause-answer : goal.returns-in-Some-renewed-clause-answer

@@ -1,7 +1,7 @@
 use Rattle.std.proofs.Common.{ap, ◌∙◌, arith}
+use Rattle.heap_words.proofs.Lists.{element_at}
 use Rattle.heap_seats.specs.GivenUp.{sizes_closing, start_closing}
 use Rattle.heap_seats.proofs.Followed.{if_some}
-use Rattle.heap_seats.proofs.Joined.{some_at}
 use Rattle.table_heap.specs.declared.heap.Heap.{Heap}
 use Rattle.table_heap.specs.State.{start_of_heap}
 use Rattle.covremuj.specs.OpenedHandles.{seats_held}
@@ -12,7 +12,7 @@ pub renew-requires-clause-room : goal.renew-requires-clause-room
 renew-requires-clause-room c =
     let all = c.in_ok-closing.ensures.given.all in
     let count = all.count in
-    let s = some_at (seats_in (seats_held c.args.handles.now)) 0 (omega (arith, count)) in
+    let s = element_at (seats_in (seats_held c.args.handles.now)) 0 (omega (arith, count)) in
     c.requires.room s.0 s.1 ∙ all.config 0 s.0 s.1
 
 pub returns-clause-goes_on : goal.returns-clause-goes_on
@@ -24,7 +24,7 @@ returns-clause-goes_on c =
       sizes = sizes_closing closing;
       start = start_closing closing;
       config = to_be.all.config;
-      begun = λ k s there. ap (λ (heap : Heap). start_of_heap heap) (to_be.all.heap k s there);
+      begun = λ address s there. ap (λ (heap : Heap). start_of_heap heap) (to_be.all.heap address s there);
       followed = followed;
     })
     (c.renew.ensures (seats_in (seats_held c.args.handles.now)) to_be)

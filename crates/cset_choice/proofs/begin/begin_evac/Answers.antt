@@ -74,12 +74,12 @@ pub returns-then-set-eq0-clause-holds : goal.returns-then-set-eq0-clause-holds
 returns-then-set-eq0-clause-holds c = λ block owner p graph holds calm.
     let config = config_of c.args.image.now in
     let memory : Word → ℕ = memory_of c.args.image.now in
-    subst (λ (n : Word → ℕ). HoldsStill config memory n block owner p graph) (sym (returns-then-set-eq0-clause-words c ∙ ap (evac_begun config memory) c.requires.set))
+    subst (λ (other_memory : Word → ℕ). HoldsStill config memory other_memory block owner p graph) (sym (returns-then-set-eq0-clause-words c ∙ ap (evac_begun config memory) c.requires.set))
     (begun_holds config memory block owner p graph holds calm c.requires.can)
 
 pub returns-clause-holds : goal.returns-clause-holds
 returns-clause-holds c = λ block owner p graph holds calm.
     let config = config_of c.args.image.now in
     let memory : Word → ℕ = memory_of c.args.image.now in
-    subst (λ (n : Word → ℕ). HoldsStill config memory n block owner p graph) (sym (returns-clause-words c ∙ ap (evac_begun config memory) c.requires.set))
+    subst (λ (other_memory : Word → ℕ). HoldsStill config memory other_memory block owner p graph) (sym (returns-clause-words c ∙ ap (evac_begun config memory) c.requires.set))
     (begun_holds config memory block owner p graph holds calm c.requires.can)

@@ -23,7 +23,7 @@ clear-requires-clause-can c =
     let value : slice_index (words_of now) c.answer_at.result ≡ memory_of now (Answer mutator) =
     ap (slice_index (words_of now)) at ∙ sym (view_word (config_of now) (words_of now) (Answer mutator) word) in
     let here : CanClear config (row config memory Answer mutator) (memory_of now (Answer mutator)) =
-    subst (λ (n : Word → ℕ). CanClear config (row config memory Answer mutator) (n (Answer mutator))) (sym is.words) (row_can config memory Answer config.mutators mutator below c.requires) in
+    subst (λ (other_memory : Word → ℕ). CanClear config (row config memory Answer mutator) (other_memory (Answer mutator))) (sym is.words) (row_can config memory Answer config.mutators mutator below c.requires) in
     subst (λ (config : Config). CanClear config (memory_of now) (slice_index (words_of now) c.answer_at.result)) (sym is.config)
     (subst (λ (memory : Word → ℕ). CanClear config memory (slice_index (words_of now) c.answer_at.result)) (sym is.words)
     (subst (CanClear config (row config memory Answer mutator)) (sym value) here))

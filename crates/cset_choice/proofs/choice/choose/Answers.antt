@@ -37,7 +37,7 @@ loop-region-preserved c =
     let set : ℕ = bits_of (is_candidate config memory) 0 config.regions in
     let told : c.is_taken.result ≡ taken config memory region =
     c.is_taken.ensures
-    ∙ ap (λ s. (bit_at s region == 1) && nat_le (up_to live s c.config-config.result.regions region) c.copy_limit-limit.result) c.candidates-counted.ensures.set
+    ∙ ap (λ set. (bit_at set region == 1) && nat_le (up_to live set c.config-config.result.regions region) c.copy_limit-limit.result) c.candidates-counted.ensures.set
     ∙ ap (λ (config : Config). (bit_at set region == 1) && nat_le (up_to live set config.regions region) c.copy_limit-limit.result) c.config-config.ensures
     ∙ ap (λ n. (bit_at set region == 1) && nat_le (up_to live set config.regions region) n) c.copy_limit-limit.ensures
     ∙ fits_is config memory live c.candidates-counted.ensures.live region (copy_limit config memory) below in

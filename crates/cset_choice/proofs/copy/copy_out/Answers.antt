@@ -16,9 +16,9 @@ use Rattle.cset_choice.proofs.copy.copy_out.Goals as goal
 
 -- the room that was found is that of the object's words
 same_room : (config : Config) (memory : Word → ℕ) (address shape words : ℕ) (found room : Option ℕ) → shape ≡ memory (Heap (address + 1)) → words ≡ object_words shape
-    → found ≡ lowest_room config.region_words (tops_outside config.region_words (memory Cset) (λ r. memory (Top r))) words config.regions → found ≡ room → copy_room config memory address ≡ room
+    → found ≡ lowest_room config.region_words (tops_outside config.region_words (memory Cset) (λ region. memory (Top region))) words config.regions → found ≡ room → copy_room config memory address ≡ room
 same_room config memory address shape words found room read long is same =
-    ap (λ n. lowest_room config.region_words (tops_outside config.region_words (memory Cset) (λ r. memory (Top r))) n config.regions) (sym (long ∙ ap object_words read)) ∙ sym is ∙ same
+    ap (λ words. lowest_room config.region_words (tops_outside config.region_words (memory Cset) (λ region. memory (Top region))) words config.regions) (sym (long ∙ ap object_words read)) ∙ sym is ∙ same
 
 module _ (config : Config) (memory : Word → ℕ) (address : ℕ) (can : CanCopyOut config memory address) where
   pub shape_is : IsWord config (Heap (address + 1))
@@ -86,10 +86,10 @@ pub returns-in-Some-clause-holds : goal.returns-in-Some-clause-holds
 returns-in-Some-clause-holds c =
     let config = config_of c.args.image.now in
     let memory : Word → ℕ = memory_of c.args.image.now in
-    subst (λ (n : Word → ℕ). CopyingHolds config memory n c.args.address) (sym (returns-in-Some-clause-words c)) (copying_holds config memory c.args.address c.requires)
+    subst (λ (other_memory : Word → ℕ). CopyingHolds config memory other_memory c.args.address) (sym (returns-in-Some-clause-words c)) (copying_holds config memory c.args.address c.requires)
 
 pub returns-in-None-clause-holds : goal.returns-in-None-clause-holds
 returns-in-None-clause-holds c =
     let config = config_of c.args.image.now in
     let memory : Word → ℕ = memory_of c.args.image.now in
-    subst (λ (n : Word → ℕ). CopyingHolds config memory n c.args.address) (sym (returns-in-None-clause-words c)) (copying_holds config memory c.args.address c.requires)
+    subst (λ (other_memory : Word → ℕ). CopyingHolds config memory other_memory c.args.address) (sym (returns-in-None-clause-words c)) (copying_holds config memory c.args.address c.requires)

@@ -10,7 +10,7 @@ use Rattle.image_graph.proofs.NamedStores.{stored, placed_inside}
 use Rattle.cycle_words.specs.Evacuation.Live.{words_at}
 use Rattle.cycle_words.specs.Evacuation.Copied.{top_address}
 use Rattle.cset_choice.proofs.Objects.{object_in_heap, word_of_heap}
-use Rattle.image_graph.proofs.Read.{low_in}
+use Rattle.image_graph.proofs.HeapParts.{low_in}
 use Rattle.cset_choice.proofs.Reading.{word_in, first_in}
 use Rattle.cset_choice.proofs.CopyStores.{copies_apart, copied_stores}
 use Rattle.cset_choice.proofs.copy.copy_to.Goals as goal
@@ -38,7 +38,7 @@ copy_words-requires-clause-to c =
     (ap (λ (config : Config). word_at config (Heap (address + 1))) (sym c.config-config.ensures) ∙ sym c.heap_at.ensures)) in
     let base : c.base.result ≡ base_of config region = c.base.ensures ∙ ap (λ (config : Config). base_of config region) c.config-config.ensures in
     let at : top_address config memory region ≡ c.base.result + c.top-top.result = omega (arith, base, c.top-top.ensures) in
-    subst (λ x. AreInHeap config x c.words_of-words.result) at
+    subst (λ address. AreInHeap config address c.words_of-words.result) at
     (subst (AreInHeap config (top_address config memory region)) (sym words) (room_in_heap config region (memory (Top region)) (words_at memory address) c.requires.region c.requires.room))
 
 pub copy_words-requires-clause-apart : goal.copy_words-requires-clause-apart
@@ -139,7 +139,7 @@ overflow_add-copy c =
     let region = c.args.region in
     let at : base_of config region + memory (Top region) ≡ c.base.result + c.top-top.result =
     omega (arith, c.base.ensures ∙ ap (λ (config : Config). base_of config region) c.config-config.ensures, c.top-top.ensures) in
-    let target = subst (λ (x : ℕ). AreInHeap config x (words_at memory c.args.address)) at (room_in_heap config region (memory (Top region)) (words_at memory c.args.address) c.requires.region c.requires.room) in
+    let target = subst (λ (address : ℕ). AreInHeap config address (words_at memory c.args.address)) at (room_in_heap config region (memory (Top region)) (words_at memory c.args.address) c.requires.region c.requires.room) in
     omega (arith, low_in _ _ _ target)
 
 pub heap_at-requires-2 : goal.heap_at-requires-2
@@ -149,7 +149,7 @@ heap_at-requires-2 c =
     let region = c.args.region in
     let at : base_of config region + memory (Top region) ≡ c.base.result + c.top-top.result =
     omega (arith, c.base.ensures ∙ ap (λ (config : Config). base_of config region) c.config-config.ensures, c.top-top.ensures) in
-    let target = subst (λ (x : ℕ). AreInHeap config x (words_at memory c.args.address)) at (room_in_heap config region (memory (Top region)) (words_at memory c.args.address) c.requires.region c.requires.room) in
+    let target = subst (λ (address : ℕ). AreInHeap config address (words_at memory c.args.address)) at (room_in_heap config region (memory (Top region)) (words_at memory c.args.address) c.requires.region c.requires.room) in
     first_in config c.config-config.result _ (words_at memory c.args.address) c.config-config.ensures target (omega arith)
 
 pub set_word-requires : goal.set_word-requires
@@ -159,7 +159,7 @@ set_word-requires c =
     let region = c.args.region in
     let at : base_of config region + memory (Top region) ≡ c.base.result + c.top-top.result =
     omega (arith, c.base.ensures ∙ ap (λ (config : Config). base_of config region) c.config-config.ensures, c.top-top.ensures) in
-    let target = subst (λ (x : ℕ). AreInHeap config x (words_at memory c.args.address)) at (room_in_heap config region (memory (Top region)) (words_at memory c.args.address) c.requires.region c.requires.room) in
+    let target = subst (λ (address : ℕ). AreInHeap config address (words_at memory c.args.address)) at (room_in_heap config region (memory (Top region)) (words_at memory c.args.address) c.requires.region c.requires.room) in
     placed_inside (config_of c.copy_words.new.image) c.config-config.result (Heap (c.base.result + c.top-top.result)) _ (c.copy_words.ensures.config ∙ sym c.config-config.ensures) (first_in config c.config-config.result _ (words_at memory c.args.address) c.config-config.ensures target (omega arith)) c.heap_at-2.ensures
 
 pub top_at-requires : goal.top_at-requires
@@ -197,7 +197,7 @@ header_to-requires c =
     let region = c.args.region in
     let at : base_of config region + memory (Top region) ≡ c.base.result + c.top-top.result =
     omega (arith, c.base.ensures ∙ ap (λ (config : Config). base_of config region) c.config-config.ensures, c.top-top.ensures) in
-    let target = subst (λ (x : ℕ). AreInHeap config x (words_at memory c.args.address)) at (room_in_heap config region (memory (Top region)) (words_at memory c.args.address) c.requires.region c.requires.room) in
+    let target = subst (λ (address : ℕ). AreInHeap config address (words_at memory c.args.address)) at (room_in_heap config region (memory (Top region)) (words_at memory c.args.address) c.requires.region c.requires.room) in
     omega (arith, low_in _ _ _ target)
 
 pub set_word-requires-4 : goal.set_word-requires-4
@@ -219,5 +219,5 @@ returns-clause-address c =
     let region = c.args.region in
     let at : base_of config region + memory (Top region) ≡ c.base.result + c.top-top.result =
     omega (arith, c.base.ensures ∙ ap (λ (config : Config). base_of config region) c.config-config.ensures, c.top-top.ensures) in
-    let target = subst (λ (x : ℕ). AreInHeap config x (words_at memory c.args.address)) at (room_in_heap config region (memory (Top region)) (words_at memory c.args.address) c.requires.region c.requires.room) in
+    let target = subst (λ (address : ℕ). AreInHeap config address (words_at memory c.args.address)) at (room_in_heap config region (memory (Top region)) (words_at memory c.args.address) c.requires.region c.requires.room) in
     sym at

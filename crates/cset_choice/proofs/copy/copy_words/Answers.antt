@@ -1,4 +1,4 @@
-use Rattle.image_graph.proofs.Read.{low_in}
+use Rattle.image_graph.proofs.HeapParts.{low_in}
 use Rattle.cset_choice.proofs.Reading.{word_in}
 use Rattle.std.proofs.Common.{◌≡◌, ◌+◌, ℕ, sym, ap, ◌∙◌, subst, arith}
 use Rattle.heap_words.specs.declared.config.Config.{Config}
@@ -19,31 +19,31 @@ loop-index-preserved c =
     let memory : Word → ℕ = memory_of c.args.image.now in
     let from = c.args.from in
     let to = c.args.to in
-    let i = c.loop-index.index in
+    let index = c.loop-index.index in
     let now = c.loop-index.image in
     let is = c.loop-index.invariant in
     let same : c.config-config.result ≡ config = c.config-config.ensures in
-    let source : IsWord config (Heap (from + i)) = word_of_heap config from c.args.words i c.requires.from c.loop-index-test.true in
-    let target : IsWord config (Heap (to + i)) = word_of_heap config to c.args.words i c.requires.to c.loop-index-test.true in
-    let read : c.word-word.result ≡ memory (Heap (from + i)) =
-    c.word-word.ensures.named (Heap (from + i)) (subst (λ (config : Config). IsWord config (Heap (from + i))) (sym is.config) source)
-    (ap (λ (config : Config). word_at config (Heap (from + i))) (is.config ∙ sym same) ∙ sym c.heap_at.ensures)
-    ∙ ap (λ (memory : Word → ℕ). memory (Heap (from + i))) is.words
-    ∙ still_there from to i c.args.words memory c.loop-index-test.true c.requires.apart in
-    let one = stored (config_of now) c.config-config.result (memory_of now) (memory_of c.set_word.new.self) (Heap (to + i)) c.heap_at-in-loop-index.result c.word-word.result
-    (is.config ∙ sym same) (subst (λ (config : Config). IsWord config (Heap (to + i))) (sym same) target) c.heap_at-in-loop-index.ensures c.set_word.ensures.named in
+    let source : IsWord config (Heap (from + index)) = word_of_heap config from c.args.words index c.requires.from c.loop-index-test.true in
+    let target : IsWord config (Heap (to + index)) = word_of_heap config to c.args.words index c.requires.to c.loop-index-test.true in
+    let read : c.word-word.result ≡ memory (Heap (from + index)) =
+    c.word-word.ensures.named (Heap (from + index)) (subst (λ (config : Config). IsWord config (Heap (from + index))) (sym is.config) source)
+    (ap (λ (config : Config). word_at config (Heap (from + index))) (is.config ∙ sym same) ∙ sym c.heap_at.ensures)
+    ∙ ap (λ (memory : Word → ℕ). memory (Heap (from + index))) is.words
+    ∙ still_there from to index c.args.words memory c.loop-index-test.true c.requires.apart in
+    let one = stored (config_of now) c.config-config.result (memory_of now) (memory_of c.set_word.new.self) (Heap (to + index)) c.heap_at-in-loop-index.result c.word-word.result
+    (is.config ∙ sym same) (subst (λ (config : Config). IsWord config (Heap (to + index))) (sym same) target) c.heap_at-in-loop-index.ensures c.set_word.ensures.named in
     record {
       config = c.set_word.ensures.config ∙ is.config;
       words = one
-          ∙ ap (λ n. write n (Heap (to + i)) c.word-word.result) is.words
-          ∙ ap (write (words_copied from to i memory) (Heap (to + i))) read
-          ∙ copied_next from to i c.args.words memory c.loop-index-test.true c.requires.apart;
+          ∙ ap (λ n. write n (Heap (to + index)) c.word-word.result) is.words
+          ∙ ap (write (words_copied from to index memory) (Heap (to + index))) read
+          ∙ copied_next from to index c.args.words memory c.loop-index-test.true c.requires.apart;
     }
 
 pub returns-clause-words : goal.returns-clause-words
 returns-clause-words c =
     let all : c.loop-index.index ≡ c.args.words = omega (arith, c.loop-index-test.false, c.loop-index.auto.index-end) in
-    c.loop-index.invariant.words ∙ ap (λ n. words_copied c.args.from c.args.to n (memory_of c.args.image.now)) all
+    c.loop-index.invariant.words ∙ ap (λ words. words_copied c.args.from c.args.to words (memory_of c.args.image.now)) all
 
 pub overflow_add-from : goal.overflow_add-from
 overflow_add-from c = omega (arith, low_in _ _ _ c.requires.from, c.loop-index-test.true)

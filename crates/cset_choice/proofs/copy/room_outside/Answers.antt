@@ -11,13 +11,13 @@ pub returns-then-has_room : goal.returns-then-has_room
 returns-then-has_room c =
     let config = config_of c.args.image.now in
     let memory : Word → ℕ = memory_of c.args.image.now in
-    let w = config.region_words in
-    let tops : ℕ → ℕ = tops_outside w (memory Cset) (λ r. memory (Top r)) in
+    let region_words = config.region_words in
+    let tops : ℕ → ℕ = tops_outside region_words (memory Cset) (λ region. memory (Top region)) in
     let region = c.loop-region.region in
     let below : region < config.regions = omega (arith, c.loop-region-test.true, c.regions-region-end.ensures, ap (λ (config : Config). config.regions) c.config.ensures) in
-    sym (lowest_is w tops c.args.words config.regions region (record {
+    sym (lowest_is region_words tops c.args.words config.regions region (record {
       below = below;
-      room = leb-true (tops region + c.args.words) w (sym c.has_room.ensures ∙ c.if-has_room.true);
+      room = leb-true (tops region + c.args.words) region_words (sym c.has_room.ensures ∙ c.if-has_room.true);
       none_lower = c.loop-region.invariant;
     }))
 
@@ -27,4 +27,4 @@ returns c =
     let memory : Word → ℕ = memory_of c.args.image.now in
     let all : c.loop-region.region ≡ config.regions =
     omega (arith, c.loop-region-test.false, c.loop-region.auto.region-end, c.regions-region-end.ensures, ap (λ (config : Config). config.regions) c.config.ensures) in
-    sym (all_full config.region_words (tops_outside config.region_words (memory Cset) (λ r. memory (Top r))) c.args.words config.regions (λ r below. c.loop-region.invariant r (omega (arith, below, all))))
+    sym (all_full config.region_words (tops_outside config.region_words (memory Cset) (λ region. memory (Top region))) c.args.words config.regions (λ r below. c.loop-region.invariant r (omega (arith, below, all))))

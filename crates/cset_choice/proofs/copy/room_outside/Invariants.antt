@@ -6,4 +6,4 @@ use Rattle.cset_choice.proofs.copy.room_outside.Given as goal
 
 abbrev pub invariant-loop-region : goal.invariant-loop-region
 invariant-loop-region l =
-    (q : ℕ) → q < l.region → (config_of l.image).region_words < tops_outside (config_of l.image).region_words (memory_of l.image Cset) (λ r. memory_of l.image (Top r)) q + l.words
+    (q : ℕ) → q < l.region → (config_of l.image).region_words < tops_outside (config_of l.image).region_words (memory_of l.image Cset) (λ region. memory_of l.image (Top region)) q + l.words

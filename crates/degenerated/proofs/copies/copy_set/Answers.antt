@@ -13,15 +13,15 @@ pub loop-index-init : goal.loop-index-init
 loop-index-init c =
     let config = config_of c.args.image.now in
     let memory : Word → ℕ = memory_of c.args.image.now in
-    let w = config.region_words in
-    let size = config.regions * w in
-    let at : w ≡ w + 0 = omega arith in
+    let region_words = config.region_words in
+    let size = config.regions * region_words in
+    let at : region_words ≡ region_words + 0 = omega arith in
     let left : size ≡ size - 0 = omega arith in
     record {
       config = refl;
-      words = ap (λ a. copied_from config memory a size) at ∙ ap (copied_from config memory (w + 0)) left;
-      room = ap (λ a. is_room_from config memory a size) at ∙ ap (is_room_from config memory (w + 0)) left;
-      can = subst (CanCopyFrom config memory (w + 0)) left (subst (λ a. CanCopyFrom config memory a size) at c.requires);
+      words = ap (λ address. copied_from config memory address size) at ∙ ap (copied_from config memory (region_words + 0)) left;
+      room = ap (λ address. is_room_from config memory address size) at ∙ ap (is_room_from config memory (region_words + 0)) left;
+      can = subst (CanCopyFrom config memory (region_words + 0)) left (subst (λ address. CanCopyFrom config memory address size) at c.requires);
     }
 
 -- what comes after so many addresses, of the words at that time
@@ -60,16 +60,16 @@ module _ (config other_config : Config) (memory now : Word → ℕ) (i : ℕ) (s
       pub words_next : copied_from config memory config.region_words (config.regions * config.region_words) ≡ copied_from config after (config.region_words + (i + 1)) rest
       words_next =
           words ∙ ap (copied_from config now a) more ∙ goes_on config now a rest (sym found_here ∙ is)
-          ∙ ap (λ k. copied_from config k (a + 1) rest) (sym taken_here) ∙ ap (λ x. copied_from config after x rest) next
+          ∙ ap (λ k. copied_from config k (a + 1) rest) (sym taken_here) ∙ ap (λ address. copied_from config after address rest) next
 
       pub room_next : is_room_from config memory config.region_words (config.regions * config.region_words) ≡ is_room_from config after (config.region_words + (i + 1)) rest
       room_next =
           room ∙ ap (is_room_from config now a) more ∙ room_goes_on config now a rest (sym found_here ∙ is)
-          ∙ ap (λ k. is_room_from config k (a + 1) rest) (sym taken_here) ∙ ap (λ x. is_room_from config after x rest) next
+          ∙ ap (λ k. is_room_from config k (a + 1) rest) (sym taken_here) ∙ ap (λ address. is_room_from config after address rest) next
 
       pub can_next : CanCopyFrom config after (config.region_words + (i + 1)) rest
       can_next =
-          subst (λ x. CanCopyFrom config after x rest) next
+          subst (λ address. CanCopyFrom config after address rest) next
           (subst (λ k. CanCopyFrom config k (a + 1) rest) (sym taken_here) (can_go_on config now a rest (sym found_here ∙ is) can_more))
 
     module _ (is : told ≡ false) where
@@ -117,10 +117,10 @@ loop-index-preserved c =
     let memory : Word → ℕ = memory_of c.args.image.now in
     let d = config_of c.loop-index.image in
     let now : Word → ℕ = memory_of c.loop-index.image in
-    let i = c.loop-index.index in
+    let index = c.loop-index.index in
     let is = c.loop-index.invariant in
     let same : c.config-config.result ≡ g = c.config-config.ensures in
-    let below : i < g.regions * g.region_words =
+    let below : index < g.regions * g.region_words =
     omega (arith, c.loop-index-test.true, c.heap_size-index-end.ensures.value, ap (λ (config : Config). config.regions * config.region_words) same) in
     let first = c.region_words-first.result in
     let base : first ≡ g.region_words = c.region_words-first.ensures ∙ ap (λ (config : Config). config.region_words) same in
@@ -130,9 +130,9 @@ loop-index-preserved c =
     let goes = c.if-not-copy_if_left.false in
     record {
       config = turn.config ∙ is.config;
-      words = words_next g d memory now i is.config below first base is.words is.room is.can after told turn.words turn.room goes;
-      room = room_next g d memory now i is.config below first base is.words is.room is.can after told turn.words turn.room goes;
-      can = can_next g d memory now i is.config below first base is.words is.room is.can after told turn.words turn.room goes;
+      words = words_next g d memory now index is.config below first base is.words is.room is.can after told turn.words turn.room goes;
+      room = room_next g d memory now index is.config below first base is.words is.room is.can after told turn.words turn.room goes;
+      can = can_next g d memory now index is.config below first base is.words is.room is.can after told turn.words turn.room goes;
     }
 
 pub returns-clause-words : goal.returns-clause-words

@@ -14,10 +14,10 @@ use Rattle.degenerated.proofs.cycle.end.Goals as goal
 
 -- the words when who waits is served
 to_end : (g d e : Config) (memory one two three : Word → ℕ) → d ≡ g → e ≡ d → one ≡ all_copied g memory → two ≡ all_updated d one → three ≡ set_freed e two → three ≡ cycle_finished g memory
-to_end g d e memory one two three same_d same_e to_one to_two to_three =
+to_end other_config d e memory one two three same_d same_e to_one to_two to_three =
     to_three
     ∙ ap (λ (config : Config). set_freed config two) (same_e ∙ same_d)
-    ∙ ap (set_freed g) (to_two ∙ ap (λ (config : Config). all_updated config one) same_d ∙ ap (all_updated g) to_one)
+    ∙ ap (set_freed other_config) (to_two ∙ ap (λ (config : Config). all_updated config one) same_d ∙ ap (all_updated other_config) to_one)
 
 pub returns-then-not-copy_rest-clause-words : goal.returns-then-not-copy_rest-clause-words
 returns-then-not-copy_rest-clause-words c =

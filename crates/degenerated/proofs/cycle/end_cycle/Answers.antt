@@ -10,12 +10,12 @@ use Rattle.degenerated.proofs.cycle.end_cycle.Goals as goal
 
 pub returns-clause-words : goal.returns-clause-words
 returns-clause-words c =
-    let g = c.config-config.result in
+    let config = c.config-config.result in
     let two = c.end_updating.new.image in
-    let config_before : config_of two ≡ g = sym c.config-config.ensures in
-    let config_evac : config_of c.set_word.new.self ≡ g = c.set_word.ensures.config ∙ config_before in
-    let stored_evac = stored (config_of two) g _ _ Evac c.evac_at.result 0 config_before tt c.evac_at.ensures c.set_word.ensures.named in
-    let stored_ask = stored (config_of c.set_word.new.self) g _ _ Ask c.ask_at.result 0 config_evac tt c.ask_at.ensures c.set_word-2.ensures.named in
+    let config_before : config_of two ≡ config = sym c.config-config.ensures in
+    let config_evac : config_of c.set_word.new.self ≡ config = c.set_word.ensures.config ∙ config_before in
+    let stored_evac = stored (config_of two) config _ _ Evac c.evac_at.result 0 config_before tt c.evac_at.ensures c.set_word.ensures.named in
+    let stored_ask = stored (config_of c.set_word.new.self) config _ _ Ask c.ask_at.result 0 config_evac tt c.ask_at.ensures c.set_word-2.ensures.named in
     stored_ask ∙ ap (λ n. write n Ask 0) (stored_evac ∙ ap (λ n. write n Evac 0) (c.end_updating.ensures.words ∙ ap cycle_ended c.free_set.ensures.words))
     ∙ ended (config_of c.args.image.now) (memory_of c.args.image.now)
 
@@ -23,4 +23,4 @@ pub returns-clause-holds : goal.returns-clause-holds
 returns-clause-holds c =
     let config = config_of c.args.image.now in
     let memory : Word → ℕ = memory_of c.args.image.now in
-    subst (λ (n : Word → ℕ). LeavingHolds config memory n) (sym (returns-clause-words c)) (leaving_holds config memory)
+    subst (λ (other_memory : Word → ℕ). LeavingHolds config memory other_memory) (sym (returns-clause-words c)) (leaving_holds config memory)

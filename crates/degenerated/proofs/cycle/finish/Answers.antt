@@ -52,7 +52,7 @@ pub returns-clause-holds : goal.returns-clause-holds
 returns-clause-holds c =
     let config = config_of c.args.image.now in
     let memory : Word → ℕ = memory_of c.args.image.now in
-    subst (λ (n : Word → ℕ). FinishingHolds config memory n) (sym (returns-clause-words c)) (finishing_holds config memory (no_more_seats config (words_of c.args.image.now)))
+    subst (λ (other_memory : Word → ℕ). FinishingHolds config memory other_memory) (sym (returns-clause-words c)) (finishing_holds config memory (no_more_seats config (words_of c.args.image.now)))
 
 pub returns-clause-whole : goal.returns-clause-whole
 returns-clause-whole c =

@@ -44,4 +44,4 @@ returns-clause-words c =
     let config = config_of c.args.image.now in
     let all : c.loop-region.region ≡ config.regions =
     omega (arith, c.loop-region-test.false, c.loop-region.auto.region-end, c.regions-region-end.ensures, ap (λ (config : Config). config.regions) c.config-config.ensures) in
-    c.loop-region.invariant.words ∙ ap (λ n. fields_updated config (kept_now c.args.image.now) (is_of_first config n) (memory_of c.args.image.now)) all
+    c.loop-region.invariant.words ∙ ap (λ regions. fields_updated config (kept_now c.args.image.now) (is_of_first config regions) (memory_of c.args.image.now)) all

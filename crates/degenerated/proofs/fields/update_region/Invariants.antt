@@ -11,5 +11,5 @@ invariant-loop-offset l = record {
   config : config_of l.image ≡ config_of l.fn.image;
   places : places_of l.image ≡ places_of l.fn.image;
   words : memory_of l.image ≡ fields_updated (config_of l.fn.image) (kept_now l.fn.image) (is_below (config_of l.fn.image) l.region l.offset) (memory_of l.fn.image);
-  object : l.object ≡ base_of (config_of l.fn.image) l.region + start_of (λ a. memory_of l.fn.image (Heap a)) (base_of (config_of l.fn.image) l.region) (l.offset - 1);
+  object : l.object ≡ base_of (config_of l.fn.image) l.region + start_of (λ address. memory_of l.fn.image (Heap address)) (base_of (config_of l.fn.image) l.region) (l.offset - 1);
 }

@@ -11,7 +11,7 @@ pub is_reference-requires-clause-header : goal.is_reference-requires-clause-head
 is_reference-requires-clause-header c =
     let config = config_of c.args.image.now in
     let memory : Word → ℕ = memory_of c.args.image.now in
-    subst (λ x. IsWord config (Heap x)) (sym c.requires.object) (object_inside config memory c.requires.can c.args.address c.requires.stays).0
+    subst (λ address. IsWord config (Heap address)) (sym c.requires.object) (object_inside config memory c.requires.can c.args.address c.requires.stays).0
 
 pub is_reference-requires-clause-shape : goal.is_reference-requires-clause-shape
 is_reference-requires-clause-shape c =
@@ -23,7 +23,7 @@ pub is_kept-requires : goal.is_kept-requires
 is_kept-requires c =
     let config = config_of c.args.image.now in
     let memory : Word → ℕ = memory_of c.args.image.now in
-    subst (λ x. IsWord config (Heap x)) (sym c.requires.object) (object_inside config memory c.requires.can c.args.address c.requires.stays).0
+    subst (λ address. IsWord config (Heap address)) (sym c.requires.object) (object_inside config memory c.requires.can c.args.address c.requires.stays).0
 
 pub returns-then-not-is_reference-clause-words : goal.returns-then-not-is_reference-clause-words
 returns-then-not-is_reference-clause-words c =

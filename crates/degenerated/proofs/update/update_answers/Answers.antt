@@ -43,4 +43,4 @@ returns-clause-words c =
     let config = config_of c.args.image.now in
     let all : c.loop-mutator.mutator ≡ config.mutators =
     omega (arith, c.loop-mutator-test.false, c.loop-mutator.auto.mutator-end, c.mutators-mutator-end.ensures, ap (λ (config : Config). config.mutators) c.config-config.ensures) in
-    c.loop-mutator.invariant.words ∙ ap (λ n. answers_updated config (kept_now c.args.image.now) n (memory_of c.args.image.now)) all
+    c.loop-mutator.invariant.words ∙ ap (λ mutators. answers_updated config (kept_now c.args.image.now) mutators (memory_of c.args.image.now)) all

@@ -21,24 +21,24 @@ loop-index-preserved c =
     let config = config_of c.args.image.now in
     let memory : Word → ℕ = memory_of c.args.image.now in
     let mutator = c.args.mutator in
-    let i = c.loop-index.index in
+    let index = c.loop-index.index in
     let lead : ℕ → ℕ = kept_now c.args.image.now in
     let now = c.loop-index.image in
     let is = c.loop-index.invariant in
-    let word : IsWord (config_of now) (Root mutator i) = subst (λ (config : Config). IsWord config (Root mutator i)) (sym is.config) (c.requires.mutator, c.loop-index-test.true) in
-    let at : c.root_at.result ≡ word_at (config_of now) (Root mutator i) = c.root_at.ensures ∙ ap (λ (config : Config). word_at config (Root mutator i)) (c.config-config.ensures ∙ sym is.config) in
+    let word : IsWord (config_of now) (Root mutator index) = subst (λ (config : Config). IsWord config (Root mutator index)) (sym is.config) (c.requires.mutator, c.loop-index-test.true) in
+    let at : c.root_at.result ≡ word_at (config_of now) (Root mutator index) = c.root_at.ensures ∙ ap (λ (config : Config). word_at config (Root mutator index)) (c.config-config.ensures ∙ sym is.config) in
     record {
       config = c.update_place.ensures.config ∙ is.config;
       places = c.update_place.ensures.places ∙ is.places;
-      words = c.update_place.ensures.words (Root mutator i) word (sym at)
-          ∙ ap (λ (f : ℕ → ℕ). write (memory_of now) (Root mutator i) (updated_by (config_of now) f (memory_of now) (memory_of now (Root mutator i)))) (kept_same c.args.image.now now is.config is.places)
-          ∙ ap (λ (config : Config). write (memory_of now) (Root mutator i) (updated_by config lead (memory_of now) (memory_of now (Root mutator i)))) is.config
-          ∙ ap (λ (memory : Word → ℕ). write memory (Root mutator i) (updated_by config lead memory (memory (Root mutator i)))) is.words
-          ∙ ap (λ v. write (row_updated config lead mutator i memory) (Root mutator i) (updated_by config lead memory v)) (row_still config lead memory mutator i)
-          ∙ row_next config lead memory mutator i;
+      words = c.update_place.ensures.words (Root mutator index) word (sym at)
+          ∙ ap (λ (f : ℕ → ℕ). write (memory_of now) (Root mutator index) (updated_by (config_of now) f (memory_of now) (memory_of now (Root mutator index)))) (kept_same c.args.image.now now is.config is.places)
+          ∙ ap (λ (config : Config). write (memory_of now) (Root mutator index) (updated_by config lead (memory_of now) (memory_of now (Root mutator index)))) is.config
+          ∙ ap (λ (memory : Word → ℕ). write memory (Root mutator index) (updated_by config lead memory (memory (Root mutator index)))) is.words
+          ∙ ap (λ v. write (row_updated config lead mutator index memory) (Root mutator index) (updated_by config lead memory v)) (row_still config lead memory mutator index)
+          ∙ row_next config lead memory mutator index;
     }
 
 pub returns-clause-words : goal.returns-clause-words
 returns-clause-words c =
     let all : c.loop-index.index ≡ 16 = omega (arith, c.loop-index-test.false, c.loop-index.auto.index-end) in
-    c.loop-index.invariant.words ∙ ap (λ n. row_updated (config_of c.args.image.now) (kept_now c.args.image.now) c.args.mutator n (memory_of c.args.image.now)) all
+    c.loop-index.invariant.words ∙ ap (λ roots. row_updated (config_of c.args.image.now) (kept_now c.args.image.now) c.args.mutator roots (memory_of c.args.image.now)) all

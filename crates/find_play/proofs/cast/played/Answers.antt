@@ -10,6 +10,6 @@ loop-at-init c = record { begun = scene c.in_ok-cast.cast; begins = c.in_ok-cast
 
 pub loop-at-preserved : goal.loop-at-preserved
 loop-at-preserved c =
-    let t = c.args.test.now in
-    played_on t.programs.items t.bounds.returns (length t.notes) c.args.history.now.list c.loop-at.at (seen c.entry.result) (scene c.loop-at.cast) (scene c.answer.new.self) c.entry.ensures c.loop-at.invariant
+    let test = c.args.test.now in
+    played_on test.programs.items test.bounds.returns (length test.notes) c.args.history.now.list c.loop-at.at (seen c.entry.result) (scene c.loop-at.cast) (scene c.answer.new.self) c.entry.ensures c.loop-at.invariant
     (subst (λ (ps : Programs). IsNextEntry ps (seen c.entry.result) (scene c.loop-at.cast) (scene c.answer.new.self)) c.deref.ensures.value (c.answer.ensures.answers c.if-not-answer.false))

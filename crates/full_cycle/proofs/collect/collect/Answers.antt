@@ -15,7 +15,7 @@ find_held-requires c = can_collect_some (config_of c.args.image.now) (memory_of 
 pub pack_held-requires-clause-can : goal.pack_held-requires-clause-can
 pack_held-requires-clause-can c =
     let old = c.args.image.now in
-    carried (λ k m. CanCollect k m) old c.find_held.new.image c.find_held.ensures.unchanged (can_collect_some (config_of old) (memory_of old) c.requires)
+    carried (λ config memory. CanCollect config memory) old c.find_held.new.image c.find_held.ensures.unchanged (can_collect_some (config_of old) (memory_of old) c.requires)
 
 pub pack_held-requires-clause-held : goal.pack_held-requires-clause-held
 pack_held-requires-clause-held c =

@@ -9,7 +9,7 @@ use Rattle.image_graph.specs.Full.{full_from}
 use Rattle.image_graph.specs.State.{config_of, words_of, memory_of}
 use Rattle.image_graph.specs.Holds.{HoldsSome}
 use Rattle.image_graph.specs.Buffers.{HasNoMoreSeats, LettingGoHolds}
-use Rattle.image_graph.proofs.Loosening.Inside.{inside_some}
+use Rattle.image_graph.proofs.Loosening.BuffersInside.{inside_some}
 use Rattle.full_cycle.specs.Collect.{HoldsWalked}
 use Rattle.full_cycle.proofs.Again.{holds_full}
 use Rattle.full_cycle.proofs.Result.{keeps_graph, keeps_reachable, let_go_walked, refuses_left}

@@ -7,7 +7,7 @@ use Rattle.full_cycle.proofs.walk.find_copy.Goals as goal
 
 pub find-requires-clause-inside : goal.find-requires-clause-inside
 find-requires-clause-inside c = λ _.
-    subst (λ a. IsWord (config_of c.args.image.now) (Heap a)) (sym c.resolve-copy.ensures)
+    subst (λ address. IsWord (config_of c.args.image.now) (Heap address)) (sym c.resolve-copy.ensures)
     (copy_inside (config_of c.args.image.now) (memory_of c.args.image.now) c.requires.can c.args.word c.if-word-ne0.true c.requires.leads)
 
 pub returns-then-word-ne0-clause-noted : goal.returns-then-word-ne0-clause-noted

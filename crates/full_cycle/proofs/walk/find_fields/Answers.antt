@@ -36,7 +36,7 @@ heap_at-requires-in-loop-index c =
     let refs : c.refs_of-refs.result ≡ refs_in (memory (Heap (address + 1))) = c.refs_of-refs.ensures ∙ ap refs_in shape in
     let few : i < refs_in (memory (Heap (address + 1))) = omega (arith, refs, c.loop-index-test.true) in
     let index : address + (3 + i) ≡ address + 3 + i = omega arith in
-    let is : IsWord config (Heap (address + 3 + i)) = subst (λ x. IsWord config (Heap x)) index (field_word config memory c.requires.can address (3 + i) c.requires.kept (omega (arith, few))) in
+    let is : IsWord config (Heap (address + 3 + i)) = subst (λ address. IsWord config (Heap address)) index (field_word config memory c.requires.can address (3 + i) c.requires.kept (omega (arith, few))) in
     subst (λ k. IsWord k (Heap (address + 3 + i))) (sym c.config-config.ensures) is
 
 pub word-word-requires : goal.word-word-requires
@@ -52,7 +52,7 @@ word-word-requires c =
     let refs : c.refs_of-refs.result ≡ refs_in (memory (Heap (address + 1))) = c.refs_of-refs.ensures ∙ ap refs_in shape in
     let few : i < refs_in (memory (Heap (address + 1))) = omega (arith, refs, c.loop-index-test.true) in
     let index : address + (3 + i) ≡ address + 3 + i = omega arith in
-    let is : IsWord config (Heap (address + 3 + i)) = subst (λ x. IsWord config (Heap x)) index (field_word config memory c.requires.can address (3 + i) c.requires.kept (omega (arith, few))) in
+    let is : IsWord config (Heap (address + 3 + i)) = subst (λ address. IsWord config (Heap address)) index (field_word config memory c.requires.can address (3 + i) c.requires.kept (omega (arith, few))) in
     placed_inside (config_of c.loop-index.image) config (Heap (address + 3 + i)) c.heap_at-in-loop-index.result c.loop-index.invariant.unchanged.config is
     (c.heap_at-in-loop-index.ensures ∙ ap (λ (config : Config). word_at config (Heap (address + 3 + i))) c.config-config.ensures)
 
@@ -69,7 +69,7 @@ find_copy-requires-clause-leads c =
     let refs : c.refs_of-refs.result ≡ refs_in (memory (Heap (address + 1))) = c.refs_of-refs.ensures ∙ ap refs_in shape in
     let few : i < refs_in (memory (Heap (address + 1))) = omega (arith, refs, c.loop-index-test.true) in
     let index : address + (3 + i) ≡ address + 3 + i = omega arith in
-    let is : IsWord config (Heap (address + 3 + i)) = subst (λ x. IsWord config (Heap x)) index (field_word config memory c.requires.can address (3 + i) c.requires.kept (omega (arith, few))) in
+    let is : IsWord config (Heap (address + 3 + i)) = subst (λ address. IsWord config (Heap address)) index (field_word config memory c.requires.can address (3 + i) c.requires.kept (omega (arith, few))) in
     let now = c.loop-index.image in
     let same = c.loop-index.invariant.unchanged in
     let value : c.word-word.result ≡ memory_of now (Heap (address + 3 + i)) =
@@ -91,7 +91,7 @@ loop-index-preserved c =
     let refs : c.refs_of-refs.result ≡ refs_in (memory (Heap (address + 1))) = c.refs_of-refs.ensures ∙ ap refs_in shape in
     let few : i < refs_in (memory (Heap (address + 1))) = omega (arith, refs, c.loop-index-test.true) in
     let index : address + (3 + i) ≡ address + 3 + i = omega arith in
-    let is : IsWord config (Heap (address + 3 + i)) = subst (λ x. IsWord config (Heap x)) index (field_word config memory c.requires.can address (3 + i) c.requires.kept (omega (arith, few))) in
+    let is : IsWord config (Heap (address + 3 + i)) = subst (λ address. IsWord config (Heap address)) index (field_word config memory c.requires.can address (3 + i) c.requires.kept (omega (arith, few))) in
     let now = c.loop-index.image in
     let same = c.loop-index.invariant.unchanged in
     let value : c.word-word.result ≡ memory_of now (Heap (address + 3 + i)) =

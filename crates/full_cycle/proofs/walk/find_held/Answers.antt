@@ -1,15 +1,16 @@
 use Rattle.std.proofs.Common.{◌≡◌, ◌<◌, ℕ, [], slice_get, Some, None, sym, ap, ◌∙◌, arith}
 use Rattle.std.proofs.lemmas.Option.{slice_get_within}
+use Rattle.shen_graph.proofs.Lists.{index_past_end}
+use Rattle.shen_graph.proofs.Options.{none_if_never}
 use Rattle.heap_words.specs.declared.config.Config.{Config}
 use Rattle.heap_words.specs.Words.{Word, heap_size}
 use Rattle.heap_world.specs.Walk.{with_addresses}
-use Rattle.heap_world.proofs.Marks as marks
+use Rattle.heap_world.proofs.TakenDown as marks
 use Rattle.image_graph.specs.Full.{copies_of, roots_below, answers_below, field_words, kept_in}
 use Rattle.image_graph.specs.Pinned.{pins_below}
 use Rattle.image_graph.specs.State.{config_of, memory_of, found_of, marks_of}
 use Rattle.full_cycle.specs.Collect.{found_in_turns}
 use Rattle.image_graph.proofs.Same.{memory_same, carried, both}
-use Rattle.image_graph.proofs.FoundInTurn.{is_none, none_left}
 use Rattle.full_cycle.proofs.Listed.{no_turn, next_turn, last_turn}
 use Rattle.full_cycle.proofs.walk.find_held.Goals as goal
 
@@ -91,5 +92,5 @@ returns-clause-held c =
     let memory : Word → ℕ = memory_of old in
     let turn = c.loop-address.turn in
     let turns = c.loop-address.invariant.turns in
-    let none : slice_get (found_of c.loop-address.image) turn ≡ None = sym c.found_at.ensures ∙ is_none c.found_at.result c.in_default.not-Some in
-    turns ∙ last_turn (config_of old) memory turn (none_left (found_in_turns (config_of old) memory turn) turn (ap (λ xs. slice_get xs turn) (sym turns) ∙ none)) c.loop-address.invariant.few
+    let none : slice_get (found_of c.loop-address.image) turn ≡ None = sym c.found_at.ensures ∙ none_if_never c.found_at.result c.in_default.not-Some in
+    turns ∙ last_turn (config_of old) memory turn (index_past_end (found_in_turns (config_of old) memory turn) turn (ap (λ xs. slice_get xs turn) (sym turns) ∙ none)) c.loop-address.invariant.few

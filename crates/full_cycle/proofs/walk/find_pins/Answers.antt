@@ -39,7 +39,7 @@ loop-slot-preserved c =
     record {
       unchanged = both old now c.find_copy.new.image same c.find_copy.ensures.unchanged;
       found = c.find_copy.ensures.found;
-      noted = noted_step old now c.find_copy.new.image (λ j. memory_of old (Pin mutator j)) slot c.word-word.result same c.loop-slot.invariant.noted is c.find_copy.ensures.noted;
+      noted = noted_step old now c.find_copy.new.image (λ slot. memory_of old (Pin mutator slot)) slot c.word-word.result same c.loop-slot.invariant.noted is c.find_copy.ensures.noted;
     }
 
 pub returns-clause-noted : goal.returns-clause-noted
@@ -47,4 +47,4 @@ returns-clause-noted c =
     let old = c.args.image.now in
     let all : c.loop-slot.slot ≡ 4 = omega (arith, c.loop-slot-test.false, c.loop-slot.auto.slot-end) in
     c.loop-slot.invariant.noted
-    ∙ ap (λ n. with_addresses (found_of old) (copies_of (memory_of old) (map (λ i. memory_of old (Pin c.args.mutator i)) (range_with_len 0 n)))) all
+    ∙ ap (λ n. with_addresses (found_of old) (copies_of (memory_of old) (map (λ slot. memory_of old (Pin c.args.mutator slot)) (range_with_len 0 n)))) all

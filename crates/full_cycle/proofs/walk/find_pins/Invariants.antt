@@ -10,5 +10,5 @@ abbrev pub invariant-loop-slot : goal.invariant-loop-slot
 invariant-loop-slot l = record {
   unchanged : IsUnchanged l.fn.image l.image;
   found : AreFound l.image;
-  noted : found_of l.image ≡ with_addresses (found_of l.fn.image) (copies_of (memory_of l.fn.image) (map (λ i. memory_of l.fn.image (Pin l.mutator i)) (range_with_len 0 l.slot)));
+  noted : found_of l.image ≡ with_addresses (found_of l.fn.image) (copies_of (memory_of l.fn.image) (map (λ slot. memory_of l.fn.image (Pin l.mutator slot)) (range_with_len 0 l.slot)));
 }

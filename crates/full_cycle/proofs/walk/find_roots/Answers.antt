@@ -13,33 +13,33 @@ use Rattle.full_cycle.proofs.walk.find_roots.Goals as goal
 pub find_copy-requires-clause-leads : goal.find_copy-requires-clause-leads
 find_copy-requires-clause-leads c =
     let mutator = c.args.mutator in
-    let i = c.loop-index.index in
+    let index = c.loop-index.index in
     let old = c.args.image.now in
     let now = c.loop-index.image in
     let same = c.loop-index.invariant.unchanged in
-    let few : i < 16 = c.loop-index-test.true in
-    let value : c.word-word.result ≡ memory_of now (Root mutator i) =
-    c.word-word.ensures.named (Root mutator i) (omega (arith, c.requires.mutator, ap (λ (config : Config). config.mutators) same.config), few)
-    (ap (λ (config : Config). word_at config (Root mutator i)) (same.config ∙ sym c.config-config.ensures) ∙ sym c.root_at.ensures) in
+    let few : index < 16 = c.loop-index-test.true in
+    let value : c.word-word.result ≡ memory_of now (Root mutator index) =
+    c.word-word.ensures.named (Root mutator index) (omega (arith, c.requires.mutator, ap (λ (config : Config). config.mutators) same.config), few)
+    (ap (λ (config : Config). word_at config (Root mutator index)) (same.config ∙ sym c.config-config.ensures) ∙ sym c.root_at.ensures) in
     subst (LeadsToHeld (config_of now) (memory_of now)) (sym value)
-    (carried (λ k m. LeadsToHeld k m (m (Root mutator i))) old now same (c.requires.can.roots mutator i c.requires.mutator few))
+    (carried (λ k m. LeadsToHeld k m (m (Root mutator index))) old now same (c.requires.can.roots mutator index c.requires.mutator few))
 
 pub loop-index-preserved : goal.loop-index-preserved
 loop-index-preserved c =
     let mutator = c.args.mutator in
-    let i = c.loop-index.index in
+    let index = c.loop-index.index in
     let old = c.args.image.now in
     let now = c.loop-index.image in
     let same = c.loop-index.invariant.unchanged in
-    let few : i < 16 = c.loop-index-test.true in
-    let value : c.word-word.result ≡ memory_of now (Root mutator i) =
-    c.word-word.ensures.named (Root mutator i) (omega (arith, c.requires.mutator, ap (λ (config : Config). config.mutators) same.config), few)
-    (ap (λ (config : Config). word_at config (Root mutator i)) (same.config ∙ sym c.config-config.ensures) ∙ sym c.root_at.ensures) in
-    let is : c.word-word.result ≡ memory_of old (Root mutator i) = value ∙ ap (λ m. m (Root mutator i)) (memory_same old now same) in
+    let few : index < 16 = c.loop-index-test.true in
+    let value : c.word-word.result ≡ memory_of now (Root mutator index) =
+    c.word-word.ensures.named (Root mutator index) (omega (arith, c.requires.mutator, ap (λ (config : Config). config.mutators) same.config), few)
+    (ap (λ (config : Config). word_at config (Root mutator index)) (same.config ∙ sym c.config-config.ensures) ∙ sym c.root_at.ensures) in
+    let is : c.word-word.result ≡ memory_of old (Root mutator index) = value ∙ ap (λ m. m (Root mutator index)) (memory_same old now same) in
     record {
       unchanged = both old now c.find_copy.new.image same c.find_copy.ensures.unchanged;
       found = c.find_copy.ensures.found;
-      noted = noted_step old now c.find_copy.new.image (λ j. memory_of old (Root mutator j)) i c.word-word.result same c.loop-index.invariant.noted is c.find_copy.ensures.noted;
+      noted = noted_step old now c.find_copy.new.image (λ index. memory_of old (Root mutator index)) index c.word-word.result same c.loop-index.invariant.noted is c.find_copy.ensures.noted;
     }
 
 pub returns-clause-noted : goal.returns-clause-noted
@@ -47,4 +47,4 @@ returns-clause-noted c =
     let old = c.args.image.now in
     let all : c.loop-index.index ≡ 16 = omega (arith, c.loop-index-test.false, c.loop-index.auto.index-end) in
     c.loop-index.invariant.noted
-    ∙ ap (λ n. with_addresses (found_of old) (copies_of (memory_of old) (map (λ i. memory_of old (Root c.args.mutator i)) (range_with_len 0 n)))) all
+    ∙ ap (λ n. with_addresses (found_of old) (copies_of (memory_of old) (map (λ index. memory_of old (Root c.args.mutator index)) (range_with_len 0 n)))) all

@@ -10,5 +10,5 @@ abbrev pub invariant-loop-index : goal.invariant-loop-index
 invariant-loop-index l = record {
   unchanged : IsUnchanged l.fn.image l.image;
   found : AreFound l.image;
-  noted : found_of l.image ≡ with_addresses (found_of l.fn.image) (copies_of (memory_of l.fn.image) (map (λ i. memory_of l.fn.image (Root l.mutator i)) (range_with_len 0 l.index)));
+  noted : found_of l.image ≡ with_addresses (found_of l.fn.image) (copies_of (memory_of l.fn.image) (map (λ index. memory_of l.fn.image (Root l.mutator index)) (range_with_len 0 l.index)));
 }

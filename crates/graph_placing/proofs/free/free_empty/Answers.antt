@@ -10,11 +10,11 @@ use Rattle.graph_placing.proofs.FreeRegions.{empty_none, empty_more}
 use Rattle.graph_placing.proofs.free.free_empty.Goals as goal
 
 pub loop-region-init : goal.loop-region-init
-loop-region-init c = empty_none (λ r. memory_of c.args.image.now (Top r))
+loop-region-init c = empty_none (λ region. memory_of c.args.image.now (Top region))
 
 pub overflow_add-free : goal.overflow_add-free
 overflow_add-free c =
-    let top : ℕ → ℕ = λ r. memory_of c.args.image.now (Top r) in
+    let top : ℕ → ℕ = λ other_region. memory_of c.args.image.now (Top other_region) in
     let region = c.loop-region.region in
     let sum = empty_more top region c.set_if_empty-free.result c.loop-region.free c.top.result c.top.ensures c.set_if_empty-free.ensures c.loop-region.invariant in
     let small = empty_small top (region + 1) in
@@ -24,14 +24,14 @@ overflow_add-free c =
 
 pub loop-region-preserved : goal.loop-region-preserved
 loop-region-preserved c =
-    empty_more (λ r. memory_of c.args.image.now (Top r)) c.loop-region.region c.set_if_empty-free.result c.loop-region.free c.top.result c.top.ensures
+    empty_more (λ region. memory_of c.args.image.now (Top region)) c.loop-region.region c.set_if_empty-free.result c.loop-region.free c.top.result c.top.ensures
     c.set_if_empty-free.ensures c.loop-region.invariant
 
 pub returns-clause-words : goal.returns-clause-words
 returns-clause-words c =
     let old = c.args.image.now in
     let config = config_of old in
-    let top : ℕ → ℕ = λ r. memory_of old (Top r) in
+    let top : ℕ → ℕ = λ region. memory_of old (Top region) in
     let all : c.loop-region.region ≡ config.regions =
     omega (arith, c.loop-region-test.false, c.loop-region.auto.region-end, c.regions-region-end.ensures, ap (λ (config : Config). config.regions) c.config-config.ensures) in
     let free : c.loop-region.free ≡ empty_regions top config.regions = c.loop-region.invariant ∙ ap (empty_regions top) all in

@@ -16,7 +16,7 @@ use Rattle.graph_placing.proofs.Located as located
 use Rattle.graph_placing.proofs.Searching.{names_count, name_of_row}
 use Rattle.graph_placing.specs.NamesAnew.{earlier_names}
 use Rattle.graph_placing.specs.Renaming.{AreCountsOf}
-use Rattle.graph_placing.specs.Renewing.{names_written}
+use Rattle.graph_placing.specs.NamesRewritten.{names_written}
 use Rattle.graph_placing.proofs.CountsKept.{thread_within, count_is_few, next_is, counted_next}
 use Rattle.graph_placing.proofs.FewRows.{row_is_small}
 use Rattle.graph_placing.proofs.WrittenAnew.{names_none, names_more, code_anew}
@@ -35,7 +35,7 @@ loop-row-init c =
       words = names_none config text (memory_of c.args.image.now);
       counts = record {
         long = ap length c.requires.none ∙ length-replicate config.mutators 0;
-        each = λ m below. ap (λ (xs : List ℕ). get_or xs m 0) c.requires.none ∙ get_or-replicate config.mutators m 0 0 below;
+        each = λ index below. ap (λ (xs : List ℕ). get_or xs index 0) c.requires.none ∙ get_or-replicate config.mutators index 0 0 below;
       };
     }
 

@@ -4,7 +4,7 @@ use Rattle.shen_graph.specs.GraphText.{names_of}
 use Rattle.image_graph.specs.State.{config_of, memory_of}
 use Rattle.graph_placing.specs.ByName.{end_behind}
 use Rattle.graph_placing.specs.Renaming.{AreCountsOf}
-use Rattle.graph_placing.specs.Renewing.{names_written}
+use Rattle.graph_placing.specs.NamesRewritten.{names_written}
 use Rattle.graph_placing.proofs.names.write_names.Given as goal
 
 abbrev pub invariant-loop-row : goal.invariant-loop-row

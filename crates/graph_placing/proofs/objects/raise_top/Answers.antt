@@ -46,5 +46,5 @@ returns-clause-words c =
     let base : c.base.result ≡ base_of config (region_with config (address_of config text row)) = c.base.ensures ∙ ap (λ (config : Config). base_of config c.region_of-region.result) same ∙ ap (base_of config) region in
     let value : a + c.words_of_row.result - c.base.result ≡ address_of config text row + words_of_row text row - base_of config (region_with config (address_of config text row)) = omega (arith, at, base, c.words_of_row.ensures.value) in
     stored config c.config-config.result memory (memory_of c.set_word.new.self) (Top c.region_of-region.result) c.top_at.result (a + c.words_of_row.result - c.base.result) (sym same) c.region_of-region.ensures.below c.top_at.ensures c.set_word.ensures.named
-    ∙ ap (λ (r : ℕ). write memory (Top r) (a + c.words_of_row.result - c.base.result)) region
+    ∙ ap (λ (region : ℕ). write memory (Top region) (a + c.words_of_row.result - c.base.result)) region
     ∙ ap (write memory (Top (region_with config (address_of config text row)))) value

@@ -55,24 +55,24 @@ loop-index-preserved c =
     let config = config_of c.args.image.now in
     let text = c.args.text.now in
     let row = c.args.row in
-    let i = c.loop-index.index in
+    let index = c.loop-index.index in
     let a = get_or c.args.addresses.now row 0 in
     let list : List ℕ = words_of_object (word_for config text) (row_of text row) in
     let same : c.config-config.result ≡ config = c.config-config.ensures in
     let at : a ≡ address_of config text row = c.requires.addresses.each row c.requires.row in
-    let inside : i < words_of_row text row = omega (arith, c.loop-index-test.true, c.words_of_row-index-end.ensures.value) in
-    let one : memory_of c.set_word.new.self ≡ write (memory_of c.loop-index.image) (Heap (a + i)) c.object_word-word.result =
-    stored (config_of c.loop-index.image) c.config-config.result (memory_of c.loop-index.image) (memory_of c.set_word.new.self) (Heap (a + i)) c.heap_at.result c.object_word-word.result
+    let inside : index < words_of_row text row = omega (arith, c.loop-index-test.true, c.words_of_row-index-end.ensures.value) in
+    let one : memory_of c.set_word.new.self ≡ write (memory_of c.loop-index.image) (Heap (a + index)) c.object_word-word.result =
+    stored (config_of c.loop-index.image) c.config-config.result (memory_of c.loop-index.image) (memory_of c.set_word.new.self) (Heap (a + index)) c.heap_at.result c.object_word-word.result
     (c.loop-index.invariant.config ∙ sym same)
-    (subst (λ (config : Config). IsWord config (Heap (a + i))) (sym same) (word_of_object config text c.args.addresses.now row i c.requires.whole c.requires.fits c.requires.addresses c.requires.row inside))
+    (subst (λ (config : Config). IsWord config (Heap (a + index))) (sym same) (word_of_object config text c.args.addresses.now row index c.requires.whole c.requires.fits c.requires.addresses c.requires.row inside))
     c.heap_at.ensures c.set_word.ensures.named in
-    let word : c.object_word-word.result ≡ get_or list i 0 = c.object_word-word.ensures ∙ ap (λ (config : Config). get_or (words_of_object (word_for config text) (row_of text row)) i 0) same in
+    let word : c.object_word-word.result ≡ get_or list index 0 = c.object_word-word.ensures ∙ ap (λ (config : Config). get_or (words_of_object (word_for config text) (row_of text row)) index 0) same in
     record {
       config = c.set_word.ensures.config ∙ c.loop-index.invariant.config;
-      words = one ∙ ap (λ (memory : Word → ℕ). write memory (Heap (a + i)) c.object_word-word.result) c.loop-index.invariant.words
-          ∙ ap (λ (x : ℕ). write (copied (address_of config text row) i list (memory_of c.args.image.now)) (Heap (x + i)) c.object_word-word.result) at
-          ∙ ap (write (copied (address_of config text row) i list (memory_of c.args.image.now)) (Heap (address_of config text row + i))) word
-          ∙ copied_more (address_of config text row) i list (memory_of c.args.image.now);
+      words = one ∙ ap (λ (memory : Word → ℕ). write memory (Heap (a + index)) c.object_word-word.result) c.loop-index.invariant.words
+          ∙ ap (λ (x : ℕ). write (copied (address_of config text row) index list (memory_of c.args.image.now)) (Heap (x + index)) c.object_word-word.result) at
+          ∙ ap (write (copied (address_of config text row) index list (memory_of c.args.image.now)) (Heap (address_of config text row + index))) word
+          ∙ copied_more (address_of config text row) index list (memory_of c.args.image.now);
     }
 
 pub returns-clause-words : goal.returns-clause-words
@@ -81,4 +81,4 @@ returns-clause-words c =
     let text = c.args.text.now in
     let row = c.args.row in
     let all : c.loop-index.index ≡ words_of_row text row = omega (arith, c.loop-index-test.false, c.loop-index.auto.index-end, c.words_of_row-index-end.ensures.value) in
-    c.loop-index.invariant.words ∙ ap (λ (n : ℕ). copied (address_of config text row) n (words_of_object (word_for config text) (row_of text row)) (memory_of c.args.image.now)) all
+    c.loop-index.invariant.words ∙ ap (λ (words : ℕ). copied (address_of config text row) words (words_of_object (word_for config text) (row_of text row)) (memory_of c.args.image.now)) all

@@ -12,7 +12,7 @@ use Rattle.graph_placing.specs.TextGraph.{text_graph}
 use Rattle.graph_placing.proofs.GraphStands.{stands}
 use Rattle.graph_placing.specs.NamesAnew.{name_anew, text_anew}
 use Rattle.graph_placing.specs.Renaming.{AreOfThreads, AreCountsOf}
-use Rattle.graph_placing.specs.Renewing.{names_written}
+use Rattle.graph_placing.specs.NamesRewritten.{names_written}
 use Rattle.graph_placing.proofs.WrittenAnew.{placed_anew}
 use Rattle.graph_placing.proofs.TextsAnew as anew
 use Rattle.graph_placing.proofs.SameGraphs.{graph_anew}

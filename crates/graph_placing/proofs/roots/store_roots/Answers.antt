@@ -25,4 +25,4 @@ pub returns-clause-words : goal.returns-clause-words
 returns-clause-words c =
     let config = config_of c.args.image.now in
     let all : c.loop-mutator.mutator ≡ config.mutators = omega (arith, c.loop-mutator-test.false, c.loop-mutator.auto.mutator-end, c.mutators-mutator-end.ensures, ap (λ (config : Config). config.mutators) c.config.ensures) in
-    c.loop-mutator.invariant.words ∙ ap (λ (n : ℕ). all_roots_stored config c.args.text.now n (memory_of c.args.image.now)) all
+    c.loop-mutator.invariant.words ∙ ap (λ (mutators : ℕ). all_roots_stored config c.args.text.now mutators (memory_of c.args.image.now)) all

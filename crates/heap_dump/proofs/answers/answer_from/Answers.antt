@@ -11,18 +11,18 @@ resume-requires-clause-dump c = c.requires.1.dump
 
 pub resume-requires-clause-count : goal.resume-requires-clause-count
 resume-requires-clause-count c =
-    let r = c.args.read in
-    ap (λ (ss : List (List Command)). length ss) c.into_vec.ensures ∙ count_read c.requires.0 (dumped r.dump.config r.dump.counts r.dump.graph) r.trace.scripts r.trace.schedule c.requires.1
+    let read = c.args.read in
+    ap (λ (ss : List (List Command)). length ss) c.into_vec.ensures ∙ count_read c.requires.0 (dumped read.dump.config read.dump.counts read.dump.graph) read.trace.scripts read.trace.schedule c.requires.1
 
 pub resume-requires-clause-runnable : goal.resume-requires-clause-runnable
 resume-requires-clause-runnable c =
-    let r = c.args.read in
-    subst (λ (ss : List (List Command)). All IsRunnableAfter ss) (sym c.into_vec.ensures) (runnable_read c.requires.0 (dumped r.dump.config r.dump.counts r.dump.graph) r.trace.scripts r.trace.schedule c.requires.1)
+    let read = c.args.read in
+    subst (λ (ss : List (List Command)). All IsRunnableAfter ss) (sym c.into_vec.ensures) (runnable_read c.requires.0 (dumped read.dump.config read.dump.counts read.dump.graph) read.trace.scripts read.trace.schedule c.requires.1)
 
 pub resume-requires-clause-items : goal.resume-requires-clause-items
 resume-requires-clause-items c =
-    let r = c.args.read in
-    items_read c.requires.0 (dumped r.dump.config r.dump.counts r.dump.graph) r.trace.scripts r.trace.schedule c.requires.1
+    let read = c.args.read in
+    items_read c.requires.0 (dumped read.dump.config read.dump.counts read.dump.graph) read.trace.scripts read.trace.schedule c.requires.1
 
 pub returns-clause-fits : goal.returns-clause-fits
 returns-clause-fits c = answered_fits c.resume.result _ _ c.resume.ensures.too_small.1

@@ -6,15 +6,15 @@ use Rattle.heap_dump.proofs.dump.copy_numbers.Goals as goal
 
 pub loop-index-preserved : goal.loop-index-preserved
 loop-index-preserved c =
-    let i = c.loop-index.index in
+    let index = c.loop-index.index in
     let numbers = (row_of c.args.graph.now c.args.row).nums in
-    let number = get_or numbers i 0 in
+    let number = get_or numbers index 0 in
     let text = c.loop-index.text in
     let made = c.number.ensures ∙ ap (with_number text) c.number_at.ensures in
     record {
       rows = ap (λ t. length t.rows) made ∙ length-change_last (add_number number) text.rows ∙ c.loop-index.invariant.rows;
       spare = omega (arith, ap (λ t. t.spare) made);
       added = (made ∙ ap (λ t. with_number t number) c.loop-index.invariant.added
-          ∙ sym (with_numbers-push c.args.text.now (take i numbers) number)
-          ∙ ap (with_numbers c.args.text.now) (sym (take_more numbers i 0 (omega arith))));
+          ∙ sym (with_numbers-push c.args.text.now (take index numbers) number)
+          ∙ ap (with_numbers c.args.text.now) (sym (take_more numbers index 0 (omega arith))));
     }

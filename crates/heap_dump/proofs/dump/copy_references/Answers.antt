@@ -6,15 +6,15 @@ use Rattle.heap_dump.proofs.dump.copy_references.Goals as goal
 
 pub loop-index-preserved : goal.loop-index-preserved
 loop-index-preserved c =
-    let i = c.loop-index.index in
+    let index = c.loop-index.index in
     let references = (row_of c.args.graph.now c.args.row).refs in
-    let reference = get_or references i None in
+    let reference = get_or references index None in
     let text = c.loop-index.text in
     let made = c.reference.ensures ∙ ap (with_reference text) c.reference_at.ensures in
     record {
       rows = ap (λ t. length t.rows) made ∙ length-change_last (add_reference reference) text.rows ∙ c.loop-index.invariant.rows;
       spare = omega (arith, ap (λ t. t.spare) made);
       added = (made ∙ ap (λ t. with_reference t reference) c.loop-index.invariant.added
-          ∙ sym (with_references-push c.args.text.now (take i references) reference)
-          ∙ ap (with_references c.args.text.now) (sym (take_more references i None (omega arith))));
+          ∙ sym (with_references-push c.args.text.now (take index references) reference)
+          ∙ ap (with_references c.args.text.now) (sym (take_more references index None (omega arith))));
     }

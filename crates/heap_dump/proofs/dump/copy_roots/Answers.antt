@@ -17,7 +17,7 @@ copy_roots_of-requires-clause-sixteen c =
     let mutator = c.loop-mutator.mutator in
     let low : mutator < length xs = omega arith in
     let back : mutator + 1 - 1 ≡ mutator = omega arith in (
-      ap (λ k. length (get_or xs k [])) back ∙ All-get_or (λ (row : List Reference). length row ≡ 16) xs mutator [] low c.mutators-mutator-end.ensures.sixteen,
+      ap (λ index. length (get_or xs index [])) back ∙ All-get_or (λ (row : List Reference). length row ≡ 16) xs mutator [] low c.mutators-mutator-end.ensures.sixteen,
       (ap (λ k. length (get_or c.loop-mutator.text.roots k [])) back
           ∙ ap (λ t. length (get_or t.roots mutator [])) c.loop-mutator.invariant
           ∙ ap length (mixed_next xs ys mutator [] c.requires.threads low)
@@ -33,7 +33,7 @@ loop-mutator-preserved c =
     let low : mutator < length xs = omega arith in
     let back : mutator + 1 - 1 ≡ mutator = omega arith in
     c.copy_roots_of.ensures
-    ∙ ap (λ (k : ℕ). record c.loop-mutator.text { roots = set c.loop-mutator.text.roots k (get_or xs k []) }) back
+    ∙ ap (λ (index : ℕ). record c.loop-mutator.text { roots = set c.loop-mutator.text.roots index (get_or xs index []) }) back
     ∙ ap (λ (text : Text). record text { roots = set text.roots mutator (get_or xs mutator []) }) c.loop-mutator.invariant
     ∙ ap (λ (roots : List (List Reference)). record text { roots = roots }) (mixed_more xs ys mutator [] c.requires.threads low)
 

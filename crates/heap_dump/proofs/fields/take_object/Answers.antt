@@ -2,12 +2,13 @@ use Rattle.std.proofs.Common.{ℕ, ◌≡◌, Bool, true, false, List, [], ◌�
 use Rattle.std.specs.Prelude.{MatchBool}
 use Rattle.std.specs.Fmt.{decimal}
 use Rattle.std.proofs.lemmas.Bool.{false≢true}
+use Rattle.shen_graph.proofs.Lists.{length_map}
 use Rattle.shen_graph.specs.GraphText.{Row, Text, bare, names_of, row_of, with_numbers, with_references, with_whole_row}
 use Rattle.shen_graph.proofs.RowLemmas.{rows_left, spare_left}
 use Rattle.trace_reading.specs.Causes.{parts_behind}
 use Rattle.heap_dump.specs.HeldReferences.{held, held_row}
 use Rattle.heap_dump.specs.ObjectWords.{AreRowWords, HasHubFields, IsBehindLast}
-use Rattle.heap_dump.proofs.RowWords.{no_parts, some_parts, len_map, row_name, row_rest, row_short, refs_room, nums_rows, added, added_row, held_fields, fields_held, row_taken, row_fields, row_numbers}
+use Rattle.heap_dump.proofs.RowWords.{no_parts, some_parts, row_name, row_rest, row_short, refs_room, nums_rows, added, added_row, held_fields, fields_held, row_taken, row_fields, row_numbers}
 use Rattle.heap_dump.proofs.fields.take_object.Goals as goal
 use Rattle.heap_dump.proofs.fields.take_object.Goals.{then-is_empty-via-then-is_empty, then-is_empty-via-else-is_empty+then-not-is_behind}
 
@@ -58,7 +59,7 @@ take_numbers-requires-clause-room c =
       refs_room (parts_behind 32 c.in-Some.rest.now) (parts_behind 32 c.in-Some-take_references.rest.now) taken.0 taken.1,
       ap (λ t. t.spare) taken.2,
       spare_left c.object.new.self (map held taken.0),
-      len_map held taken.0,
+      length_map held taken.0,
       ap (λ t. t.spare) c.object.ensures,
     )
 

@@ -8,7 +8,7 @@ returns-in_err-rest c = rw c.from_residual.ensures (λ h narrow e. title_there (
 pub returns-in_err-sizes : goal.returns-in_err-sizes
 returns-in_err-sizes c =
     rw c.from_residual-in_err-sizes.ensures
-    (λ h narrow e. numbers_there heap_limits (heap_numbers h) c.in_ok-rest.rest.now c.in_err-sizes.ensures (rest_is (codes "heap") (heap_numbers h) c.args.text.now c.in_ok-rest.rest.now c.in_ok-rest.ensures e) (heap_within h narrow) heap_small)
+    (λ config narrow e. numbers_there heap_limits (heap_numbers config) c.in_ok-rest.rest.now c.in_err-sizes.ensures (rest_is (codes "heap") (heap_numbers config) c.args.text.now c.in_ok-rest.rest.now c.in_ok-rest.ensures e) (heap_within config narrow) heap_small)
 
 pub returns-in-Ok : goal.returns-in-Ok
 returns-in-Ok c = (

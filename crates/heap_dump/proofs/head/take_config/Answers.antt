@@ -10,9 +10,9 @@ pub returns-in_err-text-clause-err : goal.returns-in_err-text-clause-err
 returns-in_err-text-clause-err c =
     let p = err_from_is_err_and c.from_residual-in_err-text.result c.from_residual-in_err-text.ensures.1 in
     let h = c.in_err-text.ensures.err in
-    let e : p.0 ≡ BadLine 2 (ends_by h.0) = let q = p.2 in let w = h.2 in cc in
+    let same : p.0 ≡ BadLine 2 (ends_by h.0) = let q = p.2 in let w = h.2 in cc in
     let rest = c.in_ok-rest.rest.now in
-    rw p.1 (2, ends_by h.0, e, stops_behind Version Heap 1 2 c.args.bytes.now rest 1 2 (ends_by h.0) c.in_ok-rest.ensures.ok (omega arith) (stops_here Heap 2 rest (ends_by h.0) (ends_here Heap rest h.0 tt h.1)))
+    rw p.1 (2, ends_by h.0, same, stops_behind Version Heap 1 2 c.args.bytes.now rest 1 2 (ends_by h.0) c.in_ok-rest.ensures.ok (omega arith) (stops_here Heap 2 rest (ends_by h.0) (ends_here Heap rest h.0 tt h.1)))
 
 pub returns-in_default-clause-err : goal.returns-in_default-clause-err
 returns-in_default-clause-err c =
@@ -28,12 +28,12 @@ pub returns-in_err-text-2-clause-err : goal.returns-in_err-text-2-clause-err
 returns-in_err-text-2-clause-err c =
     let p = err_from_is_err_and c.from_residual-in_err-text-2.result c.from_residual-in_err-text-2.ensures.1 in
     let h = c.in_err-text-2.ensures.err in
-    let e : p.0 ≡ BadLine 3 (ends_by h.0) = let q = p.2 in let w = h.2 in cc in
+    let same : p.0 ≡ BadLine 3 (ends_by h.0) = let q = p.2 in let w = h.2 in cc in
     let first = c.in_ok-rest.rest.now in
     let rest = c.in_ok-text.rest.now in
     let stage = Threads c.in-Some.heap in
     let led = leads_both Version Heap stage c.args.bytes.now first rest 1 1 c.in_ok-rest.ensures.ok (leads_one Heap stage first c.in_ok-text.text.now rest c.in_ok-text.ensures.ok (c.in-Some.heap, c.in-Some.ensures.0, c.in-Some.ensures.1, refl)) in
-    rw p.1 (3, ends_by h.0, e, stops_behind Version stage 1 3 c.args.bytes.now rest 2 3 (ends_by h.0) led (omega arith) (stops_here stage 3 rest (ends_by h.0) (ends_here stage rest h.0 tt h.1)))
+    rw p.1 (3, ends_by h.0, same, stops_behind Version stage 1 3 c.args.bytes.now rest 2 3 (ends_by h.0) led (omega arith) (stops_here stage 3 rest (ends_by h.0) (ends_here stage rest h.0 tt h.1)))
 
 pub returns-in-Some-threads_in-clause-ok : goal.returns-in-Some-threads_in-clause-ok
 returns-in-Some-threads_in-clause-ok c =

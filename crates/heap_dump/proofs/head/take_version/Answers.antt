@@ -1,5 +1,6 @@
 use Rattle.std.proofs.Common.{ℕ, ◌≡◌, List, [], ◌∷◌, ◌++◌, ap, sym, refl, codes, ◌∙◌}
 use Rattle.std.proofs.lemmas.Result.{err_from_is_err_and}
+use Rattle.shen_graph.proofs.Lists.{same_before_end}
 use Rattle.trace_reading.specs.declared.fault.TraceFault.TheVariants.{BadLine}
 use Rattle.trace_reading.specs.Spelling.{newline}
 use Rattle.trace_reading.specs.declared.why.Why.TheVariants.{DumpWanted}
@@ -8,15 +9,14 @@ use Rattle.heap_dump.proofs.References.{not_same}
 use Rattle.heap_dump.proofs.TakenRoots.{same_bytes}
 use Rattle.heap_dump.proofs.HeadLines.{version_line}
 use Rattle.heap_dump.proofs.Steps.{leads_one, stops_here, ends_here, refused_here}
-use Rattle.trace_reading.proofs.Heads.{same_before_end}
 use Rattle.heap_dump.proofs.head.take_version.Goals as goal
 
 pub returns-in_err-text-clause-err : goal.returns-in_err-text-clause-err
 returns-in_err-text-clause-err c =
     let p = err_from_is_err_and c.from_residual.result c.from_residual.ensures.1 in
     let h = c.in_err-text.ensures.err in
-    let e : p.0 ≡ BadLine 1 (ends_by h.0) = let q = p.2 in let w = h.2 in cc in
-    rw p.1 (1, ends_by h.0, e, stops_here Version 1 c.args.bytes.now (ends_by h.0) (ends_here Version c.args.bytes.now h.0 tt h.1))
+    let same : p.0 ≡ BadLine 1 (ends_by h.0) = let q = p.2 in let w = h.2 in cc in
+    rw p.1 (1, ends_by h.0, same, stops_here Version 1 c.args.bytes.now (ends_by h.0) (ends_here Version c.args.bytes.now h.0 tt h.1))
 
 pub returns-then-eq-clause-ok : goal.returns-then-eq-clause-ok
 returns-then-eq-clause-ok c =

@@ -8,7 +8,7 @@ returns-in_err-rest c = rw c.from_residual.ensures (λ h same e. title_there (co
 pub returns-in_err-threads : goal.returns-in_err-threads
 returns-in_err-threads c =
     rw c.from_residual-in_err-threads.ensures
-    (λ h same e. numbers_there threads_limits (threads_numbers h) c.in_ok-rest.rest.now c.in_err-threads.ensures (rest_is (codes "threads") (threads_numbers h) c.args.text.now c.in_ok-rest.rest.now c.in_ok-rest.ensures e) (threads_within h) threads_small)
+    (λ config same e. numbers_there threads_limits (threads_numbers config) c.in_ok-rest.rest.now c.in_err-threads.ensures (rest_is (codes "threads") (threads_numbers config) c.args.text.now c.in_ok-rest.rest.now c.in_ok-rest.ensures e) (threads_within config) threads_small)
 
 pub returns-in-Ok : goal.returns-in-Ok
 returns-in-Ok c = (

@@ -18,26 +18,26 @@ weaker P Q follows (Err f) holds = tt
 
 pub of-requires : goal.of-requires
 of-requires c =
-    let h = c.args.history.now.list in
+    let history = c.args.history.now.list in
     let config = c.args.config in
-    text_has_dump config h c.in_ok-counts.counts c.args.graph.now c.requires.narrow c.requires.history c.requires.graph (c.in_ok-counts.ensures ∙ ap (objects_made_by_each h) c.mutators.ensures)
+    text_has_dump config history c.in_ok-counts.counts c.args.graph.now c.requires.narrow c.requires.history c.requires.graph (c.in_ok-counts.ensures ∙ ap (objects_made_by_each history) c.mutators.ensures)
 
 pub returns-clause-is_dump : goal.returns-clause-is_dump
 returns-clause-is_dump c = c.of.ensures.is_dump
 
 pub returns-clause-dump : goal.returns-clause-dump
 returns-clause-dump c =
-    let h = c.args.history.now.list in
+    let history = c.args.history.now.list in
     let config = c.args.config in
-    weaker (IsDumpOf config (graph_in (dumped config c.in_ok-counts.counts c.args.graph.now))) (IsDumpOf config (after (opening config.mutators) h))
-    (text_dump config h c.in_ok-counts.counts c.args.graph.now c.requires.narrow c.requires.history c.requires.graph (c.in_ok-counts.ensures ∙ ap (objects_made_by_each h) c.mutators.ensures))
+    weaker (IsDumpOf config (graph_in (dumped config c.in_ok-counts.counts c.args.graph.now))) (IsDumpOf config (after (opening config.mutators) history))
+    (text_dump config history c.in_ok-counts.counts c.args.graph.now c.requires.narrow c.requires.history c.requires.graph (c.in_ok-counts.ensures ∙ ap (objects_made_by_each history) c.mutators.ensures))
     c.of.result c.of.ensures.dump
 
 pub returns-clause-counts : goal.returns-clause-counts
 returns-clause-counts c =
-    let h = c.args.history.now.list in
+    let history = c.args.history.now.list in
     let config = c.args.config in
-    weaker (IsDumpOf config (graph_in (dumped config c.in_ok-counts.counts c.args.graph.now))) (λ d. d.counts ≡ objects_made_by_each h config.mutators)
-    (λ d is. counts_made config h d c.requires.history
-    (text_dump config h c.in_ok-counts.counts c.args.graph.now c.requires.narrow c.requires.history c.requires.graph (c.in_ok-counts.ensures ∙ ap (objects_made_by_each h) c.mutators.ensures) d is))
+    weaker (IsDumpOf config (graph_in (dumped config c.in_ok-counts.counts c.args.graph.now))) (λ d. d.counts ≡ objects_made_by_each history config.mutators)
+    (λ dump is. counts_made config history dump c.requires.history
+    (text_dump config history c.in_ok-counts.counts c.args.graph.now c.requires.narrow c.requires.history c.requires.graph (c.in_ok-counts.ensures ∙ ap (objects_made_by_each history) c.mutators.ensures) dump is))
     c.of.result c.of.ensures.dump

@@ -8,11 +8,11 @@ use Rattle.heap_dump.specs.ObjectsMade.{has_made}
 use Rattle.heap_dump.proofs.making.objects_made.Goals as goal
 use Rattle.heap_dump.proofs.making.objects_made.Goals.{then-has_made, else-has_made}
 
-more_yes : (p : Entry → Bool) (xs : List Entry) (index : ℕ) (entry : Entry) → slice_get xs index ≡ Some entry → p entry ≡ true → count_by p (take (index + 1) xs) ≡ count_by p (take index xs) + 1
-more_yes p xs index entry there is = count_by_more_yes p xs index entry (slice_get_within xs index entry there) (ap p (get_or_from_slice_get xs index entry entry there) ∙ is)
+more_yes : (p : Entry → Bool) (entries : List Entry) (index : ℕ) (entry : Entry) → slice_get entries index ≡ Some entry → p entry ≡ true → count_by p (take (index + 1) entries) ≡ count_by p (take index entries) + 1
+more_yes p entries index entry there is = count_by_more_yes p entries index entry (slice_get_within entries index entry there) (ap p (get_or_from_slice_get entries index entry entry there) ∙ is)
 
-more_no : (p : Entry → Bool) (xs : List Entry) (index : ℕ) (entry : Entry) → slice_get xs index ≡ Some entry → p entry ≡ false → count_by p (take (index + 1) xs) ≡ count_by p (take index xs)
-more_no p xs index entry there is = count_by_more_no p xs index entry (slice_get_within xs index entry there) (ap p (get_or_from_slice_get xs index entry entry there) ∙ is)
+more_no : (p : Entry → Bool) (entries : List Entry) (index : ℕ) (entry : Entry) → slice_get entries index ≡ Some entry → p entry ≡ false → count_by p (take (index + 1) entries) ≡ count_by p (take index entries)
+more_no p entries index entry there is = count_by_more_no p entries index entry (slice_get_within entries index entry there) (ap p (get_or_from_slice_get entries index entry entry there) ∙ is)
 
 pub loop-at-preserved : goal.loop-at-preserved
 loop-at-preserved c =

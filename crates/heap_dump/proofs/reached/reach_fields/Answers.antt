@@ -1,6 +1,7 @@
 use Rattle.std.proofs.Common.{arith}
+use Rattle.heap_words.proofs.Lists.{index_in_range}
 use Rattle.shen_graph.specs.GraphText.{row_of}
-use Rattle.heap_dump.proofs.RowMarks.{field_at, fields_more, grows_both, slice_get_low}
+use Rattle.heap_dump.proofs.RowMarks.{field_at, fields_more, grows_both}
 use Rattle.heap_dump.proofs.reached.reach_fields.Goals as goal
 
 pub reach-requires-clause-led : goal.reach-requires-clause-led
@@ -22,6 +23,6 @@ returns c = record {
   ok = (
     c.loop-index.invariant.reached,
     c.loop-index.invariant.more,
-    λ field r at. c.loop-index.invariant.done field r (omega (arith, slice_get_low (row_of c.args.graph.now c.args.row).refs field r at, c.refs_at-index-end.ensures, c.loop-index-test.false)) at,
+    λ field r at. c.loop-index.invariant.done field r (omega (arith, index_in_range (row_of c.args.graph.now c.args.row).refs field r at, c.refs_at-index-end.ensures, c.loop-index-test.false)) at,
   );
 }

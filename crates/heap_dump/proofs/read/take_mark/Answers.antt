@@ -14,9 +14,9 @@ returns-in_err-text-clause-err c =
     let h = c.in_err-text.ensures.err in
     let line = c.args.line in
     let bytes = c.args.bytes.now in
-    let e : p.0 ≡ BadLine line (ends_by h.0) = let q = p.2 in let w = h.2 in cc in
+    let same : p.0 ≡ BadLine line (ends_by h.0) = let q = p.2 in let w = h.2 in cc in
     rw p.1
-    (inr (λ d held some. (line, ends_by h.0, e, stops_here (Listed d) line bytes (ends_by h.0) (ends_here (Listed d) bytes h.0 tt h.1))))
+    (inr (λ d held some. (line, ends_by h.0, same, stops_here (Listed d) line bytes (ends_by h.0) (ends_here (Listed d) bytes h.0 tt h.1))))
 
 pub returns-in-Ok-false-clause-err : goal.returns-in-Ok-false-clause-err
 returns-in-Ok-false-clause-err c =
@@ -25,12 +25,12 @@ returns-in-Ok-false-clause-err c =
     let text = c.in_ok-text.text.now in
     let behind = c.in_ok-text.behind.now in
     let whole = rw c.in-Ok-false.field-0-test at c.in-Ok-false.ensures in
-    inr (λ d held some. (
+    inr (λ dump held some. (
       line,
       DumpWanted,
       c.dump_wanted.ensures,
-      stops_here (Listed d) line bytes DumpWanted (refused_here (Listed d) bytes text behind tt c.in_ok-text.ensures.ok
-          (mark_refused d text held.form some (λ is spells. false≢true (whole.1 (dump_is_held d c.args.graph.now held c.requires.few is))))),
+      stops_here (Listed dump) line bytes DumpWanted (refused_here (Listed dump) bytes text behind tt c.in_ok-text.ensures.ok
+          (mark_refused dump text held.form some (λ is spells. false≢true (whole.1 (dump_is_held dump c.args.graph.now held c.requires.few is))))),
     ))
 
 pub returns-else-eq-clause-err : goal.returns-else-eq-clause-err
@@ -39,10 +39,10 @@ returns-else-eq-clause-err c =
     let bytes = c.args.bytes.now in
     let text = c.in_ok-text.text.now in
     let behind = c.in_ok-text.behind.now in
-    inr (λ d held some. (
+    inr (λ dump held some. (
       line,
       DumpWanted,
       c.dump_wanted-else-eq.ensures,
-      stops_here (Listed d) line bytes DumpWanted (refused_here (Listed d) bytes text behind tt c.in_ok-text.ensures.ok
-          (mark_refused d text held.form some (λ is spells. not_mark text c.as_slice.result.now c.as_slice.ensures c.if-eq.ensures spells))),
+      stops_here (Listed dump) line bytes DumpWanted (refused_here (Listed dump) bytes text behind tt c.in_ok-text.ensures.ok
+          (mark_refused dump text held.form some (λ is spells. not_mark text c.as_slice.result.now c.as_slice.ensures c.if-eq.ensures spells))),
     ))

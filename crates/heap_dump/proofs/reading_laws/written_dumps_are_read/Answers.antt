@@ -6,7 +6,7 @@ use Rattle.trace_reading.specs.Spelling.{TraceLine, line, IsLine, schedule_line,
 use Rattle.trace_reading.specs.Grammar.{most_bytes, scripts_of, items_of}
 use Rattle.heap_dump.specs.Dumped.{Dumped, IsDump}
 use Rattle.heap_dump.specs.DumpText.{dump_text}
-use Rattle.heap_dump.specs.Resumes.{Resumes, run_version, mark_line}
+use Rattle.heap_dump.specs.DumpsToRun.{Resumes, run_version, mark_line}
 use Rattle.heap_dump.proofs.Reread as reread
 use Rattle.heap_dump.proofs.reading_laws.written_dumps_are_read.Goals as goal
 

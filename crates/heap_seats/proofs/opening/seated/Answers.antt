@@ -14,7 +14,7 @@ loop-number-init c =
     subst (λ bundles. Opens config h bundles c.in-Ok-with_capacity.seats.items 0) (sym c.reverse.ensures.items)
     (subst (λ seats. Opens config h (reverse c.args.bundles.items) seats 0) (sym c.in-Ok-with_capacity.ensures.items)
     (opens_first config h c.args.bundles.items c.requires.count
-    (λ k b there. subst (λ (heap : Heap). IsFresh heap b (dealt_in config (start_of_heap heap) k)) (sym c.in-Ok.ensures.ok) (c.requires.bundles k b there))))
+    (λ k bundle there. subst (λ (heap : Heap). IsFresh heap bundle (dealt_in config (start_of_heap heap) k)) (sym c.in-Ok.ensures.ok) (c.requires.bundles k bundle there))))
 
 pub unreachable-requires : goal.unreachable-requires
 unreachable-requires c =

@@ -9,7 +9,7 @@ use Rattle.graph_placing.specs.Renaming.{AreOfThreads}
 use Rattle.table_heap.specs.Closed as ends
 use Rattle.heap_seats.specs.declared.renewing.Renewal.TheVariants as renewals
 use Rattle.heap_seats.specs.Renewed.{KeepsNames, BeginSeats, IsGraphLeft}
-use Rattle.heap_seats.specs.Renewing.{IsLeftKept}
+use Rattle.heap_seats.specs.RenewalStage.{IsLeftKept}
 use Rattle.heap_seats.proofs.Followed.{begin_others, left_shown}
 use Rattle.heap_seats.proofs.LeftGraphs.{left_placeable, left_threads}
 use Rattle.heap_seats.proofs.renewing.go_on.Goals as goal
@@ -42,9 +42,9 @@ returns-in-Ok-reopened_seats c =
     let why = c.in-Err.renewal in
     let seats = c.in-Ok-reopened_seats.seats.items in
     begin_others config (IsLeftKept config left why) (IsGraphLeft config left) why seats
-    (λ g is_left. record {
+    (λ graph is_left. record {
       is_left = is_left;
-      keeps = subst (λ (config : Config). KeepsNames why config g) c.requires.sizes (c.in-Err.ensures.kept g (subst (λ (config : Config). ShowsGraph text config.mutators g) (sym c.requires.sizes) (left_shown config left text c.graph.ensures.shows g is_left)));
+      keeps = subst (λ (config : Config). KeepsNames why config graph) c.requires.sizes (c.in-Err.ensures.kept graph (subst (λ (config : Config). ShowsGraph text config.mutators graph) (sym c.requires.sizes) (left_shown config left text c.graph.ensures.shows graph is_left)));
     })
     (subst (λ (stage : Stage Actor). BeginSeats config (IsLeftKept config stage why) why seats) c.graph.ensures.unchanged.stage
     (subst (λ (config : Config). BeginSeats config (IsLeftKept config (ends.stage_of new) why) why seats) c.graph.ensures.unchanged.config (c.in-Ok-reopened_seats.ensures why)))

@@ -23,11 +23,11 @@ use Rattle.heap_tests.proofs.calls_step_by_step.goes_on.Goals as goal
 first_from : (config : Config) (words counts : List ℕ) (machines : List actors.Machine) → map (λ a. a.machine) (stage_from config words counts).machines ≡ machines → 0 < config.mutators
     → slice_index_or machines 0 no_machine ≡ actors.mutating (mutator_after 0 (slice_index counts 0))
 unfolding stage_from
-first_from config words counts machines is some =
+first_from config words counts machines is positive =
     let made = machine_from config counts (view config words) in
     ap (λ ms. slice_index_or ms 0 no_machine) (sym is ∙ map-map (λ a. a.machine) (actor_from config counts (view config words)) (range_with_len 0 (seat_count config.mutators config.helpers)))
     ∙ get_or-map-range_with_len made 0 (seat_count config.mutators config.helpers) 0 0 no_machine (omega arith) refl
-    ∙ ap (λ b. if b then actors.mutating (mutator_after 0 (slice_index counts 0)) else (if nat_lt 0 (config.mutators + config.helpers) then actors.fresh_helper 0 else control_from (view config words))) (lt-ltb 0 config.mutators some)
+    ∙ ap (λ b. if b then actors.mutating (mutator_after 0 (slice_index counts 0)) else (if nat_lt 0 (config.mutators + config.helpers) then actors.fresh_helper 0 else control_from (view config words))) (lt-ltb 0 config.mutators positive)
 
 pub open_from-requires-clause-begins : goal.open_from-requires-clause-begins
 open_from-requires-clause-begins c =

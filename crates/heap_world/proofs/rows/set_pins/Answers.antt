@@ -24,7 +24,7 @@ loop-position-preserved c =
     let within : position % 4 < 4 = omega arith in
     let back : position / 4 + 1 - 1 ≡ position / 4 = omega arith in
     let to = c.reference_to.result in
-    let with_slot = λ (i : ℕ). set rows i (set (get_or rows i []) (position % 4) to) in
+    let with_slot = λ (index : ℕ). set rows index (set (get_or rows index []) (position % 4) to) in
     let made = ap (λ t. t.pins) c.pin.ensures ∙ ap with_slot back in
     record {
       rest = pins_alone c.args.text.now c.loop-position.text c.pin.new.self (with_slot (position / 4 + 1 - 1)) c.loop-position.invariant.rest c.pin.ensures;

@@ -25,7 +25,7 @@ loop-position-preserved c =
     let back : position / 16 + 1 - 1 ≡ position / 16 = omega arith in
     let to = c.reference_to.result in
     let made = ap (λ t. t.roots) c.root.ensures
-    ∙ ap (λ i. set rows i (set (get_or rows i []) (position % 16) to)) back in
+    ∙ ap (λ index. set rows index (set (get_or rows index []) (position % 16) to)) back in
     record {
       rows = ap (λ t. t.rows) c.root.ensures ∙ c.loop-position.invariant.rows;
       room = ap (λ t. t.room) c.root.ensures ∙ c.loop-position.invariant.room;

@@ -2,14 +2,14 @@ use Rattle.std.proofs.Common.{rules, ◌≡◌, ◌-◌, ◌<◌, [], ◌++◌, 
 use Rattle.std.proofs.lemmas.List.{get_or_read, length-append}
 use Rattle.std.proofs.lemmas.Bool.{false≢true}
 use Rattle.heap_world.specs.Walk.{has, refs_at, currents, IsNamed, from_root, from_field, with_addresses}
-use Rattle.heap_world.proofs.Marks.{few, kept, new, prefix, has-left, has-right}
+use Rattle.heap_world.proofs.TakenDown.{few, kept, new, prefix, has-left, has-right}
 use Rattle.heap_world.proofs.Walks.{all_named-in, IsMarked-none, all_among, led_step, closed_step, has-read, IsWalk-from, currents-left, currents-right, taken_both}
 use Rattle.heap_world.proofs.walk.find_reachable.Goals as goal
 
 pub take_each_down-requires-clause-named : goal.take_each_down-requires-clause-named
 take_each_down-requires-clause-named c =
     all_named-in c.args.roots.now (IsNamed c.args.first c.args.heap.now)
-    (λ a h. c.requires.sound.roots_named a (has-left c.args.roots.now c.args.pins.now a h))
+    (λ address h. c.requires.sound.roots_named address (has-left c.args.roots.now c.args.pins.now address h))
 
 pub take_each_down-requires-clause-marked : goal.take_each_down-requires-clause-marked
 take_each_down-requires-clause-marked c =
@@ -18,17 +18,17 @@ take_each_down-requires-clause-marked c =
 pub take_each_down-requires-clause-among : goal.take_each_down-requires-clause-among
 take_each_down-requires-clause-among c =
     all_among c.args.first c.args.heap.now (c.args.roots.now ++ c.args.pins.now) _ _ c.requires.sound (omega arith)
-    (λ a ne h. from_root a ne (currents-left c.args.first c.args.heap.now c.args.roots.now c.args.pins.now a h))
+    (λ address ne h. from_root address ne (currents-left c.args.first c.args.heap.now c.args.roots.now c.args.pins.now address h))
 
 pub take_each_down-requires-2-clause-named : goal.take_each_down-requires-2-clause-named
 take_each_down-requires-2-clause-named c =
     all_named-in c.args.pins.now (IsNamed c.args.first c.args.heap.now)
-    (λ a h. c.requires.sound.roots_named a (has-right c.args.roots.now c.args.pins.now a h))
+    (λ address h. c.requires.sound.roots_named address (has-right c.args.roots.now c.args.pins.now address h))
 
 pub take_each_down-requires-2-clause-among : goal.take_each_down-requires-2-clause-among
 take_each_down-requires-2-clause-among c =
     all_among c.args.first c.args.heap.now (c.args.roots.now ++ c.args.pins.now) _ _ c.requires.sound (omega arith)
-    (λ a ne h. from_root a ne (currents-right c.args.first c.args.heap.now c.args.roots.now c.args.pins.now a h))
+    (λ address ne h. from_root address ne (currents-right c.args.first c.args.heap.now c.args.roots.now c.args.pins.now address h))
 
 pub loop-next-init : goal.loop-next-init
 loop-next-init c =
@@ -68,7 +68,7 @@ take_each_down-requires-in-loop-next-clause-named c =
     let x = c.index.result.now in
     let led = c.loop-next.invariant.led x (has-read _ c.loop-next.next x (omega arith) c.index.ensures) in
     all_named-in c.references.result.now (IsNamed c.args.first c.args.heap.now)
-    (λ a h. c.requires.sound.fields_named x a led (ap (λ xs. has xs a) (sym c.references.ensures) ∙ h))
+    (λ address h. c.requires.sound.fields_named x address led (ap (λ xs. has xs address) (sym c.references.ensures) ∙ h))
 
 pub take_each_down-requires-in-loop-next-clause-among :
     goal.take_each_down-requires-in-loop-next-clause-among
@@ -76,7 +76,7 @@ take_each_down-requires-in-loop-next-clause-among c =
     let x = c.index.result.now in
     let led = c.loop-next.invariant.led x (has-read _ c.loop-next.next x (omega arith) c.index.ensures) in
     all_among c.args.first c.args.heap.now (c.args.roots.now ++ c.args.pins.now) _ _ c.requires.sound (omega arith)
-    (λ a ne h. from_field x a led ne (ap (λ xs. has (currents c.args.first c.args.heap.now xs) a) (sym c.references.ensures) ∙ h))
+    (λ address ne h. from_field x address led ne (ap (λ xs. has (currents c.args.first c.args.heap.now xs) address) (sym c.references.ensures) ∙ h))
 
 pub loop-next-smaller : goal.loop-next-smaller
 loop-next-smaller c =
@@ -104,7 +104,7 @@ loop-next-preserved c =
           omega (arith, ap length taken, ap length p.1, length-append order p.0));
       led = (λ a h.
           led_step first heap roots order words c.loop-next.invariant.led
-          (λ a ne k. from_field x a led ne (ap (λ xs. has (currents first heap xs) a) (sym c.references.ensures) ∙ k)) a
+          (λ address ne k. from_field x address led ne (ap (λ xs. has (currents first heap xs) address) (sym c.references.ensures) ∙ k)) a
           (ap (λ xs. has xs a) (sym taken) ∙ h));
       roots = (λ a ne h. ap (λ xs. has xs a) taken ∙ kept order words a (c.loop-next.invariant.roots a ne h));
       closed = (rw taken (closed_step first heap order words c.loop-next.next low fields c.loop-next.invariant.closed));

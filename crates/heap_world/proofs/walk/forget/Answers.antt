@@ -1,5 +1,5 @@
 use Rattle.std.proofs.Common.{◌∙◌, arith}
-use Rattle.heap_world.proofs.Marks.{last_among, IsMarked-pop}
+use Rattle.heap_world.proofs.TakenDown.{last_among, IsMarked-pop}
 use Rattle.heap_world.proofs.walk.forget.Goals as goal
 
 pub overflow_sub-index : goal.overflow_sub-index

@@ -1,5 +1,5 @@
 use Rattle.std.proofs.Common.{arith}
-use Rattle.heap_world.proofs.Marks.{room_left, IsMarked-push}
+use Rattle.heap_world.proofs.TakenDown.{room_left, IsMarked-push}
 use Rattle.heap_world.proofs.walk.take_down.Goals as goal
 
 pub overflow_cast-taken : goal.overflow_cast-taken

@@ -1,7 +1,7 @@
 use Rattle.std.proofs.Common.{◌≡◌, ◌<◌, length, get_or, take, map, arith, ap, sym, ◌∙◌}
 use Rattle.std.proofs.lemmas.List.{take_more, map-append, get_or-map, length-map}
 use Rattle.heap_world.specs.Walk.{current_at, currents, with_address, with_addresses}
-use Rattle.heap_world.proofs.Marks.{with_addresses-push}
+use Rattle.heap_world.proofs.TakenDown.{with_addresses-push}
 use Rattle.heap_world.proofs.walk.take_each_down.Goals as goal
 
 pub loop-word-preserved : goal.loop-word-preserved

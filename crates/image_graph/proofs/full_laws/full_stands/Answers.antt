@@ -1,4 +1,4 @@
-use Rattle.image_graph.proofs.Serving.{full_stands}
+use Rattle.image_graph.proofs.ServingKeeps.{full_stands}
 use Rattle.image_graph.proofs.full_laws.full_stands.Goals as goal
 
 pub returns : goal.returns

@@ -1,4 +1,4 @@
-use Rattle.image_graph.proofs.Serving.{served_stands}
+use Rattle.image_graph.proofs.ServingKeeps.{served_stands}
 use Rattle.image_graph.proofs.full_laws.serving_stands.Goals as goal
 
 pub returns : goal.returns

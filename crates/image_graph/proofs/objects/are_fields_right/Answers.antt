@@ -4,7 +4,7 @@ use Rattle.heap_words.specs.declared.config.Config.{Config}
 use Rattle.heap_words.specs.Words.{Word, Heap, IsWord}
 use Rattle.image_graph.specs.State.{config_of, memory_of}
 use Rattle.image_graph.specs.Laid.{IsReference}
-use Rattle.image_graph.proofs.Reading.{read, placed}
+use Rattle.image_graph.proofs.ObjectAddresses.{read, placed}
 use Rattle.image_graph.proofs.objects.are_fields_right.Goals as goal
 
 pub heap_at-requires : goal.heap_at-requires
@@ -18,10 +18,10 @@ word-requires c =
 pub loop-index-preserved : goal.loop-index-preserved
 loop-index-preserved c =
     let memory : Word → ℕ = memory_of c.args.image.now in
-    let i = c.loop-index.index in
-    let word : c.word.result ≡ memory (Heap (c.args.address + 3 + i)) =
-    read (config_of c.args.image.now) _ memory (Heap (c.args.address + 3 + i)) _ _ c.config-config.ensures (c.requires.inside i c.loop-index-test.true) c.heap_at.ensures c.word.ensures.named in
-    below_more (λ (j : ℕ). IsReference c.args.objects.now (memory (Heap (c.args.address + 3 + j)))) i c.loop-index.invariant
+    let index = c.loop-index.index in
+    let word : c.word.result ≡ memory (Heap (c.args.address + 3 + index)) =
+    read (config_of c.args.image.now) _ memory (Heap (c.args.address + 3 + index)) _ _ c.config-config.ensures (c.requires.inside index c.loop-index-test.true) c.heap_at.ensures c.word.ensures.named in
+    below_more (λ (j : ℕ). IsReference c.args.objects.now (memory (Heap (c.args.address + 3 + j)))) index c.loop-index.invariant
     (subst (IsReference c.args.objects.now) word (c.is_reference.ensures c.if-not-is_reference.false))
 
 pub returns : goal.returns

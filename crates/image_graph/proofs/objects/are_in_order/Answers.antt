@@ -3,7 +3,7 @@ use Rattle.heap_words.specs.Words.{Word, Heap}
 use Rattle.heap_words.specs.Encoding.{object_words}
 use Rattle.image_graph.specs.State.{config_of, memory_of}
 use Rattle.image_graph.specs.Laid.{laid_words}
-use Rattle.image_graph.proofs.Reading.{read, placed, head, low, more}
+use Rattle.image_graph.proofs.ObjectAddresses.{read, placed, head, low, more}
 use Rattle.image_graph.proofs.objects.are_in_order.Goals as goal
 
 pub overflow_sub-before : goal.overflow_sub-before
@@ -54,23 +54,23 @@ pub loop-index-preserved : goal.loop-index-preserved
 loop-index-preserved c =
     let config = config_of c.args.image.now in
     let memory : Word → ℕ = memory_of c.args.image.now in
-    let i = c.loop-index.index in
+    let index = c.loop-index.index in
     let at : ℕ → ℕ = λ (j : ℕ). get_or c.args.objects.now j 0 in
-    let before = c.requires (i - 1) (omega (arith, c.loop-index-test.true)) in
-    let here = c.requires i c.loop-index-test.true in
-    let shape : c.word.result ≡ memory (Heap (at (i - 1) + 1)) =
-    read config _ memory (Heap (at (i - 1) + 1)) _ _ c.config-config.ensures (head _ config _ _ _ 1 refl before (omega arith)) c.heap_at.ensures c.word.ensures.named in
-    let one : c.word-else-behind-here.result ≡ memory (Heap (at (i - 1) + 2)) =
-    read config _ memory (Heap (at (i - 1) + 2)) _ _ c.config-config.ensures (head _ config _ _ _ 2 refl before (omega arith)) c.heap_at-else-behind-here.ensures c.word-else-behind-here.ensures.named in
-    let two : c.word-else-behind-here-2.result ≡ memory (Heap (at i + 2)) =
-    read config _ memory (Heap (at i + 2)) _ _ c.config-config.ensures (head _ config _ _ _ 2 refl here (omega arith)) c.heap_at-else-behind-here-2.ensures c.word-else-behind-here-2.ensures.named in
-    let long : c.words_of.result ≡ laid_words memory (at (i - 1)) = c.words_of.ensures ∙ ap object_words shape in
-    let some : 1 ≤ i = c.loop-index.auto.index in
+    let before = c.requires (index - 1) (omega (arith, c.loop-index-test.true)) in
+    let here = c.requires index c.loop-index-test.true in
+    let shape : c.word.result ≡ memory (Heap (at (index - 1) + 1)) =
+    read config _ memory (Heap (at (index - 1) + 1)) _ _ c.config-config.ensures (head _ config _ _ _ 1 refl before (omega arith)) c.heap_at.ensures c.word.ensures.named in
+    let one : c.word-else-behind-here.result ≡ memory (Heap (at (index - 1) + 2)) =
+    read config _ memory (Heap (at (index - 1) + 2)) _ _ c.config-config.ensures (head _ config _ _ _ 2 refl before (omega arith)) c.heap_at-else-behind-here.ensures c.word-else-behind-here.ensures.named in
+    let two : c.word-else-behind-here-2.result ≡ memory (Heap (at index + 2)) =
+    read config _ memory (Heap (at index + 2)) _ _ c.config-config.ensures (head _ config _ _ _ 2 refl here (omega arith)) c.heap_at-else-behind-here-2.ensures c.word-else-behind-here-2.ensures.named in
+    let long : c.words_of.result ≡ laid_words memory (at (index - 1)) = c.words_of.ensures ∙ ap object_words shape in
+    let some : 1 ≤ index = c.loop-index.auto.index in
     record {
-      apart = more (λ (j l : ℕ). at j + laid_words memory (at j) ≤ at l) i some c.loop-index.invariant.apart
-          (subst (λ (n : ℕ). at (i - 1) + n ≤ at i) long c.if-behind-here.false);
-      named = more (λ (j l : ℕ). memory (Heap (at j + 2)) < memory (Heap (at l + 2))) i some c.loop-index.invariant.named
-          (subst (λ (n : ℕ). n < memory (Heap (at i + 2))) one (subst (λ (n : ℕ). c.word-else-behind-here.result < n) two c.if-word.false));
+      apart = more (λ (j l : ℕ). at j + laid_words memory (at j) ≤ at l) index some c.loop-index.invariant.apart
+          (subst (λ (n : ℕ). at (index - 1) + n ≤ at index) long c.if-behind-here.false);
+      named = more (λ (j l : ℕ). memory (Heap (at j + 2)) < memory (Heap (at l + 2))) index some c.loop-index.invariant.named
+          (subst (λ (n : ℕ). n < memory (Heap (at index + 2))) one (subst (λ (n : ℕ). c.word-else-behind-here.result < n) two c.if-word.false));
     }
 
 pub returns : goal.returns

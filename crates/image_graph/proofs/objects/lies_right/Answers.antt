@@ -6,8 +6,8 @@ use Rattle.regions.specs.Place.{base_of}
 use Rattle.heap_words.specs.Encoding.{object_words}
 use Rattle.image_graph.specs.State.{config_of, memory_of}
 use Rattle.image_graph.specs.Laid.{laid_words}
-use Rattle.image_graph.proofs.Read.{low_region}
-use Rattle.image_graph.proofs.Reading.{read, placed, between, between_first, lies_by}
+use Rattle.image_graph.proofs.HeapParts.{low_region}
+use Rattle.image_graph.proofs.ObjectAddresses.{read, placed, between, between_first, lies_by}
 use Rattle.image_graph.proofs.objects.lies_right.Goals as goal
 
 pub overflow_add-last : goal.overflow_add-last
@@ -44,26 +44,26 @@ word-requires-2 c =
 
 pub overflow_add-end : goal.overflow_add-end
 overflow_add-end c =
-    let r = c.region_of-region.result in
+    let region = c.region_of-region.result in
     let config = config_of c.args.image.now in
-    let below : r < config.regions = subst (λ (config : Config). r < config.regions) c.config-config.ensures c.region_of-region.ensures.below in
-    let top : c.word-2.result ≡ memory_of c.args.image.now (Top r) =
-    read config _ (memory_of c.args.image.now) (Top r) _ _ c.config-config.ensures below c.top_at.ensures c.word-2.ensures.named in
-    let base : c.base.result ≡ base_of config r = c.base.ensures ∙ ap (λ (config : Config). base_of config r) c.config-config.ensures in
-    omega (arith, top, base, c.requires r below, low_region config r below)
+    let below : region < config.regions = subst (λ (config : Config). region < config.regions) c.config-config.ensures c.region_of-region.ensures.below in
+    let top : c.word-2.result ≡ memory_of c.args.image.now (Top region) =
+    read config _ (memory_of c.args.image.now) (Top region) _ _ c.config-config.ensures below c.top_at.ensures c.word-2.ensures.named in
+    let base : c.base.result ≡ base_of config region = c.base.ensures ∙ ap (λ (config : Config). base_of config region) c.config-config.ensures in
+    omega (arith, top, base, c.requires region below, low_region config region below)
 
 pub returns-then-behind-end-2 : goal.returns-then-behind-end-2
 returns-then-behind-end-2 c =
     let config = config_of c.args.image.now in
     let memory : Word → ℕ = memory_of c.args.image.now in
     let address = c.args.address in
-    let r = c.region_of-region.result in
-    let below : r < config.regions = subst (λ (config : Config). r < config.regions) c.config-config.ensures c.region_of-region.ensures.below in
-    let top : c.word-2.result ≡ memory (Top r) = read config _ memory (Top r) _ _ c.config-config.ensures below c.top_at.ensures c.word-2.ensures.named in
+    let region = c.region_of-region.result in
+    let below : region < config.regions = subst (λ (config : Config). region < config.regions) c.config-config.ensures c.region_of-region.ensures.below in
+    let top : c.word-2.result ≡ memory (Top region) = read config _ memory (Top region) _ _ c.config-config.ensures below c.top_at.ensures c.word-2.ensures.named in
     let word : IsWord config (Heap (address + 1)) = subst (λ (config : Config). IsWord config (Heap (address + 1))) c.config-config.ensures
     (between c.config-config.result _ _ _ 1 c.region_words-first.ensures c.heap_size.ensures.value c.if-address-first.false c.if-last-address-lt3.false (omega arith)) in
     let long : c.words_of.result ≡ laid_words memory address = c.words_of.ensures ∙ ap object_words (read config _ memory (Heap (address + 1)) _ _ c.config-config.ensures word c.heap_at.ensures c.word.ensures.named) in
-    λ _. lies_by config c.config-config.result memory c.args.objects.now address _ _ _ r _ _ c.config-config.ensures c.region_words-first.ensures c.heap_size.ensures.value c.if-address-first.false
+    λ _. lies_by config c.config-config.result memory c.args.objects.now address _ _ _ region _ _ c.config-config.ensures c.region_words-first.ensures c.heap_size.ensures.value c.if-address-first.false
     c.if-last-address-lt3.false long c.region_of-region.ensures.value c.base.ensures top c.if-behind-end.true (λ other. absurd (other c.if-behind-end-2.true))
 
 pub returns-else-behind-end-2 : goal.returns-else-behind-end-2
@@ -71,13 +71,13 @@ returns-else-behind-end-2 c =
     let config = config_of c.args.image.now in
     let memory : Word → ℕ = memory_of c.args.image.now in
     let address = c.args.address in
-    let r = c.region_of-region.result in
-    let below : r < config.regions = subst (λ (config : Config). r < config.regions) c.config-config.ensures c.region_of-region.ensures.below in
-    let top : c.word-2.result ≡ memory (Top r) = read config _ memory (Top r) _ _ c.config-config.ensures below c.top_at.ensures c.word-2.ensures.named in
+    let region = c.region_of-region.result in
+    let below : region < config.regions = subst (λ (config : Config). region < config.regions) c.config-config.ensures c.region_of-region.ensures.below in
+    let top : c.word-2.result ≡ memory (Top region) = read config _ memory (Top region) _ _ c.config-config.ensures below c.top_at.ensures c.word-2.ensures.named in
     let word : IsWord config (Heap (address + 1)) = subst (λ (config : Config). IsWord config (Heap (address + 1))) c.config-config.ensures
     (between c.config-config.result _ _ _ 1 c.region_words-first.ensures c.heap_size.ensures.value c.if-address-first.false c.if-last-address-lt3.false (omega arith)) in
     let long : c.words_of.result ≡ laid_words memory address = c.words_of.ensures ∙ ap object_words (read config _ memory (Heap (address + 1)) _ _ c.config-config.ensures word c.heap_at.ensures c.word.ensures.named) in
-    λ yes. lies_by config c.config-config.result memory c.args.objects.now address _ _ _ r _ _ c.config-config.ensures c.region_words-first.ensures c.heap_size.ensures.value c.if-address-first.false
+    λ yes. lies_by config c.config-config.result memory c.args.objects.now address _ _ _ region _ _ c.config-config.ensures c.region_words-first.ensures c.heap_size.ensures.value c.if-address-first.false
     c.if-last-address-lt3.false long c.region_of-region.ensures.value c.base.ensures top c.if-behind-end.true (λ _. sym c.is_among.ensures ∙ yes)
 
 pub returns-else-behind-end : goal.returns-else-behind-end

@@ -2,7 +2,7 @@ use Rattle.std.proofs.Common.{ℕ, get_or, arith}
 use borrow.Author.Count.{below_more}
 use Rattle.image_graph.specs.State.{config_of, memory_of}
 use Rattle.image_graph.specs.Laid.{ReadsRight}
-use Rattle.image_graph.proofs.Reading.{inside}
+use Rattle.image_graph.proofs.ObjectAddresses.{inside}
 use Rattle.image_graph.proofs.objects.read_right.Goals as goal
 
 pub reads_right-requires-clause-lies : goal.reads_right-requires-clause-lies

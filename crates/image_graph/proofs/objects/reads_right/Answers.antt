@@ -3,7 +3,7 @@ use Rattle.heap_words.specs.Words.{Word, Heap}
 use Rattle.heap_words.specs.Encoding.{refs_in}
 use Rattle.image_graph.specs.State.{config_of, memory_of}
 use Rattle.image_graph.specs.Laid.{IsShape, IsNamedRight}
-use Rattle.image_graph.proofs.Reading.{read, placed, head, first, field, low}
+use Rattle.image_graph.proofs.ObjectAddresses.{read, placed, head, first, field, low}
 use Rattle.image_graph.proofs.objects.reads_right.Goals as goal
 
 pub overflow_add-address : goal.overflow_add-address

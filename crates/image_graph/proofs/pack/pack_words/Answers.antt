@@ -4,7 +4,7 @@ use borrow.Rule.Slice.PartMut.{put_mid}
 use Rattle.heap_words.specs.Words.{Top, word_at, heap_size, heap_in}
 use Rattle.regions.specs.Table.{CanCompact}
 use Rattle.regions.specs.Places.{is_shut}
-use Rattle.image_graph.specs.Pack.{IsPacked}
+use Rattle.image_graph.specs.PackedTable.{IsPacked}
 use Rattle.image_graph.proofs.Packed.{packed_from, heap_part}
 use Rattle.image_graph.proofs.pack.pack_words.Goals as goal
 

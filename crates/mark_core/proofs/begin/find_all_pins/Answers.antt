@@ -18,7 +18,7 @@ loop-mutator-preserved c =
       unchanged = both old now c.find_pins.new.image same c.find_pins.ensures.unchanged;
       found = c.find_pins.ensures.found;
       noted = c.find_pins.ensures.noted
-          ∙ ap (λ (memory : Word → ℕ). with_addresses (found_of now) (map (λ i. memory (Pin mutator i)) (range_with_len 0 4))) (memory_same old now same)
-          ∙ ap (λ xs. with_addresses xs (map (λ i. memory (Pin mutator i)) (range_with_len 0 4))) c.loop-mutator.invariant.noted
+          ∙ ap (λ (memory : Word → ℕ). with_addresses (found_of now) (map (λ slot. memory (Pin mutator slot)) (range_with_len 0 4))) (memory_same old now same)
+          ∙ ap (λ xs. with_addresses xs (map (λ slot. memory (Pin mutator slot)) (range_with_len 0 4))) c.loop-mutator.invariant.noted
           ∙ pins_more memory mutator (found_of old);
     }

@@ -18,7 +18,7 @@ loop-mutator-preserved c =
       unchanged = both old now c.find_roots.new.image same c.find_roots.ensures.unchanged;
       found = c.find_roots.ensures.found;
       noted = c.find_roots.ensures.noted
-          ∙ ap (λ (memory : Word → ℕ). with_addresses (found_of now) (map (λ i. memory (Root mutator i)) (range_with_len 0 16))) (memory_same old now same)
-          ∙ ap (λ xs. with_addresses xs (map (λ i. memory (Root mutator i)) (range_with_len 0 16))) c.loop-mutator.invariant.noted
+          ∙ ap (λ (memory : Word → ℕ). with_addresses (found_of now) (map (λ index. memory (Root mutator index)) (range_with_len 0 16))) (memory_same old now same)
+          ∙ ap (λ xs. with_addresses xs (map (λ index. memory (Root mutator index)) (range_with_len 0 16))) c.loop-mutator.invariant.noted
           ∙ roots_more memory mutator (found_of old);
     }

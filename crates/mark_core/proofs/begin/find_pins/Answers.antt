@@ -22,7 +22,7 @@ loop-slot-preserved c =
     record {
       unchanged = both old now c.find.new.self same c.find.ensures.unchanged;
       found = c.find.ensures.found;
-      noted = noted_step (found_of old) (found_of now) (found_of c.find.new.self) (λ j. memory_of old (Pin mutator j)) slot c.word-word.result c.loop-slot.invariant.noted
+      noted = noted_step (found_of old) (found_of now) (found_of c.find.new.self) (λ slot. memory_of old (Pin mutator slot)) slot c.word-word.result c.loop-slot.invariant.noted
           (value ∙ ap (λ m. m (Pin mutator slot)) (memory_same old now same)) c.find.ensures.noted;
     }
 
@@ -30,4 +30,4 @@ pub returns-clause-noted : goal.returns-clause-noted
 returns-clause-noted c =
     let old = c.args.image.now in
     let all : c.loop-slot.slot ≡ 4 = omega (arith, c.loop-slot-test.false, c.loop-slot.auto.slot-end) in
-    c.loop-slot.invariant.noted ∙ ap (λ n. with_addresses (found_of old) (map (λ i. memory_of old (Pin c.args.mutator i)) (range_with_len 0 n))) all
+    c.loop-slot.invariant.noted ∙ ap (λ n. with_addresses (found_of old) (map (λ slot. memory_of old (Pin c.args.mutator slot)) (range_with_len 0 n))) all

@@ -1,7 +1,7 @@
 use Rattle.std.proofs.Common.{sym, subst}
 use Rattle.image_graph.specs.State.{config_of, words_of, memory_of}
 use Rattle.image_graph.proofs.BufferTurns.{no_more_seats}
-use Rattle.image_graph.proofs.Loosening.Inside.{inside_some}
+use Rattle.image_graph.proofs.Loosening.BuffersInside.{inside_some}
 use Rattle.cycle_words.specs.Marking.Laws.{BeginsMarking}
 use Rattle.cycle_words.proofs.Marking.Begun.{init_marks}
 use Rattle.mark_core.proofs.MarkingBegun.{held_inside_some}

@@ -45,7 +45,7 @@ pub returns-clause-through : goal.returns-clause-through
 returns-clause-through c = λ block owner p graph holds marking.
     let config = config_of c.args.image.now in
     let memory : Word → ℕ = memory_of c.args.image.now in
-    subst (λ n. HoldsBy config n block owner p graph × IsMarkedThrough config n block) (sym (returns-clause-words c))
+    subst (λ memory. HoldsBy config memory block owner p graph × IsMarkedThrough config memory block) (sym (returns-clause-words c))
     (closed_holds config memory block owner p graph holds marking, closed_through config memory block owner p graph holds marking)
 
 pub returns-clause-holds : goal.returns-clause-holds

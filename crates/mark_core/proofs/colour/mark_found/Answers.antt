@@ -1,12 +1,13 @@
 use Rattle.std.proofs.Common.{◌≡◌, ◌+◌, ℕ, List, take, slice_get, Some, None, refl, sym, ap, ◌∙◌, subst, arith}
 use Rattle.std.proofs.lemmas.List.{take_all}
 use Rattle.std.proofs.lemmas.Option.{slice_get_within}
+use Rattle.shen_graph.proofs.Lists.{index_past_end}
+use Rattle.shen_graph.proofs.Options.{none_if_never}
 use Rattle.heap_words.specs.declared.config.Config.{Config}
 use Rattle.heap_words.specs.Words.{Word, Grey, Black, Heap, IsWord, word_at, heap_size, bit_words}
 use Rattle.regions.proofs.MarksApart.{word_inside}
 use Rattle.heap_world.specs.Walk.{has}
-use Rattle.heap_world.proofs.Marks as marks
-use Rattle.image_graph.proofs.FoundInTurn.{is_none, none_left}
+use Rattle.heap_world.proofs.TakenDown as marks
 use Rattle.image_graph.specs.State.{config_of, memory_of, found_of, marks_of}
 use Rattle.mark_core.specs.Steps.{marked}
 use Rattle.mark_core.proofs.FoundStays.{still_found, found_inside}
@@ -75,5 +76,5 @@ returns-clause-words c =
     let config = config_of old in
     let turn : ℕ = c.loop-address.turn in
     let was = c.loop-address.invariant in
-    let none : slice_get (found_of old) turn ≡ None = sym (ap (λ ys. slice_get ys turn) was.same) ∙ sym c.found_at.ensures ∙ is_none c.found_at.result c.in_default.not-Some in
-    was.words ∙ ap (λ ys. marked config (has ys) (bit_words config) (memory_of old)) (take_all turn (found_of old) (none_left (found_of old) turn none))
+    let none : slice_get (found_of old) turn ≡ None = sym (ap (λ ys. slice_get ys turn) was.same) ∙ sym c.found_at.ensures ∙ none_if_never c.found_at.result c.in_default.not-Some in
+    was.words ∙ ap (λ ys. marked config (has ys) (bit_words config) (memory_of old)) (take_all turn (found_of old) (index_past_end (found_of old) turn none))

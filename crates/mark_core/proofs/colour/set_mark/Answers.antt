@@ -12,25 +12,25 @@ returns-clause-grey c = λ start.
     let config = config_of c.args.image.now in
     let memory : Word → ℕ = memory_of c.args.image.now in
     let address : ℕ = c.args.address in
-    let n : ℕ = mark_word config address in
-    let number : c.mark_word.result ≡ n = c.mark_word.ensures.value ∙ ap (λ (config : Config). mark_word config address) c.config-config.ensures in
-    let at : word_at config (Grey n) ≡ c.args.row + c.mark_word.result = omega (arith, start, number) in
-    let inside : n < bit_words config = word_inside config address c.requires.inside in
+    let other_number : ℕ = mark_word config address in
+    let number : c.mark_word.result ≡ other_number = c.mark_word.ensures.value ∙ ap (λ (config : Config). mark_word config address) c.config-config.ensures in
+    let at : word_at config (Grey other_number) ≡ c.args.row + c.mark_word.result = omega (arith, start, number) in
+    let inside : other_number < bit_words config = word_inside config address c.requires.inside in
     let mask : c.mark_mask.result ≡ mark_mask config address = c.mark_mask.ensures ∙ ap (λ (config : Config). mark_mask config address) c.config-config.ensures in
-    c.set_word.ensures.named (Grey n) inside at
-    ∙ ap (λ x. write memory (Grey n) (bit_or x c.mark_mask.result)) (c.word.ensures.named (Grey n) inside at)
-    ∙ ap (λ x. write memory (Grey n) (bit_or (memory (Grey n)) x)) mask
+    c.set_word.ensures.named (Grey other_number) inside at
+    ∙ ap (λ x. write memory (Grey other_number) (bit_or x c.mark_mask.result)) (c.word.ensures.named (Grey other_number) inside at)
+    ∙ ap (λ x. write memory (Grey other_number) (bit_or (memory (Grey other_number)) x)) mask
 
 pub returns-clause-black : goal.returns-clause-black
 returns-clause-black c = λ start.
     let config = config_of c.args.image.now in
     let memory : Word → ℕ = memory_of c.args.image.now in
     let address : ℕ = c.args.address in
-    let n : ℕ = mark_word config address in
-    let number : c.mark_word.result ≡ n = c.mark_word.ensures.value ∙ ap (λ (config : Config). mark_word config address) c.config-config.ensures in
-    let at : word_at config (Black n) ≡ c.args.row + c.mark_word.result = omega (arith, start, number) in
-    let inside : n < bit_words config = word_inside config address c.requires.inside in
+    let other_number : ℕ = mark_word config address in
+    let number : c.mark_word.result ≡ other_number = c.mark_word.ensures.value ∙ ap (λ (config : Config). mark_word config address) c.config-config.ensures in
+    let at : word_at config (Black other_number) ≡ c.args.row + c.mark_word.result = omega (arith, start, number) in
+    let inside : other_number < bit_words config = word_inside config address c.requires.inside in
     let mask : c.mark_mask.result ≡ mark_mask config address = c.mark_mask.ensures ∙ ap (λ (config : Config). mark_mask config address) c.config-config.ensures in
-    c.set_word.ensures.named (Black n) inside at
-    ∙ ap (λ x. write memory (Black n) (bit_or x c.mark_mask.result)) (c.word.ensures.named (Black n) inside at)
-    ∙ ap (λ x. write memory (Black n) (bit_or (memory (Black n)) x)) mask
+    c.set_word.ensures.named (Black other_number) inside at
+    ∙ ap (λ x. write memory (Black other_number) (bit_or x c.mark_mask.result)) (c.word.ensures.named (Black other_number) inside at)
+    ∙ ap (λ x. write memory (Black other_number) (bit_or (memory (Black other_number)) x)) mask

@@ -40,7 +40,7 @@ returns-clause-ends c = λ block owner p graph holds marking.
     let memory : Word → ℕ = memory_of c.args.image.now in
     let out = dead_in config memory in
     let seats = no_more_seats config (words_of c.args.image.now) in
-    subst (λ n. HoldsBy config n (freed_block config out block) (freed_owner out owner) p graph × IsMarkedThrough config n (freed_block config out block)) (sym (returns-clause-words c))
+    subst (λ memory. HoldsBy config memory (freed_block config out block) (freed_owner out owner) p graph × IsMarkedThrough config memory (freed_block config out block)) (sym (returns-clause-words c))
     (ended_holds config memory block owner p graph holds marking seats, ended_through config memory block owner p graph holds marking seats)
 
 pub returns-clause-holds : goal.returns-clause-holds

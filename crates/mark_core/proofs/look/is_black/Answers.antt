@@ -32,5 +32,5 @@ returns c =
     read config _ memory (Black n) _ _ c.config-config.ensures (subst (λ (config : Config). n < bit_words config) c.config-config.ensures c.mark_word.ensures.inside) c.black_at.ensures c.word-word.ensures.named in
     c.is_marked_in.ensures
     ∙ ap (λ (config : Config). bit_at c.word-word.result (mark_bit config address) == 1) c.config-config.ensures
-    ∙ ap (λ (w : ℕ). bit_at w (mark_bit config address) == 1) (word ∙ ap (λ (q : ℕ). memory (Black q)) at)
+    ∙ ap (λ (w : ℕ). bit_at w (mark_bit config address) == 1) (word ∙ ap (λ (number : ℕ). memory (Black number)) at)
     ∙ ap (λ (holds : Bool). holds && (bit_at (memory (Black (mark_word config address))) (mark_bit config address) == 1)) (sym (le-leb config.region_words address c.requires.0))

@@ -18,7 +18,7 @@ loop-mutator-preserved c =
       unchanged = both old now c.find_entries.new.image same c.find_entries.ensures.unchanged;
       found = c.find_entries.ensures.found;
       noted = c.find_entries.ensures.noted
-          ∙ ap (λ (memory : Word → ℕ). with_addresses (found_of now) (map (λ i. memory (Buffer mutator i)) (range_with_len 0 (memory (Count mutator))))) (memory_same old now same)
-          ∙ ap (λ xs. with_addresses xs (map (λ i. memory (Buffer mutator i)) (range_with_len 0 (memory (Count mutator))))) c.loop-mutator.invariant.noted
+          ∙ ap (λ (memory : Word → ℕ). with_addresses (found_of now) (map (λ entry. memory (Buffer mutator entry)) (range_with_len 0 (memory (Count mutator))))) (memory_same old now same)
+          ∙ ap (λ xs. with_addresses xs (map (λ entry. memory (Buffer mutator entry)) (range_with_len 0 (memory (Count mutator))))) c.loop-mutator.invariant.noted
           ∙ entries_more memory mutator (found_of old);
     }

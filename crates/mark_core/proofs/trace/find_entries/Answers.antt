@@ -46,7 +46,7 @@ loop-entry-preserved c =
     record {
       unchanged = both old now c.find.new.self same c.find.ensures.unchanged;
       found = c.find.ensures.found;
-      noted = noted_step (found_of old) (found_of now) (found_of c.find.new.self) (λ j. memory (Buffer mutator j)) entry c.word-word.result c.loop-entry.invariant.noted
+      noted = noted_step (found_of old) (found_of now) (found_of c.find.new.self) (λ entry. memory (Buffer mutator entry)) entry c.word-word.result c.loop-entry.invariant.noted
           (value ∙ ap (λ n. n (Buffer mutator entry)) (memory_same old now same)) c.find.ensures.noted;
     }
 
@@ -58,4 +58,4 @@ returns-clause-noted c =
     let count : c.word-count.result ≡ memory (Count mutator) =
     c.word-count.ensures.named (Count mutator) c.requires.mutator (ap (λ (config : Config). word_at config (Count mutator)) (sym c.config-config.ensures) ∙ sym c.count_at.ensures) in
     let all : c.loop-entry.entry ≡ memory (Count mutator) = omega (arith, count, c.loop-entry-test.false, c.loop-entry.auto.entry-end) in
-    c.loop-entry.invariant.noted ∙ ap (λ n. with_addresses (found_of old) (map (λ i. memory (Buffer mutator i)) (range_with_len 0 n))) all
+    c.loop-entry.invariant.noted ∙ ap (λ n. with_addresses (found_of old) (map (λ entry. memory (Buffer mutator entry)) (range_with_len 0 n))) all

@@ -9,5 +9,5 @@ abbrev pub invariant-loop-entry : goal.invariant-loop-entry
 invariant-loop-entry l = record {
   unchanged : IsUnchanged l.fn.image l.image;
   found : AreFound l.image;
-  noted : found_of l.image ≡ with_addresses (found_of l.fn.image) (map (λ i. memory_of l.fn.image (Buffer l.mutator i)) (range_with_len 0 l.entry));
+  noted : found_of l.image ≡ with_addresses (found_of l.fn.image) (map (λ entry. memory_of l.fn.image (Buffer l.mutator entry)) (range_with_len 0 l.entry));
 }

@@ -1,11 +1,13 @@
 use Rattle.std.proofs.Common.{◌≡◌, ℕ, [], slice_get, Some, None, sym, ap, ◌∙◌, arith}
 use Rattle.std.proofs.lemmas.Option.{slice_get_within}
+use Rattle.shen_graph.proofs.Lists.{index_past_end}
+use Rattle.shen_graph.proofs.Options.{none_if_never}
 use Rattle.heap_words.specs.declared.config.Config.{Config}
 use Rattle.heap_words.specs.Words.{Word, heap_size}
 use Rattle.heap_world.specs.Walk.{with_addresses}
-use Rattle.heap_world.proofs.Marks as marks
+use Rattle.heap_world.proofs.TakenDown as marks
 use Rattle.image_graph.proofs.HeldFound.{has_at}
-use Rattle.image_graph.proofs.FoundInTurn.{noted_both, no_turn, next_turn, last_turn, is_none, none_left}
+use Rattle.image_graph.proofs.FoundInTurn.{noted_both, no_turn, next_turn, last_turn}
 use Rattle.image_graph.specs.State.{config_of, memory_of, found_of, marks_of}
 use Rattle.cycle_words.specs.Marking.Close.{IsTraced, greys_below, entries_below, starts_in, open_fields, traced_by}
 use Rattle.cycle_words.proofs.Marking.Traced.{listed_traced}
@@ -55,7 +57,7 @@ trace_one-requires-clause-traced c =
     let turn = c.loop-address.turn in
     let at : slice_get (traced_by (config_of old) (memory_of old) turn) turn ≡ Some address =
     sym (ap (λ xs. slice_get xs turn) c.loop-address.invariant.turns) ∙ sym c.in-Some.ensures in
-    carried (λ k m. IsTraced k m address) old c.loop-address.image c.loop-address.invariant.unchanged
+    carried (λ config memory. IsTraced config memory address) old c.loop-address.image c.loop-address.invariant.unchanged
     (listed_traced (config_of old) (memory_of old) turn address (has_at (traced_by (config_of old) (memory_of old) turn) turn address at))
 
 pub loop-address-smaller : goal.loop-address-smaller
@@ -95,5 +97,5 @@ returns-clause-traced c =
     let memory : Word → ℕ = memory_of old in
     let turn = c.loop-address.turn in
     let turns = c.loop-address.invariant.turns in
-    let none : slice_get (found_of c.loop-address.image) turn ≡ None = sym c.found_at.ensures ∙ is_none c.found_at.result c.in_default.not-Some in
-    turns ∙ last_turn (open_fields config memory) (starts_in config memory) turn (heap_size config) (none_left (traced_by config memory turn) turn (ap (λ xs. slice_get xs turn) (sym turns) ∙ none)) c.loop-address.invariant.few
+    let none : slice_get (found_of c.loop-address.image) turn ≡ None = sym c.found_at.ensures ∙ none_if_never c.found_at.result c.in_default.not-Some in
+    turns ∙ last_turn (open_fields config memory) (starts_in config memory) turn (heap_size config) (index_past_end (traced_by config memory turn) turn (ap (λ xs. slice_get xs turn) (sym turns) ∙ none)) c.loop-address.invariant.few

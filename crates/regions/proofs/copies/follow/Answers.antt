@@ -10,26 +10,26 @@ loop-index-preserved c =
     let heap = c.args.heap.now in
     let places = c.loop-index.places in
     let old = c.args.places.now in
-    let k = c.loop-index.index in
+    let index = c.loop-index.index in
     let j = c.current_index.result in
     let before = c.loop-index.invariant in
     let new = get_or places j 0 in
-    let inside : k < length places = omega (arith, before.table, c.requires.table, c.loop-index-test.true) in
-    let is : j ≡ current_index first heap k = c.current_index.ensures.value in
-    let read : IsOwnCopy first heap (current_index first heap k) → get_or places j 0 ≡ get_or old (current_index first heap k) 0 =
+    let inside : index < length places = omega (arith, before.table, c.requires.table, c.loop-index-test.true) in
+    let is : j ≡ current_index first heap index = c.current_index.ensures.value in
+    let read : IsOwnCopy first heap (current_index first heap index) → get_or places j 0 ≡ get_or old (current_index first heap index) 0 =
     λ current.
     let stays : current_index first heap j ≡ j = ap (current_index first heap) is ∙ current ∙ sym is in
     ⊎_elim
-    (λ (earlier : j < k). before.done j earlier (ap (current_index first heap) stays) ∙ ap (λ i. get_or old i 0) (stays ∙ is))
-    (λ (later : k ≤ j). before.later j later ∙ ap (λ i. get_or old i 0) is)
-    (cases_lt j k) in
+    (λ (earlier : j < index). before.done j earlier (ap (current_index first heap) stays) ∙ ap (λ index. get_or old index 0) (stays ∙ is))
+    (λ (later : index ≤ j). before.later j later ∙ ap (λ index. get_or old index 0) is)
+    (cases_lt j index) in
     record {
-      table = length-set places k new ∙ before.table;
+      table = length-set places index new ∙ before.table;
       done = λ i below current. ⊎_elim
-          (λ (here : k ≡ i).
-          subst (λ n. IsOwnCopy first heap (current_index first heap n) → get_or (set places k new) n 0 ≡ get_or old (current_index first heap n) 0) here
-          (λ now. get_or-set_same places k new 0 inside ∙ read now) current)
-          (λ (other : k ≢ i). get_or-set_other places k i new 0 (λ e. other (sym e)) ∙ before.done i (omega (arith, below, other)) current)
-          (cases_eq k i);
-      later = λ i high. get_or-set_other places k i new 0 (λ e. omega (arith, e, high)) ∙ before.later i (omega (arith, high));
+          (λ (here : index ≡ i).
+          subst (λ other_index. IsOwnCopy first heap (current_index first heap other_index) → get_or (set places index new) other_index 0 ≡ get_or old (current_index first heap other_index) 0) here
+          (λ now. get_or-set_same places index new 0 inside ∙ read now) current)
+          (λ (other : index ≢ i). get_or-set_other places index i new 0 (λ e. other (sym e)) ∙ before.done i (omega (arith, below, other)) current)
+          (cases_eq index i);
+      later = λ i high. get_or-set_other places index i new 0 (λ e. omega (arith, e, high)) ∙ before.later i (omega (arith, high));
     }

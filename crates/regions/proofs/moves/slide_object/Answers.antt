@@ -19,24 +19,24 @@ pub loop-index-preserved : goal.loop-index-preserved
 loop-index-preserved c =
     let from = c.args.from in
     let to = c.args.to in
-    let k = c.loop-index.index in
+    let index = c.loop-index.index in
     let heap = c.loop-index.heap in
     let new = c.placed_word.result in
     let before = c.loop-index.invariant in
     let renew = from_table c.args.first c.args.places.now in
-    let inside : to + k < length heap = omega (arith, c.requires.down, c.requires.inside, c.loop-index-test.true, c.words_of-words.ensures, before.words) in
-    let word : new ≡ slid_word renew (λ j. get_or c.args.heap.now j 0) from k =
-    c.placed_word.ensures ∙ ap (λ r. placed_word renew r k (get_or heap (from + k) 0)) c.refs_of-refs.ensures
-    ∙ ap (placed_word renew (refs_in (get_or c.args.heap.now (from + 1) 0)) k) (before.behind (from + k) (omega (arith, c.requires.down))) in
+    let inside : to + index < length heap = omega (arith, c.requires.down, c.requires.inside, c.loop-index-test.true, c.words_of-words.ensures, before.words) in
+    let word : new ≡ slid_word renew (λ j. get_or c.args.heap.now j 0) from index =
+    c.placed_word.ensures ∙ ap (λ refs. placed_word renew refs index (get_or heap (from + index) 0)) c.refs_of-refs.ensures
+    ∙ ap (placed_word renew (refs_in (get_or c.args.heap.now (from + 1) 0)) index) (before.behind (from + index) (omega (arith, c.requires.down))) in
     record {
-      words = length-set heap (to + k) new ∙ before.words;
+      words = length-set heap (to + index) new ∙ before.words;
       moved = λ i below. ⊎_elim
-          (λ (here : k ≡ i).
-          subst (λ j. get_or (set heap (to + k) new) (to + j) 0 ≡ slid_word renew (λ j. get_or c.args.heap.now j 0) from j) here
-          (get_or-set_same heap (to + k) new 0 inside ∙ word))
-          (λ (other : k ≢ i).
-          get_or-set_other heap (to + k) (to + i) new 0 (λ e. other (omega (arith, e))) ∙ before.moved i (omega (arith, below, other)))
-          (cases_eq k i);
-      below = λ j low. get_or-set_other heap (to + k) j new 0 (λ e. omega (arith, e, low)) ∙ before.below j low;
-      behind = λ j high. get_or-set_other heap (to + k) j new 0 (λ e. omega (arith, e, high)) ∙ before.behind j (omega (arith, high));
+          (λ (here : index ≡ i).
+          subst (λ j. get_or (set heap (to + index) new) (to + j) 0 ≡ slid_word renew (λ j. get_or c.args.heap.now j 0) from j) here
+          (get_or-set_same heap (to + index) new 0 inside ∙ word))
+          (λ (other : index ≢ i).
+          get_or-set_other heap (to + index) (to + i) new 0 (λ e. other (omega (arith, e))) ∙ before.moved i (omega (arith, below, other)))
+          (cases_eq index i);
+      below = λ j low. get_or-set_other heap (to + index) j new 0 (λ e. omega (arith, e, low)) ∙ before.below j low;
+      behind = λ j high. get_or-set_other heap (to + index) j new 0 (λ e. omega (arith, e, high)) ∙ before.behind j (omega (arith, high));
     }

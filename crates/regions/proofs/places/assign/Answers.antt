@@ -88,7 +88,7 @@ overflow_add-end c =
 
 pub loop-index-preserved : goal.loop-index-preserved
 loop-index-preserved c =
-    let k = c.loop-index.index in
+    let index = c.loop-index.index in
     let words = c.args.region_words in
     let shut = is_shut c.args.shut in
     let heap = c.args.heap.now in
@@ -100,43 +100,43 @@ loop-index-preserved c =
     let marked = c.requires.marked in
     let tile = c.requires.regions in
     let few = c.requires.few in
-    let inside : k < length c.loop-index.places = omega (arith, before.table, c.requires.table, marked.flags, c.loop-index-test.true) in
+    let inside : index < length c.loop-index.places = omega (arith, before.table, c.requires.table, marked.flags, c.loop-index-test.true) in
     elim c.if-marked.branch [
       | then-marked+then-is_shut w ↦
-          (let closed : shut ((words + k) / words) ≡ true = sym w.is_shut.ensures ∙ w.if-is_shut.true in
-          let none = shut_counts words shut heap marks regions marked tile few k closed in
+          (let closed : shut ((words + index) / words) ≡ true = sym w.is_shut.ensures ∙ w.if-is_shut.true in
+          let none = shut_counts words shut heap marks regions marked tile few index closed in
           record {
-            table = ap length w.places-is ∙ length-set c.loop-index.places k (words + k) ∙ before.table;
+            table = ap length w.places-is ∙ length-set c.loop-index.places index (words + index) ∙ before.table;
             regions = ap length w.tops-is ∙ before.regions;
-            end = w.end-is ∙ end_uncounted words shut heap marks regions marked tile few k c.loop-index.end none before.end;
-            places = subst (λ xs. (a : ℕ) → a < words + (k + 1) → 0 < kept a → word_of words xs a ≡ new_place words shut kept a) (sym w.places-is)
-                (places_more words shut heap marks regions marked tile few k (words + k) c.loop-index.places (stays_there words shut heap marks regions marked tile few k closed) inside before.places);
-            tops = subst (λ xs. HaveTops words shut heap marks regions marked tile few old xs (words + (k + 1))) (sym w.tops-is)
-                (tops_uncounted words shut heap marks regions marked tile few k old c.loop-index.tops none before.tops);
+            end = w.end-is ∙ end_uncounted words shut heap marks regions marked tile few index c.loop-index.end none before.end;
+            places = subst (λ xs. (a : ℕ) → a < words + (index + 1) → 0 < kept a → word_of words xs a ≡ new_place words shut kept a) (sym w.places-is)
+                (places_more words shut heap marks regions marked tile few index (words + index) c.loop-index.places (stays_there words shut heap marks regions marked tile few index closed) inside before.places);
+            tops = subst (λ xs. HaveTops words shut heap marks regions marked tile few old xs (words + (index + 1))) (sym w.tops-is)
+                (tops_uncounted words shut heap marks regions marked tile few index old c.loop-index.tops none before.tops);
           })
       | then-marked+else-is_shut w ↦
-          (let is = is_placed words shut heap marks regions marked tile few k c.loop-index.end w.words_of-words.result w.place_around-place.result w.if-marked.true
+          (let is = is_placed words shut heap marks regions marked tile few index c.loop-index.end w.words_of-words.result w.place_around-place.result w.if-marked.true
           (sym w.is_shut.ensures ∙ w.if-is_shut.false) before.end w.words_of-words.ensures w.place_around-place.ensures in
           let place = w.place_around-place.result in
           let size = w.words_of-words.result in
           record {
-            table = ap length w.places-is ∙ length-set c.loop-index.places k place ∙ before.table;
+            table = ap length w.places-is ∙ length-set c.loop-index.places index place ∙ before.table;
             regions = ap length w.tops-is ∙ length-set c.loop-index.tops (place / words - 1) (get_or c.loop-index.tops (place / words - 1) 0 + size) ∙ before.regions;
-            end = w.end-is ∙ end_marked words shut heap marks regions marked tile few k size place is;
-            places = subst (λ xs. (a : ℕ) → a < words + (k + 1) → 0 < kept a → word_of words xs a ≡ new_place words shut kept a) (sym w.places-is)
-                (places_more words shut heap marks regions marked tile few k place c.loop-index.places is.place_is inside before.places);
-            tops = subst (λ xs. HaveTops words shut heap marks regions marked tile few old xs (words + (k + 1))) (sym w.tops-is)
-                (tops_marked words shut heap marks regions marked tile few k size place old c.loop-index.tops is before.regions before.tops);
+            end = w.end-is ∙ end_marked words shut heap marks regions marked tile few index size place is;
+            places = subst (λ xs. (a : ℕ) → a < words + (index + 1) → 0 < kept a → word_of words xs a ≡ new_place words shut kept a) (sym w.places-is)
+                (places_more words shut heap marks regions marked tile few index place c.loop-index.places is.place_is inside before.places);
+            tops = subst (λ xs. HaveTops words shut heap marks regions marked tile few old xs (words + (index + 1))) (sym w.tops-is)
+                (tops_marked words shut heap marks regions marked tile few index size place old c.loop-index.tops is before.regions before.tops);
           })
       | else-marked w ↦
-          (let none = unmarked_counts words shut heap marks regions marked tile few k w.if-marked.false in
+          (let none = unmarked_counts words shut heap marks regions marked tile few index w.if-marked.false in
           record {
             table = ap length w.places-is ∙ before.table;
             regions = ap length w.tops-is ∙ before.regions;
-            end = w.end-is ∙ end_uncounted words shut heap marks regions marked tile few k c.loop-index.end none before.end;
-            places = subst (λ xs. (a : ℕ) → a < words + (k + 1) → 0 < kept a → word_of words xs a ≡ new_place words shut kept a) (sym w.places-is)
-                (places_unmarked words shut heap marks regions marked tile few k c.loop-index.places w.if-marked.false before.places);
-            tops = subst (λ xs. HaveTops words shut heap marks regions marked tile few old xs (words + (k + 1))) (sym w.tops-is)
-                (tops_uncounted words shut heap marks regions marked tile few k old c.loop-index.tops none before.tops);
+            end = w.end-is ∙ end_uncounted words shut heap marks regions marked tile few index c.loop-index.end none before.end;
+            places = subst (λ xs. (a : ℕ) → a < words + (index + 1) → 0 < kept a → word_of words xs a ≡ new_place words shut kept a) (sym w.places-is)
+                (places_unmarked words shut heap marks regions marked tile few index c.loop-index.places w.if-marked.false before.places);
+            tops = subst (λ xs. HaveTops words shut heap marks regions marked tile few old xs (words + (index + 1))) (sym w.tops-is)
+                (tops_uncounted words shut heap marks regions marked tile few index old c.loop-index.tops none before.tops);
           })
     ]

@@ -9,7 +9,7 @@ use Rattle.shared_table.proofs.hands.deal_machines.Goals.{then-number-bundles, e
 pub loop-number-init : goal.loop-number-init
 loop-number-init g c =
     taking_begins (is_dealt_to c.args.bundles c.args.bundle) c.args.machines.now.items c.in_ok-dealt.dealt.items
-    (c.in_ok-dealt.ensures ∙ ap (λ (n : ℕ). replicate {A = Option g.row.T.Denot} n None) (let e : c.len.result ≡ length c.args.machines.now.items = omega (arith, c.len.ensures) in e))
+    (c.in_ok-dealt.ensures ∙ ap (λ (n : ℕ). replicate {A = Option g.row.T.Denot} n None) (let same : c.len.result ≡ length c.args.machines.now.items = omega (arith, c.len.ensures) in same))
 
 pub loop-number-preserved : goal.loop-number-preserved
 loop-number-preserved g c =

@@ -1,6 +1,6 @@
 use Rattle.std.proofs.Common.{take}
 use Rattle.shen_check.specs.Judged.{FollowUpTo}
-use Rattle.shen_check.specs.Judging.{HasJudged}
+use Rattle.shen_check.specs.JudgeState.{HasJudged}
 use Rattle.shen_check.proofs.checking.check.Given as goal
 
 abbrev pub invariant-loop-at : goal.invariant-loop-at

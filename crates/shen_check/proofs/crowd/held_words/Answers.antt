@@ -3,7 +3,7 @@ use Rattle.std.specs.List.{list_any}
 use Rattle.shen_graph.specs.declared.name.Name.{Name}
 use Rattle.shen_graph.specs.Graph.{same_name}
 use Rattle.shen_graph.specs.PlainGraph.{graph_of}
-use Rattle.shen_check.specs.Judging.{words_held}
+use Rattle.shen_check.specs.JudgeState.{words_held}
 use Rattle.shen_check.proofs.HeldFound.{name_again, name_added, words_added}
 use Rattle.shen_check.proofs.crowd.held_words.Goals as goal
 use Rattle.shen_check.proofs.crowd.held_words.Goals.{then-not-contains+in_ok-push+in-Some, else-not-contains}

@@ -1,7 +1,7 @@
 use Rattle.std.proofs.Common.{ap, sym, subst, ◌∙◌, length}
 use Rattle.shen_graph.specs.Crowd.{Held, PinnedRegions}
 use Rattle.shen_graph.specs.PlainGraph.{graph_of}
-use Rattle.shen_check.specs.Judging.{words_waiting, pins_held, names_held, words_held, regions_held}
+use Rattle.shen_check.specs.JudgeState.{words_waiting, pins_held, names_held, words_held, regions_held}
 use Rattle.shen_check.proofs.Full.{full_for}
 use Rattle.shen_check.proofs.HeldFound.{words_are_held, regions_are_held}
 use Rattle.shen_check.proofs.crowd.is_full_for.Goals as goal

@@ -3,36 +3,36 @@ use Rattle.std.specs.Prelude.{Option}
 use Rattle.std.specs.List.{flat_map, range_with_len}
 use Rattle.shen_graph.specs.declared.pin.Pinned.{Pinned}
 use Rattle.shen_graph.specs.PlainGraph.{graph_of}
-use Rattle.shen_check.specs.Judging.{slot_held, pins_held}
+use Rattle.shen_check.specs.JudgeState.{slot_held, pins_held}
 use Rattle.shen_check.proofs.LiveSums.{flat_more}
 use Rattle.shen_check.proofs.crowd.pinned.Goals as goal
 use Rattle.shen_check.proofs.crowd.pinned.Goals.{in-Some+in_ok-push, in_default, else-loop-thread-test, then-loop-thread-test+else-loop-slot-test+else-thread-threads}
 
 -- one slot more
-slot_more : (pin : ℕ → Option Pinned) (slot i : ℕ) (before held after : List Pinned) → i ≡ slot → held ≡ before ++ flat_map (λ s. slot_held (pin s)) (range_with_len 0 slot) → after ≡ held ++ slot_held (pin slot)
-    → after ≡ before ++ flat_map (λ s. slot_held (pin s)) (range_with_len 0 (slot + 1))
-slot_more pin slot i before held after number so_far one =
+slot_more : (pin : ℕ → Option Pinned) (slot i : ℕ) (before held after : List Pinned) → i ≡ slot → held ≡ before ++ flat_map (λ thread. slot_held (pin thread)) (range_with_len 0 slot) → after ≡ held ++ slot_held (pin slot)
+    → after ≡ before ++ flat_map (λ thread. slot_held (pin thread)) (range_with_len 0 (slot + 1))
+slot_more pin slot other_slot before held after number so_far one =
     one ∙ ap (λ (ps : List Pinned). ps ++ slot_held (pin slot)) so_far
-    ∙ append_assoc before (flat_map (λ s. slot_held (pin s)) (range_with_len 0 slot)) (slot_held (pin slot))
-    ∙ ap (λ (ps : List Pinned). before ++ ps) (sym (flat_more (λ s. slot_held (pin s)) 0 slot slot (omega arith)))
+    ∙ append_assoc before (flat_map (λ thread. slot_held (pin thread)) (range_with_len 0 slot)) (slot_held (pin slot))
+    ∙ ap (λ (ps : List Pinned). before ++ ps) (sym (flat_more (λ thread. slot_held (pin thread)) 0 slot slot (omega arith)))
 
 -- one thread more
 thread_more : (pin : ℕ → ℕ → Option Pinned) (thread : ℕ) → 1 ≤ thread
-    → flat_map (λ t. flat_map (λ s. slot_held (pin t s)) (range_with_len 0 4)) (range_with_len 1 thread)
-    ≡ flat_map (λ t. flat_map (λ s. slot_held (pin t s)) (range_with_len 0 4)) (range_with_len 1 (thread - 1)) ++ flat_map (λ s. slot_held (pin thread s)) (range_with_len 0 4)
+    → flat_map (λ thread. flat_map (λ slot. slot_held (pin thread slot)) (range_with_len 0 4)) (range_with_len 1 thread)
+    ≡ flat_map (λ thread. flat_map (λ slot. slot_held (pin thread slot)) (range_with_len 0 4)) (range_with_len 1 (thread - 1)) ++ flat_map (λ slot. slot_held (pin thread slot)) (range_with_len 0 4)
 thread_more pin thread first =
-    let own : ℕ → List Pinned = λ t. flat_map (λ s. slot_held (pin t s)) (range_with_len 0 4) in
+    let own : ℕ → List Pinned = λ other_thread. flat_map (λ slot. slot_held (pin other_thread slot)) (range_with_len 0 4) in
     let whole : (thread - 1) + 1 ≡ thread = omega (arith, first) in
     ap (λ (n : ℕ). flat_map own (range_with_len 1 n)) (sym whole) ∙ flat_more own 1 (thread - 1) thread (omega (arith, first))
 
 -- what the slots of a thread hold too
 thread_held : (pin : ℕ → ℕ → Option Pinned) (thread slot : ℕ) (before held : List Pinned) → 1 ≤ thread → slot ≡ 4
-    → before ≡ flat_map (λ t. flat_map (λ s. slot_held (pin t s)) (range_with_len 0 4)) (range_with_len 1 (thread - 1)) → held ≡ before ++ flat_map (λ s. slot_held (pin thread s)) (range_with_len 0 slot)
-    → held ≡ flat_map (λ t. flat_map (λ s. slot_held (pin t s)) (range_with_len 0 4)) (range_with_len 1 (thread + 1 - 1))
+    → before ≡ flat_map (λ thread. flat_map (λ slot. slot_held (pin thread slot)) (range_with_len 0 4)) (range_with_len 1 (thread - 1)) → held ≡ before ++ flat_map (λ slot. slot_held (pin thread slot)) (range_with_len 0 slot)
+    → held ≡ flat_map (λ thread. flat_map (λ slot. slot_held (pin thread slot)) (range_with_len 0 4)) (range_with_len 1 (thread + 1 - 1))
 thread_held pin thread slot before held first all so_far one =
-    let own : ℕ → List Pinned = λ t. flat_map (λ s. slot_held (pin t s)) (range_with_len 0 4) in
+    let own : ℕ → List Pinned = λ other_thread. flat_map (λ slot. slot_held (pin other_thread slot)) (range_with_len 0 4) in
     let same : thread + 1 - 1 ≡ thread = omega arith in
-    one ∙ ap (λ (n : ℕ). before ++ flat_map (λ s. slot_held (pin thread s)) (range_with_len 0 n)) all
+    one ∙ ap (λ (n : ℕ). before ++ flat_map (λ slot. slot_held (pin thread slot)) (range_with_len 0 n)) all
     ∙ ap (λ (ps : List Pinned). ps ++ own thread) so_far ∙ sym (thread_more pin thread first) ∙ ap (λ (n : ℕ). flat_map own (range_with_len 1 n)) (sym same)
 
 pub loop-slot-preserved : goal.loop-slot-preserved

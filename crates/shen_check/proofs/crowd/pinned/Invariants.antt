@@ -1,7 +1,7 @@
 use Rattle.std.proofs.Common.{◌≡◌, ◌+◌, ◌-◌, ◌≤◌, ◌++◌}
 use Rattle.std.specs.List.{flat_map, range_with_len}
 use Rattle.shen_graph.specs.PlainGraph.{graph_of}
-use Rattle.shen_check.specs.Judging.{slot_held, pins_held}
+use Rattle.shen_check.specs.JudgeState.{slot_held, pins_held}
 use Rattle.shen_check.proofs.crowd.pinned.Given as goal
 
 abbrev pub invariant-loop-thread : goal.invariant-loop-thread

@@ -1,5 +1,5 @@
 use Rattle.std.proofs.Common.{◌≡◌, take}
-use Rattle.shen_check.specs.Judging.{regions_held}
+use Rattle.shen_check.specs.JudgeState.{regions_held}
 use Rattle.shen_check.proofs.crowd.pinned_regions.Given as goal
 
 abbrev pub invariant-loop-pinned : goal.invariant-loop-pinned

@@ -1,5 +1,5 @@
 use Rattle.std.proofs.Common.{arith}
-use Rattle.shen_check.specs.Judging.{words_beside}
+use Rattle.shen_check.specs.JudgeState.{words_beside}
 use Rattle.shen_check.proofs.LiveSums.{sum_more}
 use Rattle.shen_check.proofs.crowd.words_waiting.Goals as goal
 

@@ -1,6 +1,6 @@
 use Rattle.std.proofs.Common.{◌≡◌, ◌*◌, ◌^◌, ◌≤◌, sum_by}
 use Rattle.std.specs.List.{range_with_len}
-use Rattle.shen_check.specs.Judging.{words_beside}
+use Rattle.shen_check.specs.JudgeState.{words_beside}
 use Rattle.shen_check.proofs.crowd.words_waiting.Given as goal
 
 abbrev pub invariant-loop-mutator : goal.invariant-loop-mutator

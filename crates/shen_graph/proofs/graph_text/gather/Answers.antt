@@ -29,8 +29,8 @@ loop-i-preserved c =
     let below : i < length c.args.places.now.items = grind (arith, common_steps) in
     let inside : i < length c.loop-i.places.items = grind (arith, common_steps) in
     let same : here ≡ p = get_or_read c.args.places.now.items i here below (c.index-place.ensures ∙ inv.left i here (omega arith)) nowhere in
-    let q : Place = record { name = here.name; refs = c.carry-refs.result; nums = c.carry-nums.result } in
-    let more = take_more_set c.loop-i.places.items i q inside in
+    let other_place : Place = record { name = here.name; refs = c.carry-refs.result; nums = c.carry-nums.result } in
+    let more = take_more_set c.loop-i.places.items i other_place inside in
     let within = c.requires.within i nowhere below in
     let refs_len : vec_len c.carry-refs.new.into ≡ vec_len c.loop-i.moved_references + span_length p.refs = c.carry-refs.ensures.len ∙ ap (λ (place : Place). vec_len c.loop-i.moved_references + span_length place.refs) same in
     let nums_len : vec_len c.carry-nums.new.into ≡ vec_len c.loop-i.moved_numbers + span_length p.nums = c.carry-nums.ensures.len ∙ ap (λ (place : Place). vec_len c.loop-i.moved_numbers + span_length place.nums) same in
@@ -41,11 +41,11 @@ loop-i-preserved c =
     record {
       left = λ k d above. let other : k ≢ i = omega arith in rw get_or-set_other (inv.left k d (omega arith));
       rows = rw (more, c.carry-refs.ensures.items, c.carry-nums.ensures.items, same) (
-          rows-carried c.args.references.now c.args.numbers.now c.loop-i.moved_references.items c.loop-i.moved_numbers.items (take i c.loop-i.places.items) (map (row_at c.args.references.now c.args.numbers.now) (take i c.args.places.now.items)) p (record q { name = p.name })
+          rows-carried c.args.references.now c.args.numbers.now c.loop-i.moved_references.items c.loop-i.moved_numbers.items (take i c.loop-i.places.items) (map (row_at c.args.references.now c.args.numbers.now) (take i c.args.places.now.items)) p (record other_place { name = p.name })
           refl (c.carry-refs.ensures.span ∙ rw (same, c.loop-i.moved_references.ok.0) refl) (c.carry-nums.ensures.span ∙ rw (same, c.loop-i.moved_numbers.ok.0) refl) within
           (rw (c.loop-i.moved_references.ok.0, c.loop-i.moved_numbers.ok.0) at inv.laid) inv.rows
           ∙ sym (map_more (row_at c.args.references.now c.args.numbers.now) c.args.places.now.items i nowhere below));
-      laid = rw (more, ← refs_to, ← nums_to) (IsLaid-push (take i c.loop-i.places.items) (vec_len c.loop-i.moved_references) (vec_len c.loop-i.moved_numbers) q inv.laid refs_from nums_from (omega arith) (omega arith));
+      laid = rw (more, ← refs_to, ← nums_to) (IsLaid-push (take i c.loop-i.places.items) (vec_len c.loop-i.moved_references) (vec_len c.loop-i.moved_numbers) other_place inv.laid refs_from nums_from (omega arith) (omega arith));
       references = refs_len ∙ ap (λ k. k + span_length p.refs) inv.references ∙ sym (sum_by_more (λ (place : Place). span_length place.refs) c.args.places.now.items i nowhere below);
       numbers = nums_len ∙ ap (λ k. k + span_length p.nums) inv.numbers ∙ sym (sum_by_more (λ (place : Place). span_length place.nums) c.args.places.now.items i nowhere below);
       length = inv.length;

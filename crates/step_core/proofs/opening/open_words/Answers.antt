@@ -35,6 +35,6 @@ returns c =
     (stored_alike _ _ _ _ _ _ (c.loop-mutator.invariant.words ∙ ap (λ n. rooted heap n (replicate (table_words heap) 0)) all) c.left_at.ensures c.mutators.ensures)
     c.free_at.ensures (c.first_free.ensures ∙ ap first_free c.regions.ensures))
     c.top_at.ensures refl)
-    (c.heap_at.ensures ∙ ap (λ a. word_at heap (Heap a)) c.region_words-hub.ensures) refl)
+    (c.heap_at.ensures ∙ ap (λ address. word_at heap (Heap address)) c.region_words-hub.ensures) refl)
     (c.heap_at-2.ensures ∙ ap (λ a. word_at heap (Heap (a + 1))) c.region_words-hub.ensures) c.shape_of.ensures)
     (c.heap_at-3.ensures ∙ ap (λ a. word_at heap (Heap (a + 2))) c.region_words-hub.ensures) c.name_word.ensures

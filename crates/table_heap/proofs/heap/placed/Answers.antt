@@ -16,7 +16,7 @@ one_more all now new machine places split so_far =
 -- once none is left all are placed
 none_left : (all now : List Machine) (places : View Machine) → length now ≤ 0 → places ++ whole (reverse now) ≡ whole all → places ≡ whole all
 none_left all [] places none is = sym (append-nil places) ∙ is
-none_left all (m ∷ ms) places none is = absurd (omega (arith, none))
+none_left all (machine ∷ machines) places none is = absurd (omega (arith, none))
 
 pub loop-machine-init : goal.loop-machine-init
 loop-machine-init c =

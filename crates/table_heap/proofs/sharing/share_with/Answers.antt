@@ -39,6 +39,6 @@ returns-clause-steals c = λ b own apart there at.
     let long = length-set bundles c.args.bundle c.thief.new.self in
     let b_is = changed_place mid c.args.other c.steal_by.new.self b (omega (arith, long, c.requires.other)) there in
     let own_is = changed_place bundles c.args.bundle c.thief.new.self own c.requires.bundle (other_place mid c.args.other c.steal_by.new.self own c.args.bundle (λ same. apart (sym same)) at) in
-    subst (λ x. StealsFrom x own) b_is
+    subst (λ bundle. StealsFrom bundle own) b_is
     (subst (λ x. StealsFrom c.steal_by.new.self x) own_is
     (record { place = length c.index_mut-2.result.now.thieves.items; thief = c.in_ok-thief.thief; there = c.in_ok-steal_by.ensures.thief; steals = c.in_ok-thief.ensures.thief.1 }))

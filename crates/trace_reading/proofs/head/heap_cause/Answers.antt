@@ -8,4 +8,4 @@ returns-in-Some c = λ v.
     c.title_cause.ensures ∙ same_heap _ c.most_reserved.result c.most_reserved.ensures ∙ sym (whole_line (Heap v) c.args.bytes.now _ c.in-Some.field-0-1.now c.in-Some.ensures ∙ heap_words v _)
 
 pub returns-in-None : goal.returns-in-None
-returns-in-None c = λ v. let last = c.in-None.ensures in sym (cut_line (Heap v) c.args.bytes.now last.0 last.1)
+returns-in-None c = λ version. let last = c.in-None.ensures in sym (cut_line (Heap version) c.args.bytes.now last.0 last.1)

@@ -1,5 +1,5 @@
 use Rattle.std.proofs.Common.{Err, refl, sym, take, arith}
-use Rattle.trace_reading.proofs.Header.{these_numbers, sizes_take, no_head, no_configuration, head_read}
+use Rattle.trace_reading.proofs.HeadLaws.{these_numbers, sizes_take, no_head, no_configuration, head_read}
 use Rattle.trace_reading.proofs.read.head_at.Goals as goal
 
 pub overflow_cast-result : goal.overflow_cast-result

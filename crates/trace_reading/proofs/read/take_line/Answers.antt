@@ -7,7 +7,7 @@ use Rattle.trace_reading.proofs.GrammarLines.{line_takes, line_again}
 use Rattle.trace_reading.proofs.read.take_line.Goals as goal
 
 pub returns-in_default-clause-refused : goal.returns-in_default-clause-refused
-returns-in_default-clause-refused c = λ _ l rest fits e. let again = line_again c.args.version c.args.threads l rest (omega arith) fits in let here = ap (line_at c.args.version c.args.threads) e in let none = c.in_default.ensures in cc
+returns-in_default-clause-refused c = λ _ trace_line rest fits e. let again = line_again c.args.version c.args.threads trace_line rest (omega arith) fits in let here = ap (line_at c.args.version c.args.threads) e in let none = c.in_default.ensures in cc
 
 pub overflow_sub-thread : goal.overflow_sub-thread
 overflow_sub-thread c =
@@ -22,10 +22,10 @@ index_mut-requires c =
 
 pub returns-in-Ok-clause-ok : goal.returns-in-Ok-clause-ok
 returns-in-Ok-clause-ok c =
-    let l : TraceLine = record { thread = c.in-Some.thread; command = c.in-Some.command } in
-    let taken = line_takes c.args.version c.args.threads c.args.bytes.now (l, c.in-Some.rest.now) (omega arith) (sym c.in-Some.ensures) in
+    let line : TraceLine = record { thread = c.in-Some.thread; command = c.in-Some.command } in
+    let taken = line_takes c.args.version c.args.threads c.args.bytes.now (line, c.in-Some.rest.now) (omega arith) (sym c.in-Some.ensures) in
     let before = get_or_read c.args.scripts.now.items _ _ (omega (arith, taken.1.from_one, taken.1.to_last)) c.index_mut.ensures.value [] in (
-      l,
+      line,
       taken.1,
       taken.0,
       ap (slice_set c.args.scripts.now.items (c.in-Some.thread - 1)) (c.in-Ok.ensures.added ∙ ap (λ (script : List Command). script ++ c.in-Some.command ∷ []) before),

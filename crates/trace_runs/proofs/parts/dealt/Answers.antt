@@ -1,11 +1,12 @@
 use Rattle.std.proofs.Common.{rules, ◌≡◌, suc, ◌+◌, length, ap, sym, ◌∙◌, subst, arith, Some}
 use Rattle.std.specs.Prelude.{slice_get}
+use Rattle.shen_graph.proofs.Lists.{length_with}
 use Rattle.shen_graph.specs.Work.{left_over, parted}
 use Rattle.trace_runs.specs.DealtParts.{PartIsReady, AreReady}
 use Rattle.trace_runs.specs.declared.load.Load.TheVariants.{Scripted}
 use Rattle.trace_runs.specs.DealtParts.Assigned.{scripts as by_scripts}
 use Rattle.trace_runs.proofs.Dealing.{ready_part, left_after, one_less}
-use Rattle.trace_runs.proofs.Loops.{more_ready, longer}
+use Rattle.trace_runs.proofs.Loops.{more_ready}
 use Rattle.trace_runs.proofs.parts.dealt.Goals as goal
 
 pub loop-bundle-preserved : goal.loop-bundle-preserved
@@ -18,7 +19,7 @@ loop-bundle-preserved c =
     let bundle = c.in-Some.bundle in
     let step = c.in-Some.ensures.steps in
     let grown = c.in-Ok-push.ensures.items in
-    let count = ap length grown ∙ longer old _ in
+    let count = ap length grown ∙ length_with old _ in
     let place : c.len.result ≡ length old = search rules in
     let here : slice_get c.args.bundles.items (length old) ≡ Some bundle =
     ap (slice_get c.args.bundles.items) (let e : length old ≡ length old + 0 = omega arith in e) ∙ was.left 0 bundle (ap (λ xs. slice_get xs 0) step.0) in

@@ -1,7 +1,8 @@
 use Rattle.std.proofs.Common.{rules, ◌≡◌, ◌+◌, length, ap, ◌∙◌, subst, arith}
+use Rattle.shen_graph.proofs.Lists.{length_with}
 use Rattle.trace_runs.specs.DealtParts.{PartIsReady}
 use Rattle.trace_runs.proofs.PartLaws.{apart_before}
-use Rattle.trace_runs.proofs.Loops.{others_ready, last_ready, to_length, longer}
+use Rattle.trace_runs.proofs.Loops.{others_ready, last_ready, to_length}
 use Rattle.trace_runs.proofs.parts.together.Goals as goal
 
 pub loop-part-init : goal.loop-part-init
@@ -12,7 +13,7 @@ loop-part-init c =
     let own = c.in-Some.own in
     let is = c.in-Some.ensures.items in
     record {
-      fewer = omega (arith, ap length is ∙ longer new own);
+      fewer = omega (arith, ap length is ∙ length_with new own);
       left = λ assigned workers ready. others_ready heap assigned workers old new own is ready;
       ready = λ assigned workers ready. to_length heap assigned workers old new own is (last_ready heap assigned workers old new own is ready);
     }
@@ -30,7 +31,7 @@ join-own-requires-clause-apart c =
     let new = c.pop-in-loop-part.new.self.items in
     let part = c.in-Some-pop.part in
     let is = c.in-Some-pop.ensures.items in
-    let count = ap length is ∙ longer new part in
+    let count = ap length is ∙ length_with new part in
     let fewer = c.loop-part.invariant.fewer in
     apart_before heap r.0 r.1 (length new) (length old) (length c.args.parts.items) part c.loop-part.own (omega (arith, count)) (omega (arith, fewer))
     (to_length heap r.0 r.1 old new part is (last_ready heap r.0 r.1 old new part is (c.loop-part.invariant.left r.0 r.1 r.2))) (c.loop-part.invariant.ready r.0 r.1 r.2)
@@ -43,7 +44,7 @@ loop-part-preserved c =
     let part = c.in-Some-pop.part in
     let is = c.in-Some-pop.ensures.items in
     let was = c.loop-part.invariant in
-    let count : length old ≡ length new + 1 = ap length is ∙ longer new part in
+    let count : length old ≡ length new + 1 = ap length is ∙ length_with new part in
     record {
       fewer = omega (arith, count, was.fewer);
       left = λ assigned workers ready. others_ready heap assigned workers old new part is (was.left assigned workers ready);

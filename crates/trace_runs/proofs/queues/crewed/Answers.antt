@@ -1,10 +1,11 @@
 use Rattle.std.proofs.Common.{rules, ◌≡◌, suc, ◌+◌, length, ap, ◌∙◌, arith, refl, Some}
 use Rattle.std.specs.Prelude.{slice_get}
+use Rattle.shen_graph.proofs.Lists.{length_with}
 use Rattle.trace_runs.specs.DealtParts.{crew_of}
 use Rattle.trace_runs.specs.DealtParts.Assigned.{users}
 use Rattle.trace_runs.specs.Queued.{queue_users}
 use Rattle.trace_runs.proofs.Queued.{crewed_part}
-use Rattle.trace_runs.proofs.Loops.{more_ready, longer}
+use Rattle.trace_runs.proofs.Loops.{more_ready}
 use Rattle.trace_runs.proofs.queues.crewed.Goals as goal
 
 pub loop-bundle-preserved : goal.loop-bundle-preserved
@@ -15,7 +16,7 @@ loop-bundle-preserved c =
     let bundle = c.in-Some.bundle in
     let step = c.in-Some.ensures.steps in
     let grown = c.in-Ok-push.ensures.items in
-    let count = ap length grown ∙ longer old _ in
+    let count = ap length grown ∙ length_with old _ in
     let place : c.len.result ≡ length old = search rules in
     let here : slice_get all (length old) ≡ Some bundle =
     ap (slice_get all) (let e : length old ≡ length old + 0 = omega arith in e) ∙ was.left 0 bundle (ap (λ xs. slice_get xs 0) step.0) in

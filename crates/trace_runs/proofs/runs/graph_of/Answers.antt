@@ -8,7 +8,7 @@ use Rattle.trace_runs.proofs.runs.graph_of.Goals as goal
 
 pub returns-clause-shows : goal.returns-clause-shows
 returns-clause-shows c =
-    subst (λ k. (run : Run k) → ending pause_image k run ≡ stage_of c.args.heap.now → ShowsGraph c.graph.new.text k.mutators (graph_after pause_image k run)) c.requires.config c.graph.ensures.shows
+    subst (λ config. (run : Run config) → ending pause_image config run ≡ stage_of c.args.heap.now → ShowsGraph c.graph.new.text config.mutators (graph_after pause_image config run)) c.requires.config c.graph.ensures.shows
 
 pub graph-requires-clause-room : goal.graph-requires-clause-room
 graph-requires-clause-room c = has_room c.args.config (config_of c.args.heap.now) c.in-Ok.text _ _ c.requires.config c.heap_size.ensures.value c.in-Ok.ensures

@@ -22,10 +22,10 @@ returns-else-not-ran g c = λ assigned workers k is.
 
 pub run-requires-after_bounds : goal.run-requires-after_bounds
 run-requires-after_bounds g c κs within =
-    let h = c.args.heap.now in
+    let heap = c.args.heap.now in
     let r = c.requires in
-    let ready : PartIsReady h r.0 r.1 r.2 (r.2 + 1) c.in-Running.handle.promise.0.value = subst (IsThread h r.0 r.1 r.2) c.in-Running.is r.3 in
-    subst (PartCanRun h) (sym (as_given c.in-Running.handle.promise.0.value c.join-part.result c.join-part.ensures c.if-not-ran.true)) (record { of = ready.has.of; start = ready.start })
+    let ready : PartIsReady heap r.0 r.1 r.2 (r.2 + 1) c.in-Running.handle.promise.0.value = subst (IsThread heap r.0 r.1 r.2) c.in-Running.is r.3 in
+    subst (PartCanRun heap) (sym (as_given c.in-Running.handle.promise.0.value c.join-part.result c.join-part.ensures c.if-not-ran.true)) (record { of = ready.has.of; start = ready.start })
 
 pub returns-in-Over : goal.returns-in-Over
 returns-in-Over g c = λ assigned workers k is.

@@ -1,8 +1,9 @@
 use Rattle.std.proofs.Common.{rules, ◌≡◌, ℕ, ◌+◌, ◌-◌, length, ap, ◌∙◌, subst, arith}
+use Rattle.shen_graph.proofs.Lists.{length_with}
 use Rattle.trace_runs.specs.DealtParts.{Assigned, IsDone}
 use Rattle.trace_runs.specs.Started.{IsThread}
 use Rattle.trace_runs.proofs.PartLaws.{apart_after}
-use Rattle.trace_runs.proofs.Loops.{others_run, last_runs, longer}
+use Rattle.trace_runs.proofs.Loops.{others_run, last_runs}
 use Rattle.trace_runs.proofs.threads.join_all.Goals as goal
 
 pub loop-thread-init : goal.loop-thread-init
@@ -10,7 +11,7 @@ loop-thread-init g c = record {
   fewer = omega arith;
   left = λ assigned workers run. run;
   done = λ assigned first done run.
-      subst (λ n. IsDone c.args.heap.now assigned (first + length c.args.threads.items) 0 n c.args.own) (let e : first ≡ first + length c.args.threads.items - length c.args.threads.items = omega arith in e) done;
+      subst (λ beyond. IsDone c.args.heap.now assigned (first + length c.args.threads.items) 0 beyond c.args.own) (let same : first ≡ first + length c.args.threads.items - length c.args.threads.items = omega arith in same) done;
 }
 
 pub ended-part-requires-after_bounds : goal.ended-part-requires-after_bounds
@@ -53,7 +54,7 @@ loop-thread-preserved g c =
     let thread = c.in-Some.thread in
     let is = c.in-Some.ensures.items in
     let was = c.loop-thread.invariant in
-    let count : length old ≡ length new + 1 = ap length is ∙ longer new thread in
+    let count : length old ≡ length new + 1 = ap length is ∙ length_with new thread in
     record {
       fewer = omega (arith, count, was.fewer);
       left = λ assigned workers run. others_run heap assigned workers old new thread is (was.left assigned workers run);
@@ -61,7 +62,7 @@ loop-thread-preserved g c =
           let w = first + length c.args.threads.items in
           let fewer = was.fewer in
           let next : w - length old + 1 ≡ w - length new = omega (arith, count, fewer) in
-          subst (λ n. IsDone heap assigned w 0 n c.join-own.result) next
+          subst (λ beyond. IsDone heap assigned w 0 beyond c.join-own.result) next
           (c.join-own.ensures.done assigned w 0 (w - length old) (w - length old + 1) (was.done assigned first done run)
           (c.ended-part.ensures assigned w (w - length old) (last_runs heap assigned w old new thread is (was.left assigned w run))) (omega arith) (omega arith));
     }
@@ -70,4 +71,4 @@ pub returns : goal.returns
 returns g c = λ assigned first done run.
     let none : length c.loop-thread.threads.items ≡ 0 = search rules in
     let w = first + length c.args.threads.items in
-    subst (λ n. IsDone c.args.heap.now assigned w 0 n c.loop-thread.own) (let e : w - length c.loop-thread.threads.items ≡ w = omega (arith, none) in e) (c.loop-thread.invariant.done assigned first done run)
+    subst (λ beyond. IsDone c.args.heap.now assigned w 0 beyond c.loop-thread.own) (let same : w - length c.loop-thread.threads.items ≡ w = omega (arith, none) in same) (c.loop-thread.invariant.done assigned first done run)

@@ -27,7 +27,7 @@ join_all-requires-after_bounds g c κs within =
     let threads = c.start_all.new.threads.items in
     let done = ended_done heap r.0 w 0 n c.together-own.result c.run.new.self (omega arith) (c.together-own.ensures r.0 w split.here) c.run.ensures in
     let some : (assigned : Assigned) × (first : ℕ) × IsDone heap assigned (first + length threads) 0 first c.run.new.self × AreThreads heap assigned (first + length threads) threads =
-    (r.0, n, subst (λ k. IsDone heap r.0 k 0 n c.run.new.self) (sym split.count) done, subst (λ k. AreThreads heap r.0 k threads) (sym split.count) split.there) in
+    (r.0, n, subst (λ workers. IsDone heap r.0 workers 0 n c.run.new.self) (sym split.count) done, subst (λ k. AreThreads heap r.0 k threads) (sym split.count) split.there) in
     some
 
 pub returns : goal.returns
@@ -39,4 +39,4 @@ returns g c = λ assigned all.
     let threads = c.start_all.new.threads.items in
     let done = ended_done heap assigned w 0 n c.together-own.result c.run.new.self (omega arith) (c.together-own.ensures assigned w split.here) c.run.ensures in
     subst (λ k. IsDone heap assigned k 0 k c.join_all.result) split.count
-    (c.join_all.ensures assigned n (subst (λ k. IsDone heap assigned k 0 n c.run.new.self) (sym split.count) done) (subst (λ k. AreThreads heap assigned k threads) (sym split.count) split.there))
+    (c.join_all.ensures assigned n (subst (λ workers. IsDone heap assigned workers 0 n c.run.new.self) (sym split.count) done) (subst (λ k. AreThreads heap assigned k threads) (sym split.count) split.there))

@@ -1,6 +1,7 @@
 use Rattle.std.proofs.Common.{rules, ◌≡◌, ◌+◌, ◌<◌, length, ap, ◌∙◌, arith}
+use Rattle.shen_graph.proofs.Lists.{length_with}
 use Rattle.trace_runs.specs.DealtParts.{PartCanRun}
-use Rattle.trace_runs.proofs.Loops.{last_ready, next_split, same_split, longer}
+use Rattle.trace_runs.proofs.Loops.{last_ready, next_split, same_split}
 use Rattle.trace_runs.proofs.threads.start_all.Goals as goal
 
 pub start-requires-after_bounds : goal.start-requires-after_bounds
@@ -24,8 +25,8 @@ loop-parts-preserved g c =
     let more = c.push.new.self.items in
     let grown = c.in-Ok-push.ensures.items in
     let two : 1 < length old = search rules in
-    let one : length old ≡ length new + 1 = ap length is ∙ longer new part in
-    let count : length more ≡ length threads + 1 = ap length grown ∙ longer threads c.in-Ok.thread in
+    let one : length old ≡ length new + 1 = ap length is ∙ length_with new part in
+    let count : length more ≡ length threads + 1 = ap length grown ∙ length_with threads c.in-Ok.thread in
     record {
       some = omega (arith, two, one);
       count = omega (arith, was.count, one, count);

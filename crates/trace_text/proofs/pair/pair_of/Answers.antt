@@ -17,7 +17,7 @@ returns-in-Err-claims_in-clause-bad_line c = λ n why e.
         items = taken.0.schedule;
         behind = taken.1.now;
         trace = c.in-Ok.ensures.ok;
-        fault = subst (λ (t : ℕ). LacksHistory c.args.bytes.now taken.1.now n why ⊎ LacksEntry taken.0.version t c.args.bytes.now taken.1.now n why) c.mutators-threads.ensures fault;
+        fault = subst (λ (threads : ℕ). LacksHistory c.args.bytes.now taken.1.now n why ⊎ LacksEntry taken.0.version threads c.args.bytes.now taken.1.now n why) c.mutators-threads.ensures fault;
       }),
       c.requires,
     )

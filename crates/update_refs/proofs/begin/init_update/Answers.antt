@@ -17,4 +17,4 @@ pub returns-clause-holds : goal.returns-clause-holds
 returns-clause-holds c =
     let config = config_of c.args.image.now in
     let memory : Word → ℕ = memory_of c.args.image.now in
-    subst (λ (n : Word → ℕ). LimitsHold config memory n) (sym (returns-clause-words c)) (limits_hold config memory (no_more_seats config (words_of c.args.image.now)))
+    subst (λ (other_memory : Word → ℕ). LimitsHold config memory other_memory) (sym (returns-clause-words c)) (limits_hold config memory (no_more_seats config (words_of c.args.image.now)))

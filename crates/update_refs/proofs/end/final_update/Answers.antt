@@ -13,4 +13,4 @@ pub returns-clause-holds : goal.returns-clause-holds
 returns-clause-holds c =
     let config = config_of c.args.image.now in
     let memory : Word → ℕ = memory_of c.args.image.now in
-    subst (λ (n : Word → ℕ). EndingHolds config memory n) (sym (returns-clause-words c)) (ending_holds config memory)
+    subst (λ (other_memory : Word → ℕ). EndingHolds config memory other_memory) (sym (returns-clause-words c)) (ending_holds config memory)

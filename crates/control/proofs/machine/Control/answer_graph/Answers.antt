@@ -12,7 +12,7 @@ use Rattle.control.proofs.Going.{loaded_same}
 use Rattle.control.proofs.machine.Control.answer_graph.Goals as goal
 
 -- from the image on, its words are those of the table
-loaded : (d : Config) (i : Image) (table : List ℕ) → config_of i ≡ d → image_in i ≡ image_from d table → drop (image_start d) (words_of i) ≡ drop (image_start d) table
+loaded : (config : Config) (image : Image) (table : List ℕ) → config_of image ≡ config → image_in image ≡ image_from config table → drop (image_start config) (words_of image) ≡ drop (image_start config) table
 loaded d i table config image = ap (λ e. drop (image_start e) (words_of i)) (sym config) ∙ image
 
 pub answer_graph-requires-clause-stand : goal.answer_graph-requires-clause-stand

@@ -23,4 +23,4 @@ returns-in-StoreWord-clause-row c =
     let read = c.word.ensures.value ∙ ap (λ n. slice_index (words_of control.image) (n + index)) start ∙ sym (get_or-drop (image_start config) (words_of control.image) index 0)
     ∙ sym (seen_reads config extent control.starts (image_in control.image) index own)
     ∙ ap (λ s. slice_index (words_seen config s control.starts (image_in control.image)) index) (sym spot) in
-    ap (λ n. Store (n + index) c.word.result) start ∙ stored_row config index extent (hint_of control) (seen_control control) c.word.result hinted read
+    c.store.ensures ∙ ap (λ n. Store (n + index) c.word.result) start ∙ stored_row config index extent (hint_of control) (seen_control control) c.word.result hinted read

@@ -5,9 +5,9 @@ use Rattle.find_play.proofs.cast.Cast.open.Goals as goal
 
 pub loop-number-init : goal.loop-number-init
 loop-number-init c =
-    let t = c.args.test.now in
-    let e : scene c.in_ok-cast.cast ≡ opening t.bounds.returns (length t.notes) = c.in_ok-cast.ensures ∙ ap (opening t.bounds.returns) c.len.ensures in
-    subst (Begun t.programs.items (opening t.bounds.returns (length t.notes)) 0) (sym e) Nobody
+    let test = c.args.test.now in
+    let same : scene c.in_ok-cast.cast ≡ opening test.bounds.returns (length test.notes) = c.in_ok-cast.ensures ∙ ap (opening test.bounds.returns) c.len.ensures in
+    subst (Begun test.programs.items (opening test.bounds.returns (length test.notes)) 0) (sym same) Nobody
 
 pub loop-number-preserved : goal.loop-number-preserved
 loop-number-preserved c =

@@ -11,7 +11,7 @@ found : {A : Type 0} (P : Type 0) (Q : A → Type 0) (o : Option A) → (P → �
 found P Q None never it = absurd (never it)
 found P Q (Some x) never it = refl
 
-of_found : {A : Type 0} (P : Type 0) (Q : A → Type 0) (o : Option A) (x : A) → o ≡ Some x → MatchOption o P Q → Q x
+of_found : {A : Type 0} (P : Type 0) (Q : A → Type 0) (found : Option A) (x : A) → found ≡ Some x → MatchOption found P Q → Q x
 of_found {A} P Q o x is it = subst (λ (found : Option A). MatchOption found P Q) is it
 
 -- what was copied is the rows with a mark, and the roots

@@ -69,7 +69,7 @@ returns-in-Mutator-clause-again c =
 pub took-requires-in-Helper-clause-fit : goal.took-requires-in-Helper-clause-fit
 took-requires-in-Helper-clause-fit c =
     let helper = c.in-Helper.helper in
-    subst (λ (x : Helping). IsFit (helpers.config_of helper) x c.args.got) (helped (helpers.config_of helper) (helpers.hint_of helper) (helpers.seen_helper helper))
+    subst (λ (other_helper : Helping). IsFit (helpers.config_of helper) other_helper c.args.got) (helped (helpers.config_of helper) (helpers.hint_of helper) (helpers.seen_helper helper))
     (subst (λ (machine : Machine). IsFitFor (config_of machine) (order_of machine) c.args.got (shown machine)) c.in-Helper.is c.requires.fit)
 
 pub returns-in-Helper-clause-shown : goal.returns-in-Helper-clause-shown
@@ -132,7 +132,7 @@ returns-in-Control-clause-done c =
 pub returns-in-Control-clause-again : goal.returns-in-Control-clause-again
 returns-in-Control-clause-again c =
     subst (λ (machine : Machine). (c.took-in-Control.result ≡ took.Again) ↔ WaitsIn (config_of machine) (order_of machine) (shown machine) c.args.got) (sym c.in-Control.is)
-    (subst (λ (x : Controlling). (c.took-in-Control.result ≡ took.Again) ↔ control.WaitsAt (config_in c.in-Control.control) x c.args.got)
+    (subst (λ (other_control : Controlling). (c.took-in-Control.result ≡ took.Again) ↔ control.WaitsAt (config_in c.in-Control.control) other_control c.args.got)
     (sym (controlled (config_in c.in-Control.control) (hint_of c.in-Control.control) (seen_control c.in-Control.control))) c.took-in-Control.ensures.again)
 
 pub took-requires-in-Helper-clause-busy : goal.took-requires-in-Helper-clause-busy

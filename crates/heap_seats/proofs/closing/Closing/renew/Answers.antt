@@ -5,7 +5,7 @@ use Rattle.step_core.specs.Actor.{Actor}
 use Rattle.table_heap.specs.Closed as ends
 use Rattle.heap_seats.specs.GivenUp.{heap_closing, sizes_closing, start_closing}
 use Rattle.heap_seats.specs.Renewed.{BeginSeats, IsGraphLeft}
-use Rattle.heap_seats.specs.Renewing.{IsLeftRenewable}
+use Rattle.heap_seats.specs.RenewalStage.{IsLeftRenewable}
 use Rattle.heap_seats.proofs.Followed.{if_some}
 use Rattle.heap_seats.proofs.Joined.{has_all}
 use Rattle.heap_seats.proofs.LeftGraphs.{left_renewable}

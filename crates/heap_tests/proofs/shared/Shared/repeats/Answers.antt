@@ -18,14 +18,14 @@ returns c =
     let bundle = c.turn-said.new.bundle in
     elim c.if-number-mutators-2.branch [
       | then-number-mutators-2 w ↦
-          subst (λ (t : Shared). IsPlaying t.heap t.bundle t.work t.config t.between) (sym w.self-is)
+          subst (λ (shared : Shared). IsPlaying shared.heap shared.bundle shared.work shared.config shared.between) (sym w.self-is)
           (plays_on s.heap s.bundle bundle s.work c.turn-said.new.work s.config s.between (slice_set s.between number w.eq.result) c.requires c.turn-said.ensures.same c.turn-said.ensures.work
           (may_set s.config.mutators number s.between s.bundle bundle (get_or s.between number false) w.eq.result
           (slice_get-get_or s.between number false (omega (arith, c.requires.long, c.args.self.now.config.in_range.most_mutators))) c.requires.rests c.turn-said.ensures.others
           (λ set. c.turn-said.ensures.done (same_true the_type tt c.turn-said.result Done (sym w.eq.ensures ∙ set))))
           (length-set s.between number w.eq.result ∙ c.requires.long))
       | else-number-mutators-2 w ↦
-          subst (λ (t : Shared). IsPlaying t.heap t.bundle t.work t.config t.between) (sym w.self-is)
+          subst (λ (shared : Shared). IsPlaying shared.heap shared.bundle shared.work shared.config shared.between) (sym w.self-is)
           (plays_on s.heap s.bundle bundle s.work c.turn-said.new.work s.config s.between s.between c.requires c.turn-said.ensures.same c.turn-said.ensures.work
           (may_kept s.config.mutators number s.between s.bundle bundle (omega arith) c.requires.rests c.turn-said.ensures.others) c.requires.long)
     ]

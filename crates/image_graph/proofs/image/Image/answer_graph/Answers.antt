@@ -1,6 +1,6 @@
 use Rattle.std.proofs.Common.{length, ap, ◌∙◌, arith}
 use Rattle.heap_words.proofs.Bounds.{end_small}
-use Rattle.image_graph.proofs.Read.{heap_length, roots_length, pins_length}
+use Rattle.image_graph.proofs.HeapParts.{heap_length, roots_length, pins_length}
 use Rattle.std.proofs.Common.{subst}
 use Rattle.heap_world.specs.Shows as texts
 use Rattle.image_graph.proofs.image.Image.answer_graph.Goals as goal

@@ -33,4 +33,4 @@ loop-index-preserved c =
 pub returns-clause-words : goal.returns-clause-words
 returns-clause-words c =
     let all : c.loop-index.index ≡ c.args.words = omega (arith, c.loop-index-test.false, c.loop-index.auto.index-end) in
-    c.loop-index.invariant.words ∙ ap (λ n. heap_cleared c.args.address n (memory_of c.args.self.now)) all
+    c.loop-index.invariant.words ∙ ap (λ words. heap_cleared c.args.address words (memory_of c.args.self.now)) all

@@ -1,7 +1,7 @@
 use Rattle.std.proofs.Common.{ℕ, Bool, List, sym, subst}
 use Rattle.std.proofs.Math.Logic.{∥∥₁_elim}
 use Rattle.heap_world.specs.Walk.{IsMarked}
-use Rattle.heap_world.proofs.Marks.{IsMarked-prop}
+use Rattle.heap_world.proofs.TakenDown.{IsMarked-prop}
 use Rattle.image_graph.proofs.image.Image.forget_found.Goals as goal
 
 pub forget-requires : goal.forget-requires

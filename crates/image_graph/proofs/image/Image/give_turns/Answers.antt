@@ -38,14 +38,14 @@ loop-mutator-preserved c =
     ∙ ap (λ (config : Config). served_in config before mutator (room_for config before mutator)) same
     ∙ ap (λ k. served_in config k mutator (room_for config k mutator)) so_far) in
     -- what a turn without room says, over the words by the definition
-    let no_room : (before (Wait mutator) ≢ 0) × NoneHasRoom (config_of c.loop-mutator.self).region_words (λ r. before (Top r)) (object_words (request_shape_in (before (Wait mutator)))) (config_of c.loop-mutator.self).regions
-    → (served config memory mutator (Wait mutator) ≢ 0) × NoneHasRoom config.region_words (λ r. served config memory mutator (Top r)) (object_words (request_shape_in (served config memory mutator (Wait mutator)))) config.regions =
-    λ h. subst (λ (memory : Word → ℕ). (memory (Wait mutator) ≢ 0) × NoneHasRoom config.region_words (λ r. memory (Top r)) (object_words (request_shape_in (memory (Wait mutator)))) config.regions) so_far
-    (subst (λ (config : Config). (before (Wait mutator) ≢ 0) × NoneHasRoom config.region_words (λ r. before (Top r)) (object_words (request_shape_in (before (Wait mutator)))) config.regions) same h) in
-    let and_back : (served config memory mutator (Wait mutator) ≢ 0) × NoneHasRoom config.region_words (λ r. served config memory mutator (Top r)) (object_words (request_shape_in (served config memory mutator (Wait mutator)))) config.regions
-    → (before (Wait mutator) ≢ 0) × NoneHasRoom (config_of c.loop-mutator.self).region_words (λ r. before (Top r)) (object_words (request_shape_in (before (Wait mutator)))) (config_of c.loop-mutator.self).regions =
-    λ h. subst (λ (config : Config). (before (Wait mutator) ≢ 0) × NoneHasRoom config.region_words (λ r. before (Top r)) (object_words (request_shape_in (before (Wait mutator)))) config.regions) (sym same)
-    (subst (λ (memory : Word → ℕ). (memory (Wait mutator) ≢ 0) × NoneHasRoom config.region_words (λ r. memory (Top r)) (object_words (request_shape_in (memory (Wait mutator)))) config.regions) (sym so_far) h) in
+    let no_room : (before (Wait mutator) ≢ 0) × NoneHasRoom (config_of c.loop-mutator.self).region_words (λ region. before (Top region)) (object_words (request_shape_in (before (Wait mutator)))) (config_of c.loop-mutator.self).regions
+    → (served config memory mutator (Wait mutator) ≢ 0) × NoneHasRoom config.region_words (λ region. served config memory mutator (Top region)) (object_words (request_shape_in (served config memory mutator (Wait mutator)))) config.regions =
+    λ h. subst (λ (memory : Word → ℕ). (memory (Wait mutator) ≢ 0) × NoneHasRoom config.region_words (λ region. memory (Top region)) (object_words (request_shape_in (memory (Wait mutator)))) config.regions) so_far
+    (subst (λ (config : Config). (before (Wait mutator) ≢ 0) × NoneHasRoom config.region_words (λ region. before (Top region)) (object_words (request_shape_in (before (Wait mutator)))) config.regions) same h) in
+    let and_back : (served config memory mutator (Wait mutator) ≢ 0) × NoneHasRoom config.region_words (λ region. served config memory mutator (Top region)) (object_words (request_shape_in (served config memory mutator (Wait mutator)))) config.regions
+    → (before (Wait mutator) ≢ 0) × NoneHasRoom (config_of c.loop-mutator.self).region_words (λ region. before (Top region)) (object_words (request_shape_in (before (Wait mutator)))) (config_of c.loop-mutator.self).regions =
+    λ h. subst (λ (config : Config). (before (Wait mutator) ≢ 0) × NoneHasRoom config.region_words (λ region. before (Top region)) (object_words (request_shape_in (before (Wait mutator)))) config.regions) (sym same)
+    (subst (λ (memory : Word → ℕ). (memory (Wait mutator) ≢ 0) × NoneHasRoom config.region_words (λ region. memory (Top region)) (object_words (request_shape_in (memory (Wait mutator)))) config.regions) (sym so_far) h) in
     record {
       config = c.serve_one.ensures.config ∙ same;
       words = after;

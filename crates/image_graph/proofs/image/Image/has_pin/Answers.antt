@@ -1,10 +1,9 @@
 use Rattle.std.proofs.Common.{◌≡◌, ℕ, sym, ap, ◌∙◌, ⊎_elim, arith}
 use Rattle.std.proofs.lemmas.Bool.{cases_eq}
+use Rattle.shen_graph.proofs.Lists.{any_from_zero, none_from_zero}
 use Rattle.heap_words.specs.Words.{Word, Pin}
 use Rattle.image_graph.specs.Pinned.{lies_in}
 use Rattle.image_graph.specs.State.{config_of, memory_of}
-use Rattle.image_graph.proofs.PinnedRows.{range_has_any}
-use Rattle.image_graph.proofs.RegionSets.{none_passes}
 use Rattle.image_graph.proofs.image.Image.has_pin.Goals as goal
 
 pub loop-slot-preserved : goal.loop-slot-preserved
@@ -14,7 +13,7 @@ loop-slot-preserved c =
     let mutator = c.args.mutator in
     let word : c.word-word.result ≡ memory (Pin mutator c.loop-slot.slot) = c.word-word.ensures.named (Pin mutator c.loop-slot.slot) (c.requires.mutator, c.loop-slot-test.true) (sym c.pin_at.ensures) in
     λ i below. ⊎_elim
-    (λ (last : i ≡ c.loop-slot.slot). ap (λ k. lies_in config c.args.region (memory (Pin mutator k))) last ∙ ap (lies_in config c.args.region) (sym word) ∙ sym c.lies_in.ensures ∙ c.if-lies_in.false)
+    (λ (last : i ≡ c.loop-slot.slot). ap (λ slot. lies_in config c.args.region (memory (Pin mutator slot))) last ∙ ap (lies_in config c.args.region) (sym word) ∙ sym c.lies_in.ensures ∙ c.if-lies_in.false)
     (λ other. c.loop-slot.invariant i (omega (arith, below, other)))
     (cases_eq i c.loop-slot.slot)
 
@@ -24,7 +23,7 @@ returns-then-lies_in c =
     let memory : Word → ℕ = memory_of c.args.self.now in
     let mutator = c.args.mutator in
     let word : c.word-word.result ≡ memory (Pin mutator c.loop-slot.slot) = c.word-word.ensures.named (Pin mutator c.loop-slot.slot) (c.requires.mutator, c.loop-slot-test.true) (sym c.pin_at.ensures) in
-    sym (range_has_any (λ i. lies_in config c.args.region (memory (Pin mutator i))) 4 c.loop-slot.slot c.loop-slot-test.true (ap (lies_in config c.args.region) (sym word) ∙ sym c.lies_in.ensures ∙ c.if-lies_in.true))
+    sym (any_from_zero (λ slot. lies_in config c.args.region (memory (Pin mutator slot))) 4 c.loop-slot.slot c.loop-slot-test.true (ap (lies_in config c.args.region) (sym word) ∙ sym c.lies_in.ensures ∙ c.if-lies_in.true))
 
 pub returns : goal.returns
-returns c = sym (none_passes (λ i. lies_in (config_of c.args.self.now) c.args.region (memory_of c.args.self.now (Pin c.args.mutator i))) 4 (λ i few. c.loop-slot.invariant i (omega (arith, few, c.loop-slot-test.false))))
+returns c = sym (none_from_zero (λ slot. lies_in (config_of c.args.self.now) c.args.region (memory_of c.args.self.now (Pin c.args.mutator slot))) 4 (λ i few. c.loop-slot.invariant i (omega (arith, few, c.loop-slot-test.false))))

@@ -1,9 +1,8 @@
 use Rattle.std.proofs.Common.{◌≡◌, sym, ap, ◌∙◌, ⊎_elim, arith}
 use Rattle.std.proofs.lemmas.Bool.{cases_eq}
+use Rattle.shen_graph.proofs.Lists.{any_from_zero, none_from_zero}
 use Rattle.image_graph.specs.Pinned.{has_pin}
 use Rattle.image_graph.specs.State.{config_of, memory_of}
-use Rattle.image_graph.proofs.PinnedRows.{range_has_any}
-use Rattle.image_graph.proofs.RegionSets.{none_passes}
 use Rattle.image_graph.proofs.image.Image.is_pinned.Goals as goal
 
 pub loop-mutator-preserved : goal.loop-mutator-preserved
@@ -15,9 +14,9 @@ loop-mutator-preserved c = λ t below. ⊎_elim
 pub returns-then-has_pin : goal.returns-then-has_pin
 returns-then-has_pin c =
     let config = config_of c.args.self.now in
-    sym (range_has_any (has_pin config (memory_of c.args.self.now) c.args.region) config.mutators c.loop-mutator.mutator (omega (arith, c.loop-mutator-test.true, c.mutators-mutator-end.ensures)) (sym c.has_pin.ensures ∙ c.if-has_pin.true))
+    sym (any_from_zero (has_pin config (memory_of c.args.self.now) c.args.region) config.mutators c.loop-mutator.mutator (omega (arith, c.loop-mutator-test.true, c.mutators-mutator-end.ensures)) (sym c.has_pin.ensures ∙ c.if-has_pin.true))
 
 pub returns : goal.returns
 returns c =
     let config = config_of c.args.self.now in
-    sym (none_passes (has_pin config (memory_of c.args.self.now) c.args.region) config.mutators (λ t below. c.loop-mutator.invariant t (omega (arith, below, c.loop-mutator-test.false, c.mutators-mutator-end.ensures))))
+    sym (none_from_zero (has_pin config (memory_of c.args.self.now) c.args.region) config.mutators (λ t below. c.loop-mutator.invariant t (omega (arith, below, c.loop-mutator-test.false, c.mutators-mutator-end.ensures))))

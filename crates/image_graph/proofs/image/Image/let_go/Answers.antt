@@ -21,7 +21,7 @@ let_go_one-requires-clause-inside c =
     let same : config_of c.loop-seat.self ≡ config = c.loop-seat.invariant.config in
     let word : memory_of c.loop-seat.self (Current seat) ≡ memory (Current seat) = ap (λ (memory : Word → ℕ). memory (Current seat)) c.loop-seat.invariant.words ∙ let_go_later config memory seat seat (omega arith) in
     let below : seat < seat_count config.mutators config.helpers = omega (arith, c.loop-seat-test.true, c.seats-seat-end.ensures) in
-    λ some. subst (λ (n : ℕ). IsInside (config_of c.loop-seat.self) n) (sym word) (subst (λ (config : Config). IsInside config (memory (Current seat))) (sym same) (c.requires seat below (λ none. some (word ∙ none))))
+    λ some. subst (λ (word : ℕ). IsInside (config_of c.loop-seat.self) word) (sym word) (subst (λ (config : Config). IsInside config (memory (Current seat))) (sym same) (c.requires seat below (λ none. some (word ∙ none))))
 
 pub loop-seat-preserved : goal.loop-seat-preserved
 loop-seat-preserved c =

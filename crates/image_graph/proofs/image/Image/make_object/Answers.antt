@@ -6,7 +6,7 @@ use Rattle.regions.specs.Place.{base_of}
 use Rattle.image_graph.specs.State.{config_of, memory_of}
 use Rattle.image_graph.specs.Make.{heap_cleared, AreInHeap}
 use Rattle.image_graph.proofs.Room.{room_in_heap}
-use Rattle.image_graph.proofs.Read.{read, word_in, first_in, low_in, low_region, made_inside}
+use Rattle.image_graph.proofs.HeapParts.{read, word_in, first_in, low_in, low_region, made_inside}
 use Rattle.image_graph.proofs.NamedStores.{stored, placed_inside, made_steps}
 use Rattle.image_graph.proofs.image.Image.make_object.Goals as goal
 
@@ -23,16 +23,16 @@ returns-clause-words c =
     let free : c.word-free.result ≡ old Free = c.word-free.ensures.named Free tt (ap (λ (config : Config). word_at config Free) (sym same) ∙ sym c.free_at.ensures) in
     let shape : c.request_shape-shape.result ≡ request_shape_in (old (Wait mutator)) = c.request_shape-shape.ensures ∙ ap request_shape_in request in
     let base : c.base.result ≡ base_of (config_of c.args.self.now) region = c.base.ensures ∙ ap (λ (config : Config). base_of config region) same in
-    let a : ℕ = c.base.result + c.word-top.result in
-    let address : a ≡ base_of (config_of c.args.self.now) region + old (Top region) = omega (arith, base, top) in
+    let other_address : ℕ = c.base.result + c.word-top.result in
+    let address : other_address ≡ base_of (config_of c.args.self.now) region + old (Top region) = omega (arith, base, top) in
     let name : c.name_word-name.result ≡ name_code (mutator + 1) (request_count_in (old (Wait mutator))) =
     c.name_word-name.ensures ∙ ap (name_code (mutator + 1)) (c.request_count.ensures ∙ ap request_count_in request) in
     let words : c.words_of.result ≡ object_words c.request_shape-shape.result = c.words_of.ensures in
     -- where it is written
     let inside : AreInHeap (config_of c.args.self.now) (base_of (config_of c.args.self.now) region + old (Top region)) (object_words (request_shape_in (old (Wait mutator)))) =
     room_in_heap (config_of c.args.self.now) region (old (Top region)) (object_words (request_shape_in (old (Wait mutator)))) c.requires.region c.requires.room in
-    let is_heap : (i : ℕ) → i < 3 → IsWord g (Heap (a + i)) =
-    λ i few. subst (λ (config : Config). IsWord config (Heap (a + i))) (sym same) (omega (arith, inside.from, address), omega (arith, inside.to, address, few)) in
+    let is_heap : (i : ℕ) → i < 3 → IsWord g (Heap (other_address + i)) =
+    λ i few. subst (λ (config : Config). IsWord config (Heap (other_address + i))) (sym same) (omega (arith, inside.from, address), omega (arith, inside.to, address, few)) in
     let config_cleared : config_of c.clear.new.self ≡ g = c.clear.ensures.config ∙ sym same in
     let config_header : config_of c.set_word.new.self ≡ g = c.set_word.ensures.config ∙ config_cleared in
     let config_shape : config_of c.set_word-2.new.self ≡ g = c.set_word-2.ensures.config ∙ config_header in
@@ -40,22 +40,22 @@ returns-clause-words c =
     let config_top : config_of c.set_word-4.new.self ≡ g = c.set_word-4.ensures.config ∙ config_name in
     let config_free : config_of c.set_word-5.new.self ≡ g = c.set_word-5.ensures.config ∙ config_top in
     let config_answer : config_of c.set_word-6.new.self ≡ g = c.set_word-6.ensures.config ∙ config_free in
-    let stored_header = stored (config_of c.clear.new.self) g _ _ (Heap a) c.heap_at.result 1 config_cleared (subst (λ (config : Config). IsWord config (Heap a)) (sym same) (omega (arith, inside.from, address), omega (arith, inside.to, address))) c.heap_at.ensures c.set_word.ensures.named in
-    let stored_shape = stored (config_of c.set_word.new.self) g _ _ (Heap (a + 1)) c.heap_at-2.result c.request_shape-shape.result config_header (is_heap 1 (omega arith)) c.heap_at-2.ensures c.set_word-2.ensures.named in
-    let stored_name = stored (config_of c.set_word-2.new.self) g _ _ (Heap (a + 2)) c.heap_at-3.result c.name_word-name.result config_shape (is_heap 2 (omega arith)) c.heap_at-3.ensures c.set_word-3.ensures.named in
+    let stored_header = stored (config_of c.clear.new.self) g _ _ (Heap other_address) c.heap_at.result 1 config_cleared (subst (λ (config : Config). IsWord config (Heap other_address)) (sym same) (omega (arith, inside.from, address), omega (arith, inside.to, address))) c.heap_at.ensures c.set_word.ensures.named in
+    let stored_shape = stored (config_of c.set_word.new.self) g _ _ (Heap (other_address + 1)) c.heap_at-2.result c.request_shape-shape.result config_header (is_heap 1 (omega arith)) c.heap_at-2.ensures c.set_word-2.ensures.named in
+    let stored_name = stored (config_of c.set_word-2.new.self) g _ _ (Heap (other_address + 2)) c.heap_at-3.result c.name_word-name.result config_shape (is_heap 2 (omega arith)) c.heap_at-3.ensures c.set_word-3.ensures.named in
     let stored_top = stored (config_of c.set_word-3.new.self) g _ _ (Top region) c.top_at-2.result (c.word-top.result + c.words_of-2.result) config_name (subst (λ (config : Config). region < config.regions) (sym same) c.requires.region) c.top_at-2.ensures c.set_word-4.ensures.named in
     let stored_free = stored (config_of c.set_word-4.new.self) g _ _ Free c.free_at-2.result (bit_and c.word-free.result c.all_but.result) config_top tt c.free_at-2.ensures c.set_word-5.ensures.named in
-    let stored_answer = stored (config_of c.set_word-5.new.self) g _ _ (Answer mutator) c.answer_at.result a config_free (subst (λ (config : Config). mutator < config.mutators) (sym same) c.requires.mutator) c.answer_at.ensures c.set_word-6.ensures.named in
+    let stored_answer = stored (config_of c.set_word-5.new.self) g _ _ (Answer mutator) c.answer_at.result other_address config_free (subst (λ (config : Config). mutator < config.mutators) (sym same) c.requires.mutator) c.answer_at.ensures c.set_word-6.ensures.named in
     let stored_wait = stored (config_of c.set_word-6.new.self) g _ _ (Wait mutator) c.wait_at-2.result 0 config_answer (subst (λ (config : Config). mutator < config.mutators) (sym same) c.requires.mutator) c.wait_at-2.ensures c.set_word-7.ensures.named in
-    let cleared_is : memory_of c.clear.new.self ≡ heap_cleared a (object_words c.request_shape-shape.result) old = c.clear.ensures.words ∙ ap (λ n. heap_cleared a n old) words in
+    let cleared_is : memory_of c.clear.new.self ≡ heap_cleared other_address (object_words c.request_shape-shape.result) old = c.clear.ensures.words ∙ ap (λ words. heap_cleared other_address words old) words in
     stored_wait ∙ ap (λ m. write m (Wait mutator) 0)
-    (stored_answer ∙ ap (λ m. write m (Answer mutator) a)
+    (stored_answer ∙ ap (λ m. write m (Answer mutator) other_address)
     (stored_free ∙ ap (λ m. write m Free (bit_and c.word-free.result c.all_but.result))
     (stored_top ∙ ap (λ m. write m (Top region) (c.word-top.result + c.words_of-2.result))
-    (stored_name ∙ ap (λ m. write m (Heap (a + 2)) c.name_word-name.result)
-    (stored_shape ∙ ap (λ m. write m (Heap (a + 1)) c.request_shape-shape.result)
-    (stored_header ∙ ap (λ m. write m (Heap a) 1) cleared_is))))))
-    ∙ made_steps (config_of c.args.self.now) old mutator region a c.request_shape-shape.result c.name_word-name.result (c.word-top.result + c.words_of-2.result) (bit_and c.word-free.result c.all_but.result)
+    (stored_name ∙ ap (λ m. write m (Heap (other_address + 2)) c.name_word-name.result)
+    (stored_shape ∙ ap (λ m. write m (Heap (other_address + 1)) c.request_shape-shape.result)
+    (stored_header ∙ ap (λ m. write m (Heap other_address) 1) cleared_is))))))
+    ∙ made_steps (config_of c.args.self.now) old mutator region other_address c.request_shape-shape.result c.name_word-name.result (c.word-top.result + c.words_of-2.result) (bit_and c.word-free.result c.all_but.result)
     address shape name (omega (arith, top, c.words_of-2.ensures)) (ap (λ k. bit_and k c.all_but.result) free ∙ ap (bit_and (old Free)) c.all_but.ensures.value)
 
 pub wait_at-requires : goal.wait_at-requires

@@ -8,12 +8,12 @@ pub loop-rest-preserved : goal.loop-rest-preserved
 loop-rest-preserved g c =
     let (done, put, split) = c.loop-rest.invariant.done in
     let rest = c.loop-rest.rest.now in
-    let n = c.keep-count.result in
+    let count = c.keep-count.result in
     record {
       done = (
-        done ++ take n rest,
-        puts_turn _ _ _ _ _ _ _ _ _ _ done (take n rest) put c.make_room.ensures.sent c.keep-count.ensures.kept,
-        front_moves _ done rest n split,
+        done ++ take count rest,
+        puts_turn _ _ _ _ _ _ _ _ _ _ done (take count rest) put c.make_room.ensures.sent c.keep-count.ensures.kept,
+        front_moves _ done rest count split,
       );
       stopped = λ f.
           (let still : c.loop-rest.self.failed ≡ c.args.self.now.failed = ap (λ (h : Held). h.failed) (c.loop-rest.invariant.stopped f).0 in

@@ -16,7 +16,7 @@ pub returns : goal.returns
 returns c = λ scripts before count judged.
     let text = c.write.new.text in
     let work = c.args.self.work in
-    let shows = subst (λ n. IsTextOf (graph_of c.args.self.graph) n text) (sym c.requires.threads) c.in_ok-write.ensures.ok in
+    let shows = subst (λ threads. IsTextOf (graph_of c.args.self.graph) threads text) (sym c.requires.threads) c.in_ok-write.ensures.ok in
     map_ok c.is_text.result _ _
     (λ same compared. answered c.args.version scripts before c.args.self.graph work text c.args.body.now
     (answer_text c.args.version (length text.roots) (λ t. replies_of work (t - 1)) text.rows (root_of text) (pin_of text)) same c.args.threads judged count shows refl compared)

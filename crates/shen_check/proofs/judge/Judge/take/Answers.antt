@@ -6,7 +6,7 @@ use Rattle.shen_graph.specs.PlainGraph.{graph_of}
 use Rattle.shen_graph.specs.Work.{Progress, script_in, replies_of, with_reply}
 use Rattle.shen_graph.specs.Valid.{most_objects}
 use Rattle.shen_check.specs.Judged.{MayFollow}
-use Rattle.shen_check.specs.Judging.{HasJudged, HasPinsOf}
+use Rattle.shen_check.specs.JudgeState.{HasJudged, HasPinsOf}
 use Rattle.shen_check.proofs.Taking.{one_more, one_longer, next_of_thread, no_next, may_answer, may_follow, next_valid, count_few}
 use Rattle.shen_check.proofs.judge.Judge.take.Goals as goal
 

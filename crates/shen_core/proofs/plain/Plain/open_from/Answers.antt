@@ -22,7 +22,7 @@ of-requires-clause-machines c =
 
 pub of-requires-clause-reached : goal.of-requires-clause-reached
 of-requires-clause-reached c =
-    subst (λ k. ∥ IsShownBySomeRun k c.in_ok-words.words.items (map shown c.in_ok-machines.machines.items) ∥₁) (sym c.config-config.ensures)
+    subst (λ config. ∥ IsShownBySomeRun config c.in_ok-words.words.items (map shown c.in_ok-machines.machines.items) ∥₁) (sym c.config-config.ensures)
     (shown_from c.args.image.config c.args.image.words.items c.args.counts.now c.in_ok-words.words.items (map shown c.in_ok-machines.machines.items) c.args.image.all_words
     (shows_from c.args.image.config c.args.image.words.items c.args.counts.now c.in_ok-words.words.items c.in_ok-machines.machines.items c.in_ok-words.ensures c.in_ok-machines.ensures.machines) c.requires.begins)
 

@@ -28,7 +28,7 @@ loop-left-preserved c =
     record {
       run = c.turn_inside_image.ensures.run;
       config = c.turn_inside_image.ensures.config ∙ c.loop-left.invariant.config;
-      less = (let l = c.loop-left.invariant.less in omega arith);
+      less = (let less = c.loop-left.invariant.less in omega arith);
       halted = c.turn_inside_image.ensures.halted c.in-Some.waiting c.loop-left.invariant.halted;
       words = (let before = c.loop-left.invariant.words in let then = c.turn_inside_image.ensures.left in omega (arith, before, then));
       runs = runs_then c.args.self.now p q jobs jobs jobs (agenda [] 0) (agenda [] 0) (agenda [] 0) c.args.limit c.loop-left.left (c.loop-left.left - (c.in-Some.waiting + 1)) c.loop-left.invariant.config c.loop-left.invariant.runs

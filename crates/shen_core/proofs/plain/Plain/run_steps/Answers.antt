@@ -33,4 +33,4 @@ returns-else-left-gt0-clause-task c = λ tasks from.
 pub returns-after-loop-wanted-clause-task : goal.returns-after-loop-wanted-clause-task
 returns-after-loop-wanted-clause-task c = λ tasks from.
     runs_then c.args.self.now c.loop-wanted.self c.loop-wanted.self c.args.work.now c.loop-wanted.work c.loop-wanted.work _ (agenda (steps c.args.number c.loop-wanted.wanted ∷ tasks) from) (agenda tasks from) _ c.loop-wanted.left _ c.loop-wanted.invariant.config (c.loop-wanted.invariant.runs tasks from)
-    (task_done c.loop-wanted.self c.loop-wanted.work (steps c.args.number c.loop-wanted.wanted) c.loop-wanted.left (λ scripts s shows tells. ap (λ n. move_of (config_of c.loop-wanted.self) scripts s (steps c.args.number n)) (let none : c.loop-wanted.wanted ≡ 0 = omega arith in none)) tasks from)
+    (task_done c.loop-wanted.self c.loop-wanted.work (steps c.args.number c.loop-wanted.wanted) c.loop-wanted.left (λ scripts s shows tells. ap (λ count. move_of (config_of c.loop-wanted.self) scripts s (steps c.args.number count)) (let none : c.loop-wanted.wanted ≡ 0 = omega arith in none)) tasks from)

@@ -35,7 +35,7 @@ returns-then-has_next-clause-same c = λ scripts s shows tells.
 
 pub returns-then-has_next-clause-due : goal.returns-then-has_next-clause-due
 returns-then-has_next-clause-due c =
-    subst (λ n. IsDueNext c.args.plain.now c.args.work.now c.item.new.self n) (sym c.machine_of-number.ensures)
+    subst (λ number. IsDueNext c.args.plain.now c.args.work.now c.item.new.self number) (sym c.machine_of-number.ensures)
     (item_due c.args.plain.now c.args.work.now c.item.new.self c.in-Some.item (c.item.ensures.control ∙ c.loop-item.invariant.control) (c.item.ensures.present ∙ c.in-Some.is) (c.is_over.ensures.more c.if-not-is_over.true) (subst (λ o. IfSome o (IsInSeats (config_of c.args.plain.now))) (c.item.ensures.present ∙ c.in-Some.is) (c.item.ensures.fits _ c.loop-item.invariant.walk).present) (subst (λ n. HasNext c.args.plain.now n true) c.machine_of-number.ensures c.if-has_next.ensures))
 
 pub returns-then-has_next-clause-none : goal.returns-then-has_next-clause-none

@@ -69,7 +69,7 @@ returns-clause-order c =
     let rows : map (row_at c.swap.new.x.items c.swap-2.new.x.items) c.gather.new.places.items ≡ map seen c.sort_unstable_by_key.new.self.items =
     rw (c.swap.ensures.x_after, c.swap-2.ensures.x_after) (c.gather.ensures.rows ∙ rw (c.deref.ensures.value, c.deref-2.ensures.value) refl) in
     let distinct : IsDistinct same_name (map (λ r. r.name) (map seen c.self.inside.places.items)) = rw (← c.self.view_is) at c.requires in
-    let name = λ (p : Place). p.name in
+    let name = λ (place : Place). place.name in
     let differ : IsDistinct same_name (map name c.sort_unstable_by_key.new.self.items) =
     IsDistinct-permutation (map name c.self.inside.places.items) (map name c.sort_unstable_by_key.new.self.items)
     (IsPermutation-map name c.self.inside.places.items c.sort_unstable_by_key.new.self.items c.sort_unstable_by_key.ensures.permutation)

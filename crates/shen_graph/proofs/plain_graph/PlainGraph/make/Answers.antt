@@ -20,7 +20,7 @@ returns-clause-name c =
 
 pub returns-clause-graph : goal.returns-clause-graph
 returns-clause-graph c =
-    let p : Plain = record { rows = c.self.inside.objects.items; roots = c.self.inside.roots.items; counts = c.self.inside.counts.items; pins = c.self.inside.pins.items } in
+    let plain : Plain = record { rows = c.self.inside.objects.items; roots = c.self.inside.roots.items; counts = c.self.inside.counts.items; pins = c.self.inside.pins.items } in
     let within : c.args.thread < length c.self.inside.counts.items = grind (arith, common_steps) in
     let count : c.index.result.now ≡ get_or c.self.inside.counts.items c.args.thread 0 = get_or_read c.self.inside.counts.items c.args.thread c.index.result.now within c.index.ensures 0 in
-    rw (← c.self.view_is, c.in_ok-insert.ensures.items, c.in_ok-object.ensures, count) (graph_of-with_fresh p c.args.thread c.args.refs c.args.nums within)
+    rw (← c.self.view_is, c.in_ok-insert.ensures.items, c.in_ok-object.ensures, count) (graph_of-with_fresh plain c.args.thread c.args.refs c.args.nums within)

@@ -23,7 +23,7 @@ loop-name-preserved c =
     let i = c.loop-name.name-index in
     let name = get_or names i none in
     let low : i < length names = omega arith in
-    let words = λ (n : Name). size (named g (Some n)) in
+    let words = λ (other_name : Name). size (named g (Some other_name)) in
     let made = c.put_object.ensures in
     let before = map (row_in g) (take i names) in
     record {

@@ -33,6 +33,6 @@ returns c =
     let sorted = c.sort_unstable.new.self.items in
     record {
       in_order = subst InOrder (map-id sorted) (InOrder-from_sorted (λ (name : Name). name) sorted c.sort_unstable.ensures.sorted (rw map-id (IsDistinct-permutation found sorted c.sort_unstable.ensures.permutation s.distinct)));
-      all = λ n reached. Contains-permutation found sorted n c.sort_unstable.ensures.permutation (IsSearched-all c.args.self.now found c.loop-next.next s done n reached);
+      all = λ name reached. Contains-permutation found sorted name c.sort_unstable.ensures.permutation (IsSearched-all c.args.self.now found c.loop-next.next s done name reached);
       only = λ n there. s.reached n (Contains-permutation sorted found n (IsPermutation-sym found sorted c.sort_unstable.ensures.permutation) there);
     }

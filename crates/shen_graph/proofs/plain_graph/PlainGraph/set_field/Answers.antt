@@ -6,19 +6,19 @@ use Rattle.shen_graph.proofs.plain_graph.PlainGraph.set_field.Goals as goal
 
 pub set_field-requires : goal.set_field-requires
 set_field-requires c =
-    let p : Plain = record { rows = c.self.inside.objects.items; roots = c.self.inside.roots.items; counts = c.self.inside.counts.items; pins = c.self.inside.pins.items } in
+    let plain : Plain = record { rows = c.self.inside.objects.items; roots = c.self.inside.roots.items; counts = c.self.inside.counts.items; pins = c.self.inside.pins.items } in
     let place = rw (← c.self.view_is) at c.in-Some.ensures in
-    let within : c.in-Some.place < length c.self.inside.objects.items = place_of-within p c.args.thread c.args.root c.in-Some.place place in
+    let within : c.in-Some.place < length c.self.inside.objects.items = place_of-within plain c.args.thread c.args.root c.in-Some.place place in
     let row = get_or_read c.self.inside.objects.items c.in-Some.place c.index_mut-object.result.now within c.index_mut-object.ensures.value nobody in
-    rw row (field_at-within p c.args.thread c.args.root c.args.field c.in-Some.place place (rw (← c.self.view_is) at c.requires.field))
+    rw row (field_at-within plain c.args.thread c.args.root c.args.field c.in-Some.place place (rw (← c.self.view_is) at c.requires.field))
 
 pub unreachable-requires : goal.unreachable-requires
 unreachable-requires c = field_at-nowhere c.args.self.now c.args.thread c.args.root c.args.field c.in-None.ensures c.requires.field
 
 pub returns-clause-graph : goal.returns-clause-graph
 returns-clause-graph c =
-    let p : Plain = record { rows = c.self.inside.objects.items; roots = c.self.inside.roots.items; counts = c.self.inside.counts.items; pins = c.self.inside.pins.items } in
+    let plain : Plain = record { rows = c.self.inside.objects.items; roots = c.self.inside.roots.items; counts = c.self.inside.counts.items; pins = c.self.inside.pins.items } in
     let place = rw (← c.self.view_is) at c.in-Some.ensures in
-    let within : c.in-Some.place < length c.self.inside.objects.items = place_of-within p c.args.thread c.args.root c.in-Some.place place in
+    let within : c.in-Some.place < length c.self.inside.objects.items = place_of-within plain c.args.thread c.args.root c.in-Some.place place in
     let row = get_or_read c.self.inside.objects.items c.in-Some.place c.index_mut-object.result.now within c.index_mut-object.ensures.value nobody in
-    rw (← c.self.view_is, c.set_field.ensures, row) (graph_of-with_field p c.args.thread c.args.root c.args.field c.in-Some.place c.args.value place)
+    rw (← c.self.view_is, c.set_field.ensures, row) (graph_of-with_field plain c.args.thread c.args.root c.args.field c.in-Some.place c.args.value place)

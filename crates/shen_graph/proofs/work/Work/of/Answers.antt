@@ -21,11 +21,11 @@ kept all now new script left split =
 -- it was the last of those that were left
 last : (all now new : List (List Command)) (script : List Command) → now ≡ take (length now) all → now ≡ new ++ script ∷ [] → slice_get all (length new) ≡ Some script
 last all now new script left split =
-    let n : ℕ = length new in
-    let below : n < length now = omega (arith, longer now new script split) in
+    let index : ℕ = length new in
+    let below : index < length now = omega (arith, longer now new script split) in
     let within : length now ≤ length all = omega (arith, ap length left, length-take (length now) all) in
-    slice_get_read all (length all) n script refl (omega arith)
-    (sym (get_or_at new script [] script n refl) ∙ ap (λ list. get_or list n script) (sym split ∙ left) ∙ get_or-take (length now) all n script below)
+    slice_get_read all (length all) index script refl (omega arith)
+    (sym (get_or_at new script [] script index refl) ∙ ap (λ list. get_or list index script) (sym split ∙ left) ∙ get_or-take (length now) all index script below)
 
 -- and put into its place
 moved_on : (all now new : List (List Command)) (script : List Command) (jobs : List (Option Progress)) (index other_index : ℕ) (job : Progress) → index ≡ length new → index < length jobs → job ≡ begun script →
@@ -34,7 +34,7 @@ moved_on : (all now new : List (List Command)) (script : List Command) (jobs : L
 moved_on all now new script jobs index other_index job at within made left split moved past =
     elim (cases_eq other_index index) [
       | inl same ↦ subst (λ other_index. get_or (slice_set jobs index (Some job)) other_index None ≡ option_map begun (slice_get all other_index)) (sym same)
-          (get_or-set_same jobs index (Some job) None within ∙ ap Some made ∙ sym (ap (λ n. option_map begun (slice_get all n)) at ∙ ap (option_map begun) (last all now new script left split)))
+          (get_or-set_same jobs index (Some job) None within ∙ ap Some made ∙ sym (ap (λ index. option_map begun (slice_get all index)) at ∙ ap (option_map begun) (last all now new script left split)))
       | inr other ↦ get_or-set_other jobs index other_index (Some job) None other ∙ moved (omega (arith, longer now new script split))
     ]
 

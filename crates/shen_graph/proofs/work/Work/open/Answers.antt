@@ -45,4 +45,4 @@ loop-mutator-preserved c =
 pub returns : goal.returns
 returns c =
     fill_by_all (λ k. option_map begun (slice_get c.args.scripts.now k)) c.loop-mutator.jobs 8 None c.loop-mutator.invariant.0
-    (λ k below. c.loop-mutator.invariant.1 k below ∙ ap (λ s. option_map begun (slice_get s k)) (take_all _ _ c.loop-mutator-test.false))
+    (λ index below. c.loop-mutator.invariant.1 index below ∙ ap (λ s. option_map begun (slice_get s index)) (take_all _ _ c.loop-mutator-test.false))

@@ -33,8 +33,8 @@ loop-number-preserved g c =
     let l = c.loop-number in
     elim c.if-has.branch [
       | then-has w ↦
-          subst (λ p. IsDrivenRound g.D.Driver.next_of g.D.Driver.replied g.D.Driver.to_come c.args.self.now c.args.drivers.now (l.number + 1) p c.if-has.self c.if-has.drivers c.if-has.round) (sym w.place-is)
-          (subst (λ r. IsDrivenRound g.D.Driver.next_of g.D.Driver.replied g.D.Driver.to_come c.args.self.now c.args.drivers.now (l.number + 1) w.place_behind-place.result c.if-has.self c.if-has.drivers r) (sym w.round-is)
+          subst (λ place. IsDrivenRound g.D.Driver.next_of g.D.Driver.replied g.D.Driver.to_come c.args.self.now c.args.drivers.now (l.number + 1) place c.if-has.self c.if-has.drivers c.if-has.round) (sym w.place-is)
+          (subst (λ so_far. IsDrivenRound g.D.Driver.next_of g.D.Driver.replied g.D.Driver.to_come c.args.self.now c.args.drivers.now (l.number + 1) w.place_behind-place.result c.if-has.self c.if-has.drivers so_far) (sym w.round-is)
           (subst (λ b. IsDrivenRound g.D.Driver.next_of g.D.Driver.replied g.D.Driver.to_come c.args.self.now c.args.drivers.now (l.number + 1) w.place_behind-place.result b c.if-has.drivers w.and-round.result) (sym w.self-is)
           (subst (λ ds. IsDrivenRound g.D.Driver.next_of g.D.Driver.replied g.D.Driver.to_come c.args.self.now c.args.drivers.now (l.number + 1) w.place_behind-place.result w.drive_turn.new.self ds w.and-round.result) (sym w.drivers-is)
           (driven_turn g.D.Driver.next_of g.D.Driver.replied g.D.Driver.to_come c.args.self.now l.self c.args.drivers.now l.drivers l.number l.place l.round l.invariant
@@ -42,8 +42,8 @@ loop-number-preserved g c =
           (record { same = w.drive_turn.ensures.same; unchanged = w.drive_turn.ensures.unchanged; idle = w.drive_turn.ensures.idle }) w.and-round.ensures.idle.0
           (w.place_behind-place.ensures ∙ ap (λ k. if nat_lt l.number k.mutators then l.place + 1 else l.place) w.drive_turn.ensures.same.config)))))
       | else-has w ↦
-          subst (λ p. IsDrivenRound g.D.Driver.next_of g.D.Driver.replied g.D.Driver.to_come c.args.self.now c.args.drivers.now (l.number + 1) p c.if-has.self c.if-has.drivers c.if-has.round) (sym w.place-is)
-          (subst (λ r. IsDrivenRound g.D.Driver.next_of g.D.Driver.replied g.D.Driver.to_come c.args.self.now c.args.drivers.now (l.number + 1) l.place c.if-has.self c.if-has.drivers r) (sym w.round-is)
+          subst (λ place. IsDrivenRound g.D.Driver.next_of g.D.Driver.replied g.D.Driver.to_come c.args.self.now c.args.drivers.now (l.number + 1) place c.if-has.self c.if-has.drivers c.if-has.round) (sym w.place-is)
+          (subst (λ so_far. IsDrivenRound g.D.Driver.next_of g.D.Driver.replied g.D.Driver.to_come c.args.self.now c.args.drivers.now (l.number + 1) l.place c.if-has.self c.if-has.drivers so_far) (sym w.round-is)
           (subst (λ b. IsDrivenRound g.D.Driver.next_of g.D.Driver.replied g.D.Driver.to_come c.args.self.now c.args.drivers.now (l.number + 1) l.place b c.if-has.drivers l.round) (sym w.self-is)
           (subst (λ ds. IsDrivenRound g.D.Driver.next_of g.D.Driver.replied g.D.Driver.to_come c.args.self.now c.args.drivers.now (l.number + 1) l.place l.self ds l.round) (sym w.drivers-is)
           (driven_none g.D.Driver.next_of g.D.Driver.replied g.D.Driver.to_come c.args.self.now l.self c.args.drivers.now l.drivers l.number l.place l.round l.invariant

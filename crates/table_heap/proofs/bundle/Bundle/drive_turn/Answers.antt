@@ -1,11 +1,12 @@
 use Rattle.std.proofs.Common.{◌<◌, sym, ap, ◌∙◌, subst, ⊎_elim, arith}
 use Rattle.std.specs.Prelude.{slice_get, slice_set}
+use Rattle.heap_words.proofs.Lists.{element_at}
 use Rattle.shen_graph.specs.Valid.{most_objects}
 use Rattle.step_core.specs.Machines.{made_of_machine}
 use Rattle.table_heap.specs.State.{machine_at}
 use Rattle.table_heap.specs.Driving.{mutators_below, AreDriving}
 use Rattle.table_heap.proofs.AtWork.{idle_for_good}
-use Rattle.table_heap.proofs.Driving.{found_at, name_there, given_fits, driven_on, driven_noted, driven_unchanged, can_take}
+use Rattle.table_heap.proofs.Driving.{name_there, given_fits, driven_on, driven_noted, driven_unchanged, can_take}
 use Rattle.table_heap.proofs.Said.{done_not_idle, idle_or_not}
 use Rattle.table_heap.proofs.bundle.Bundle.drive_turn.Goals as goal
 
@@ -31,7 +32,7 @@ returns-in-Done-clause-driving g c = λ firsts before.
     let made = c.go_on-stepped.ensures.turn (done_not_idle c.go_on-stepped.result c.in-Done.is) in
     let low = can_take g.D.Driver.next_of g.D.Driver.replied g.D.Driver.to_come bundle c.go_on-stepped.new.self c.next_of_driver-next.result c.args.number c.go_on-stepped.result
     made c.go_on-stepped.ensures.same firsts drivers c.next_of_driver-next.ensures.next before c.in-Done.is in
-    let found = found_at drivers (mutators_below bundle c.args.number) low in
+    let found = element_at drivers (mutators_below bundle c.args.number) low in
     let took = c.hand_reply.ensures found.0 (ap (slice_get drivers) c.requires.place ∙ found.1) in
     subst (λ ds. AreDriving g.D.Driver.next_of g.D.Driver.replied g.D.Driver.to_come c.go_on-stepped.new.self firsts ds) (sym (took.list ∙ ap (λ p. slice_set drivers p took.taken) c.requires.place))
     (driven_noted g.D.Driver.next_of g.D.Driver.replied g.D.Driver.to_come bundle c.go_on-stepped.new.self c.next_of_driver-next.result c.args.number c.go_on-stepped.result

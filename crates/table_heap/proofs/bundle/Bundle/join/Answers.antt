@@ -38,7 +38,7 @@ invariant_of-self c =
           (heap_merged bundle.config bundle.machines.items b.machines.items bundle.of_heap (subst (λ k. AreOfHeap k b.machines.items) (c.requires.other.config ∙ sym c.requires.this.config) b.of_heap));
       greys = greys_as bundle.config _ _ _ _ c.join_machines.ensures c.join_machines-2.ensures
           (greys_merged bundle.config bundle.machines.items b.machines.items bundle.greyed.items b.greyed.items long bundle.greys
-          (subst (λ k. AreGreyedBy k b.machines.items b.greyed.items) (c.requires.other.config ∙ sym c.requires.this.config) b.greys));
+          (subst (λ config. AreGreyedBy config b.machines.items b.greyed.items) (c.requires.other.config ∙ sym c.requires.this.config) b.greys));
       hints_of_heap = bundle.hints_of_heap;
       thieves_of_heap = bundle.thieves_of_heap;
     }

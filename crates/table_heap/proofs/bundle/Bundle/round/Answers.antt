@@ -22,7 +22,7 @@ loop-number-preserved g c =
     let l = c.loop-number in
     elim c.if-has.branch [
       | then-has w ↦
-          subst (λ r. IsInRound c.args.self.now c.args.work.now (l.number + 1) c.if-has.self c.if-has.work r) (sym w.round-is)
+          subst (λ so_far. IsInRound c.args.self.now c.args.work.now (l.number + 1) c.if-has.self c.if-has.work so_far) (sym w.round-is)
           (subst (λ b. IsInRound c.args.self.now c.args.work.now (l.number + 1) b c.if-has.work w.and-round.result) (sym w.self-is)
           (subst (λ jobs. IsInRound c.args.self.now c.args.work.now (l.number + 1) w.turn.new.self jobs w.and-round.result) (sym w.work-is)
           (in_round_turn c.args.self.now l.self c.args.work.now l.work l.number l.round l.invariant w.turn.new.self w.turn.new.work w.turn.result w.and-round.result
@@ -33,7 +33,7 @@ loop-number-preserved g c =
           })
           w.and-round.ensures.idle.0)))
       | else-has w ↦
-          subst (λ r. IsInRound c.args.self.now c.args.work.now (l.number + 1) c.if-has.self c.if-has.work r) (sym w.round-is)
+          subst (λ so_far. IsInRound c.args.self.now c.args.work.now (l.number + 1) c.if-has.self c.if-has.work so_far) (sym w.round-is)
           (subst (λ b. IsInRound c.args.self.now c.args.work.now (l.number + 1) b c.if-has.work l.round) (sym w.self-is)
           (subst (λ jobs. IsInRound c.args.self.now c.args.work.now (l.number + 1) l.self jobs l.round) (sym w.work-is)
           (in_round_none c.args.self.now l.self c.args.work.now l.work l.number l.round l.invariant (sym c.has.ensures.view ∙ w.if-has.false))))

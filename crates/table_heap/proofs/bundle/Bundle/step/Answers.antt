@@ -157,15 +157,15 @@ invariant_of-self-2 c =
     let heap = (bundle.of_heap c.args.number machine here).heap in
     let key : c.args.heap.now.table.shared.key ≡ bundle.key.value = c.args.heap.now.table_key ∙ sym c.requires.heap.key in
     let took = took_in c.args.heap.now.table.shared.key bundle.key.value bundle.config c.args.number c.order.result (order_of machine) bundle.seat.me c.make_step-got.result c.make_step-got.new.seat.me key bundle.same_sizes c.order.ensures c.make_step-got.ensures.took in
-    let n = c.took-said.new.self in
+    let said = c.took-said.new.self in
     record {
       same_sizes = bundle.same_sizes;
       seats = length-set bundle.machines.items _ _ ∙ bundle.seats;
-      kept = kept_after bundle.config bundle.key.value bundle.same_sizes bundle.machines.items (uncounted_seat bundle.seat.me) bundle.kept c.args.number machine here c.make_step-got.result (uncounted_seat c.make_step-got.new.seat.me) took n c.took-said.ensures.shown heap;
+      kept = kept_after bundle.config bundle.key.value bundle.same_sizes bundle.machines.items (uncounted_seat bundle.seat.me) bundle.kept c.args.number machine here c.make_step-got.result (uncounted_seat c.make_step-got.new.seat.me) took said c.took-said.ensures.shown heap;
       slots = took.slots ∙ bundle.slots;
-      of_heap = heap_put bundle.config bundle.machines.items c.args.number machine n here c.took-said.ensures.heap
-          (role_after bundle.config bundle.key.value bundle.same_sizes bundle.machines.items (uncounted_seat bundle.seat.me) bundle.kept c.args.number machine here c.make_step-got.result (uncounted_seat c.make_step-got.new.seat.me) took n c.took-said.ensures.shown heap) bundle.of_heap;
-      greys = (greys_step bundle.config bundle.machines.items bundle.greyed.items c.args.number machine n c.greys-greyed.result here
+      of_heap = heap_put bundle.config bundle.machines.items c.args.number machine said here c.took-said.ensures.heap
+          (role_after bundle.config bundle.key.value bundle.same_sizes bundle.machines.items (uncounted_seat bundle.seat.me) bundle.kept c.args.number machine here c.make_step-got.result (uncounted_seat c.make_step-got.new.seat.me) took said c.took-said.ensures.shown heap) bundle.of_heap;
+      greys = (greys_step bundle.config bundle.machines.items bundle.greyed.items c.args.number machine said c.greys-greyed.result here
           (subst (λ k. IfSome c.greys-greyed.result (λ address. IsWord k (Heap address))) heap c.greys-greyed.ensures.heap) bundle.greys);
       hints_of_heap = bundle.hints_of_heap;
       thieves_of_heap = bundle.thieves_of_heap;
@@ -181,7 +181,7 @@ returns-clause-event c = λ _.
     let key : c.args.heap.now.table.shared.key ≡ bundle.key.value = c.args.heap.now.table_key ∙ sym c.requires.heap.key in
     let at = shows_as shown bundle.machines.items c.args.number machine no_machine here in
     let given = shows_as order_of bundle.machines.items c.args.number machine Nothing here in
-    let n = c.took-said.new.self in
+    let said = c.took-said.new.self in
     let took = took_as c.args.heap.now.table.shared.key bundle.key.value c.args.number c.order.result (order_at bundle c.args.number) bundle.seat.me c.make_step-got.result c.make_step-got.new.seat.me key (c.order.ensures ∙ sym given) c.make_step-got.ensures.took in
     record {
       got = c.make_step-got.result;
@@ -191,7 +191,7 @@ returns-clause-event c = λ _.
       said_is = c.of.ensures ∙ ap stepped_by (sym c.took-said.ensures.answer) ∙ ap (λ k. says k (order_of machine) (shown machine) c.make_step-got.result) heap
           ∙ ap (λ order. says bundle.config order (shown machine) c.make_step-got.result) (sym given) ∙ ap (λ x. says bundle.config (order_at bundle c.args.number) x c.make_step-got.result) (sym at);
       greyed = ap (λ x. slice_set bundle.greyed.items c.args.number x) (c.greys-greyed.ensures.row ∙ ap greys_of (sym at));
-      orders = kept-set order_of bundle.machines.items c.args.number (Some n) ∙ ap (λ o. slice_set (kept_in_view order_of bundle.machines.items) c.args.number (Some o)) c.took-said.ensures.order;
+      orders = kept-set order_of bundle.machines.items c.args.number (Some said) ∙ ap (λ o. slice_set (kept_in_view order_of bundle.machines.items) c.args.number (Some o)) c.took-said.ensures.order;
     }
 
 pub returns-clause-same : goal.returns-clause-same
@@ -252,6 +252,6 @@ returns-clause-replied c = λ is none.
     let machine = c.in-Some.machine.now in
     let inside = within shown bundle.machines.items c.args.number c.requires.here in
     let here = read_here shown bundle.machines.items c.args.number c.index_mut.result.now machine inside c.index_mut.ensures.value (sym c.as_mut.ensures.value ∙ ap option_copied_mut c.in-Some.is) in
-    let n = c.took-said.new.self in
+    let said = c.took-said.new.self in
     c.took-said.ensures.replied (done_only c.took-said.result (sym c.of.ensures ∙ is))
-    (sym (ap reply_in (shows_as shown (slice_set bundle.machines.items c.args.number (Some n)) c.args.number n no_machine (put_there shown bundle.machines.items c.args.number machine n here))) ∙ none)
+    (sym (ap reply_in (shows_as shown (slice_set bundle.machines.items c.args.number (Some said)) c.args.number said no_machine (put_there shown bundle.machines.items c.args.number machine said here))) ∙ none)

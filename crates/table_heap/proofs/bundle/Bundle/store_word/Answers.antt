@@ -29,8 +29,8 @@ use Rattle.table_heap.proofs.bundle.Bundle.store_word.Goals as goal
 
 -- the machine in memory has words left
 left_here : (bundle : Bundle) (number : ℕ) (machine : Machine) → machine_of bundle.machines.items number ≡ Some machine → 0 < stores_left bundle.config (State.machine_at bundle number) → 0 < stores_left (config_of machine) (shown machine)
-left_here bundle number machine here some =
-    subst (λ n. 0 < n) (ap (stores_left bundle.config) (shows_as shown bundle.machines.items number machine no_machine here) ∙ ap (λ k. stores_left k (shown machine)) (sym (bundle.of_heap number machine here).heap)) some
+left_here bundle number machine here positive =
+    subst (λ n. 0 < n) (ap (stores_left bundle.config) (shows_as shown bundle.machines.items number machine no_machine here) ∙ ap (λ k. stores_left k (shown machine)) (sym (bundle.of_heap number machine here).heap)) positive
 
 pub index_mut-requires : goal.index_mut-requires
 index_mut-requires c = let inside = within shown c.args.self.now.machines.items c.args.number c.requires.here in omega arith

@@ -25,7 +25,7 @@ returns-clause-run c all =
     } in
     let counted : HasAllMachines (length (table_start key).machines) gathered.seat.me.0 =
     subst (λ (key : HeapKey). HasAllMachines (length (table_start key).machines) gathered.seat.me.0) (sym heap.table_key)
-    (subst (λ n. HasAllMachines n gathered.seat.me.0) (sym (length-map (start_of_key heap.key).machines at_start)) (all_counted (length (start_of_key heap.key).machines) gathered.seat.me.0 whole)) in
+    (subst (λ count. HasAllMachines count gathered.seat.me.0) (sym (length-map (start_of_key heap.key).machines at_start)) (all_counted (length (start_of_key heap.key).machines) gathered.seat.me.0 whole)) in
     let run = c.read_run.ensures.run counted in
     record {
       words = run.words;

@@ -24,7 +24,7 @@ close_table-rows-requires-clause-all c =
     let bundle = c.args.bundle in
     let key : bundle.key.value ≡ c.args.self.table.shared.key = c.requires.heap.key ∙ sym c.args.self.table_key in
     subst (λ (key : HeapKey). HasAllMachines (length (table_start key).machines) bundle.seat.me.0) key
-    (subst (λ n. HasAllMachines n bundle.seat.me.0) (sym (length-map (start_of_key bundle.key.value).machines at_start))
+    (subst (λ count. HasAllMachines count bundle.seat.me.0) (sym (length-map (start_of_key bundle.key.value).machines at_start))
     (all_counted (length (start_of_key bundle.key.value).machines) bundle.seat.me.0
     (view_is_whole bundle.key.value bundle.config bundle.same_sizes (view_of bundle) (kept_in_view shown bundle.machines.items) bundle.kept (length-kept shown bundle.machines.items ∙ bundle.seats) c.requires.all)))
 

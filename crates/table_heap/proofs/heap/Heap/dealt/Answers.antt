@@ -1,10 +1,11 @@
 use Rattle.std.proofs.Common.{◌+◌, not, [], ◌∷◌, length, sym, ap, ◌∙◌, arith}
 use Rattle.std.specs.Prelude.{slice_get}
 use Rattle.std.proofs.lemmas.List.{length-append}
+use Rattle.shen_graph.proofs.Lists.{each_with}
 use Rattle.shared_table.specs.Views.{View, machine_of, whole, machines_left, is_dealt_to, dealt_to}
 use Rattle.step_core.specs.Actor.{Actor}
 use Rattle.table_heap.specs.State.{start_of_heap, IsFresh, orders_of, steps_of, greyed_of}
-use Rattle.table_heap.proofs.Opened.{picked_some, left_first, dealt_next, left_next, each_more}
+use Rattle.table_heap.proofs.Opened.{picked_some, left_first, dealt_next, left_next}
 use Rattle.table_heap.proofs.Thieves.{none_changed, config_still, in_more, fresh_still, more_shared}
 use Rattle.table_heap.proofs.heap.Heap.dealt.Goals as goal
 
@@ -18,7 +19,7 @@ loop-bundle-init c =
       steps = fresh.steps;
       greyed = fresh.greyed;
       count = ap length c.in-Ok.ensures.items;
-      each = λ k b there. absurd (let none = ap (λ xs. slice_get xs k) c.in-Ok.ensures.items in cc);
+      each = λ index b there. absurd (let none = ap (λ xs. slice_get xs index) c.in-Ok.ensures.items in cc);
     }
 
 pub deal-requires-clause-heap : goal.deal-requires-clause-heap
@@ -40,7 +41,7 @@ loop-bundle-preserved c =
           l.invariant.greyed number address (picked_some (λ k. not (is_dealt_to c.args.workers l.bundle k)) (greyed_of l.all) number address (ap (λ v. machine_of v number) (sym dealt.left.3) ∙ there));
       count = ap length c.in-Ok-push.ensures.items ∙ length-append l.bundles.items (c.in_ok-dealt.dealt ∷ []) ∙ ap (λ n. n + 1) l.invariant.count;
       each = λ k b there.
-          each_more (λ j x. IsFresh c.args.heap x (dealt_to c.args.workers j all)) l.bundles.items c.in_ok-dealt.dealt l.bundle l.invariant.count l.invariant.each
+          each_with (λ j bundle. IsFresh c.args.heap bundle (dealt_to c.args.workers j all)) l.bundles.items c.in_ok-dealt.dealt l.bundle l.invariant.count l.invariant.each
           (record {
             of = dealt.dealt.0;
             machines = dealt.dealt.1 ∙ ap (dealt_to c.args.workers l.bundle) l.invariant.view ∙ dealt_next c.args.workers all l.bundle;

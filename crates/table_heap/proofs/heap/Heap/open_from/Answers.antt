@@ -59,5 +59,5 @@ returns-clause-bundles c =
     let left : Left = record { words = c.of.result; counts = c.of-2.result } in
     let start = c.in_ok-heap.ensures.key ∙ left_start c.config-config.result left c.args.image c.args.counts.items c.config-config.ensures (ap (λ v. v.items) c.of.ensures ∙ c.in_ok-words.ensures) (ap (λ v. v.items) c.of-2.ensures) in
     IfOk-weaker c.dealt.result _ _
-    (λ t fresh k b there. subst (λ (stage : Stage Actor). IsFresh t.0 b (dealt_to c.args.workers k (whole stage.machines))) start (fresh k b there))
+    (λ t fresh k bundle there. subst (λ (stage : Stage Actor). IsFresh t.0 bundle (dealt_to c.args.workers k (whole stage.machines))) start (fresh k bundle there))
     c.dealt.ensures.bundles

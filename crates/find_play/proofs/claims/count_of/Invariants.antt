@@ -1,7 +1,0 @@
-use Rattle.std.proofs.Common.{◌≡◌, ◌≤◌, take}
-use Rattle.std.specs.Prelude.{count_by}
-use Rattle.find_play.specs.Claims.{is_such}
-use Rattle.find_play.proofs.claims.count_of.Given as goal
-
-abbrev pub invariant-loop-note : goal.invariant-loop-note
-invariant-loop-note l = (l.count ≡ count_by (is_such l.wanted) (take l.note-index l.notes)) × (l.count ≤ l.note-index)

@@ -1,6 +1,0 @@
-use Rattle.std.proofs.Common.{◌≡◌, take}
-use Rattle.shen_graph.specs.Found.{with_names}
-use Rattle.shen_graph.proofs.plain_graph.add_names.Given as goal
-
-abbrev pub invariant-loop-reference : goal.invariant-loop-reference
-invariant-loop-reference l = l.found.items ≡ with_names l.initial.found.items (take l.reference-index l.references)
