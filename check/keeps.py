@@ -22,7 +22,7 @@ PAGE = os.path.join(TOP, "docs", "INVARIANTS.md")
 # The crates whose code makes the accesses of the heap's machines.
 MACHINES = "alloc_buffers collector_rows evac_room handshake load_barrier mutator regions satb_barrier unit_part".split()
 LINE = re.compile(r"^\s*// keeps (.*)$")
-WRITE = re.compile(r"\bAccess::(?:store|swap|exchange|and|or|add|sub)\(")
+WRITE = re.compile(r"\bAccess::(?:store|swap|exchange|and|or|add|sub)\(|\bAccess::(?:Store|Swap|Exchange|And|Or|Add|Sub) \{")
 NAME = re.compile(r"([A-Za-z]\w*(?:\.\w+)?)(?: of (\w+))?")
 PAGE_NAME = re.compile(r"`([A-Za-z]\w*(?:\.\w+)?)`(?: of `(\w+)`)?")
 HEAD = re.compile(r"^\*\*[^*]+\*\* \(([^)]*)\)\.", re.M)
