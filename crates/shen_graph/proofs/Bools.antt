@@ -23,7 +23,7 @@ pub true_if_not_false : (holds : Bool) → (holds ≡ false → ⊥) → holds �
 true_if_not_false true other = refl
 true_if_not_false false other = absurd (other refl)
 
--- what is false where the other is true
+-- it is false where its flip is true
 pub false_from_flip : (ended : Bool) → (if ended then false else true) ≡ true → ended ≡ false
 false_from_flip true goes = absurd (false≢true goes)
 false_from_flip false goes = refl
@@ -38,7 +38,7 @@ pub either_is : (holds : Bool) (x y n : ℕ) → x ≡ n → y ≡ n → (if hol
 either_is true x y n one other = one
 either_is false x y n one other = other
 
--- what is not is not false is true
+-- where the negation is false it is true
 pub true_from_not : (holds : Bool) → not holds ≡ false → holds ≡ true
 true_from_not true is = refl
 true_from_not false is = absurd (true≢false is)
