@@ -168,7 +168,7 @@ fn give_up_all(alloc: Global, handles: &mut [Handle])
 
 // One seat more, if there is one.
 fn with_next(gathering: Gathering, seat: Option<Box<Seat>>) -> Gathering
-    ensures { (before : List Seats) → AreGathered before gathering → AreGathered (before ++ closed.seat_in (option_map (λ b. b.value) seat)) result }
+    ensures { (before : List Seats) → AreGathered before gathering → AreGathered (before ++ closed.seat_in (option_map (λ boxed_seat. boxed_seat.value) seat)) result }
 {
     match seat {
         Some(seat) => gathering.with(Box::into_inner(seat)),

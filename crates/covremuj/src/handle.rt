@@ -23,7 +23,7 @@ pub struct Handle {
 }
 
 impl Model for Handle {
-    ghost also_owns = { λ h. held_owns h.at h.alloc h.held };
+    ghost also_owns = { λ handle. held_owns handle.at handle.alloc handle.held };
 }
 
 impl Handle {

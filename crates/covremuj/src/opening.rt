@@ -66,7 +66,7 @@ fn any_open(alloc: Global, handles: &mut [Handle]) -> bool
 
 // Seats, each in a box, the last one first.
 pub(crate) fn boxed(alloc: Global, mut seats: Vec<Seat>) -> Result<Vec<Box<Seat>>, NoMemory>
-    ensures { IfOk result (λ boxes. reverse (map (λ b. b.value) boxes.items) ≡ seats.items) }
+    ensures { IfOk result (λ boxes. reverse (map (λ boxed_seat. boxed_seat.value) boxes.items) ≡ seats.items) }
 {
     let Ok(mut boxes) = Vec::with_capacity(alloc, seats.len()) else {
         return Err(NoMemory);
@@ -85,7 +85,7 @@ pub(crate) fn boxed(alloc: Global, mut seats: Vec<Seat>) -> Result<Vec<Box<Seat>
 // Puts each seat into its handle: the last one of the list into the first.
 pub(crate) fn fill_all(handles: &mut [Handle], mut seats: Vec<Box<Seat>>)
     requires { length handles.old ≡ length seats.items }
-    ensures { seats_held handles.new ≡ map Some (reverse (map (λ b. b.value) seats.items)) }
+    ensures { seats_held handles.new ≡ map Some (reverse (map (λ boxed_seat. boxed_seat.value) seats.items)) }
 {
     for at in 0..handles.len() {
         let Some(seat) = seats.pop() else {

@@ -86,8 +86,8 @@ fn give_up(alloc: Global, handles: &mut [Handle]) -> Option<Closing>
 
 // One seat more that is given up, if there is one, which is of the same heap.
 fn with_seat(closing: Option<Closing>, seat: Option<Box<Seat>>) -> Option<Closing>
-    requires { IsOfThatHeap closing (option_map (λ b. b.value) seat) }
-    ensures { (before : List Seats) → AreGivenIn before closing → AreAbsent before (option_map (λ b. b.value) seat) → AreGivenIn (before ++ seat_in (option_map (λ b. b.value) seat)) result }
+    requires { IsOfThatHeap closing (option_map (λ boxed_seat. boxed_seat.value) seat) }
+    ensures { (before : List Seats) → AreGivenIn before closing → AreAbsent before (option_map (λ boxed_seat. boxed_seat.value) seat) → AreGivenIn (before ++ seat_in (option_map (λ boxed_seat. boxed_seat.value) seat)) result }
 {
     let Some(seat) = seat else {
         return closing;

@@ -120,7 +120,7 @@ fn added(live: &[u64], candidates: u64, region: usize, other: usize) -> u64
 fn live_up_to(config: Config, live: &[u64], candidates: u64, region: usize) -> u64
     requires region { region < config.regions }
     requires long { length live.now ≡ 64 }
-    requires small { (r : ℕ) → r < 64 → slice_index live.now r ≤ most_live }
+    requires small { (any_region : ℕ) → any_region < 64 → slice_index live.now any_region ≤ most_live }
     ensures { result ≡ up_to live.now candidates config.regions region }
 {
     let mut words = 0;
@@ -134,7 +134,7 @@ fn live_up_to(config: Config, live: &[u64], candidates: u64, region: usize) -> u
 fn is_taken(config: Config, live: &[u64], candidates: u64, limit: u64, region: usize) -> bool
     requires region { region < config.regions }
     requires long { length live.now ≡ 64 }
-    requires small { (r : ℕ) → r < 64 → slice_index live.now r ≤ most_live }
+    requires small { (any_region : ℕ) → any_region < 64 → slice_index live.now any_region ≤ most_live }
     ensures { result ≡ ((bit_at candidates region == 1) && nat_le (up_to live.now candidates config.regions region) limit) }
 {
     if !is_in(candidates, region) {

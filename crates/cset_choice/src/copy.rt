@@ -21,7 +21,7 @@ fn has_room(image: &Image, region: usize, words: u64) -> bool
     requires region { region < (config_of image.now).regions }
     requires within { AreWithin (config_of image.now) (memory_of image.now) }
     requires some { 0 < words }
-    ensures { result ≡ nat_le (tops_outside (config_of image.now).region_words (memory_of image.now Cset) (λ r. memory_of image.now (Top r)) region + words) (config_of image.now).region_words }
+    ensures { result ≡ nat_le (tops_outside (config_of image.now).region_words (memory_of image.now Cset) (λ any_region. memory_of image.now (Top any_region)) region + words) (config_of image.now).region_words }
 {
     let config = image.config();
     if is_in(image.word(config.cset_at()), region) {
@@ -34,7 +34,7 @@ fn has_room(image: &Image, region: usize, words: u64) -> bool
 fn room_outside(image: &Image, words: u64) -> Option<usize>
     requires within { AreWithin (config_of image.now) (memory_of image.now) }
     requires some { 0 < words }
-    ensures { result ≡ lowest_room (config_of image.now).region_words (tops_outside (config_of image.now).region_words (memory_of image.now Cset) (λ r. memory_of image.now (Top r))) words (config_of image.now).regions }
+    ensures { result ≡ lowest_room (config_of image.now).region_words (tops_outside (config_of image.now).region_words (memory_of image.now Cset) (λ region. memory_of image.now (Top region))) words (config_of image.now).regions }
 {
     for region in 0..image.config().regions() {
         if has_room(image, region, words) {

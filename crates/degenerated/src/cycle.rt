@@ -35,7 +35,7 @@ fn free_or_fill(image: &mut Image, region: usize)
     requires can { is_to_stay (config_of image.old) (memory_of image.old) region ≡ true → CanFill (config_of image.old) (memory_of image.old) region }
     ensures config { config_of image.new ≡ config_of image.old }
     ensures spares { is_chosen (memory_of image.old) region ≡ false → memory_of image.new ≡ memory_of image.old }
-    ensures fills { is_to_stay (config_of image.old) (memory_of image.old) region ≡ true → memory_of image.new ≡ filled_in (config_of image.old) (λ r. r == region) (has_moved (memory_of image.old)) (memory_of image.old) }
+    ensures fills { is_to_stay (config_of image.old) (memory_of image.old) region ≡ true → memory_of image.new ≡ filled_in (config_of image.old) (λ any_region. any_region == region) (has_moved (memory_of image.old)) (memory_of image.old) }
     ensures frees { is_to_free (config_of image.old) (memory_of image.old) region ≡ true → memory_of image.new ≡ freed_one region (memory_of image.old) }
 {
     if !is_in(image.word(image.config().cset_at()), region) {

@@ -157,7 +157,7 @@ impl Cast {
 
 /// The threads of a test behind a history. None where an entry of it is not the command that its thread is to give there.
 pub fn played(alloc: Global, test: &Test, history: &History) -> Result<Option<Cast>, NoMemory>
-    ensures some { IfOk result (λ o. IfSome o (λ cast. IsPlay test.now.programs.items test.now.bounds.returns (length test.now.notes) history.now.list (scene cast))) }
+    ensures some { IfOk result (λ found. IfSome found (λ cast. IsPlay test.now.programs.items test.now.bounds.returns (length test.now.notes) history.now.list (scene cast))) }
     ensures none { result ≡ Ok None → IsNoPlay test.now.programs.items test.now.bounds.returns (length test.now.notes) history.now.list }
 {
     let mut cast = Cast::open(alloc, test)?;

@@ -73,7 +73,7 @@ fn same_reply(a: Reply, b: Reply) -> bool
 
 // Whether no reply is such.
 fn is_never(history: &History, wanted: Wanted) -> bool
-    ensures { result ≡ list_all (λ e. not (fits wanted e.reply)) history.now.list }
+    ensures { result ≡ list_all (λ entry. not (fits wanted entry.reply)) history.now.list }
 {
     for at in 0..history.len() {
         if wanted.fits(history.entry(at).reply) {
@@ -230,7 +230,7 @@ pub fn broken(
     history: &History,
     graph: &GraphText,
 ) -> Result<Option<u64>, NoMemory>
-    ensures { IfOk result (λ o. o ≡ first_broken (record { notes = notes.now; history = history.now.list; rows = graph.now.rows; places = places_in graph.now.rows places.now }) claims.now) }
+    ensures { IfOk result (λ found. found ≡ first_broken (record { notes = notes.now; history = history.now.list; rows = graph.now.rows; places = places_in graph.now.rows places.now }) claims.now) }
 {
     let found = places_of(alloc, places, graph)?;
     let left = Traces {

@@ -23,7 +23,7 @@ pub fn tests_are_read_once()
 /// A law: bytes within the limit are a test, or are refused at a line for a cause; never both, and never at two lines or for two
 /// causes.
 pub fn bytes_are_a_test_or_refused()
-    ensures either { (bytes : List ℕ) → length bytes ≤ most_bytes → ((test : TestSaid) × IsTest bytes test) ⊎ ((n : ℕ) × (why : Said) × RefusesTest bytes n why) }
-    ensures never_both { (bytes : List ℕ) (test : TestSaid) (n : ℕ) (why : Said) → IsTest bytes test → RefusesTest bytes n why → ⊥ }
-    ensures once { (bytes : List ℕ) (n m : ℕ) (why other : Said) → RefusesTest bytes n why → RefusesTest bytes m other → (n ≡ m) × (why ≡ other) }
+    ensures either { (bytes : List ℕ) → length bytes ≤ most_bytes → ((test : TestSaid) × IsTest bytes test) ⊎ ((line_number : ℕ) × (why : Said) × RefusesTest bytes line_number why) }
+    ensures never_both { (bytes : List ℕ) (test : TestSaid) (line_number : ℕ) (why : Said) → IsTest bytes test → RefusesTest bytes line_number why → ⊥ }
+    ensures once { (bytes : List ℕ) (line_number other_line_number : ℕ) (why other_why : Said) → RefusesTest bytes line_number why → RefusesTest bytes other_line_number other_why → (line_number ≡ other_line_number) × (why ≡ other_why) }
 {}

@@ -117,7 +117,7 @@ fn take_value<'a>(
     slot: Slot,
     words: &'a [u8],
 ) -> Result<(Value, &'a [u8]), TestWhy>
-    ensures { result_map_both (λ x. (x.0, parts_behind 32 x.1.now)) (λ e. e) result ≡ take_value (told_in draft.now) kind slot (parts_behind 32 words.now) }
+    ensures { result_map_both (λ x. (x.0, parts_behind 32 x.1.now)) (λ why. why) result ≡ take_value (told_in draft.now) kind slot (parts_behind 32 words.now) }
 {
     match next_word(words) {
         None => match without_word(slot) {
@@ -159,8 +159,8 @@ fn name_in(words: &[u8]) -> &[u8]
 
 /// What the words behind the first say in a line of this kind.
 fn words_in<'a>(draft: &Draft, kind: LineKind, words: &'a [u8]) -> Result<Line<'a>, TestWhy>
-    ensures ok { IfOk result (λ l. words_behind (told_in draft.now) kind (parts_behind 32 words.now) ≡ Ok (l.kind, l.values)) }
-    ensures name { IfOk result (λ l. l.name.now ≡ slice_index_or (parts_behind 32 words.now) 0 []) }
+    ensures ok { IfOk result (λ line. words_behind (told_in draft.now) kind (parts_behind 32 words.now) ≡ Ok (line.kind, line.values)) }
+    ensures name { IfOk result (λ line. line.name.now ≡ slice_index_or (parts_behind 32 words.now) 0 []) }
     ensures err { IfErr result (λ why. words_behind (told_in draft.now) kind (parts_behind 32 words.now) ≡ Err why) }
 {
     if !draft.allows(kind) {
@@ -177,8 +177,8 @@ fn words_in<'a>(draft: &Draft, kind: LineKind, words: &'a [u8]) -> Result<Line<'
 
 /// What a line says behind the lines of a draft; or the first cause for which it is refused.
 pub(crate) fn line_in<'a>(draft: &Draft, text: &'a [u8]) -> Result<Line<'a>, TestWhy>
-    ensures ok { IfOk result (λ l. line_in (told_in draft.now) (parts 32 text.now) ≡ Ok (l.kind, l.values)) }
-    ensures name { IfOk result (λ l. l.name.now ≡ name_among (parts 32 text.now)) }
+    ensures ok { IfOk result (λ line. line_in (told_in draft.now) (parts 32 text.now) ≡ Ok (line.kind, line.values)) }
+    ensures name { IfOk result (λ line. line.name.now ≡ name_among (parts 32 text.now)) }
     ensures err { IfErr result (λ why. line_in (told_in draft.now) (parts 32 text.now) ≡ Err why) }
 {
     let (word, words) = cut(b' ', text);

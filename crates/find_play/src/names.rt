@@ -17,7 +17,7 @@ impl Model for Word {
 
     ghost Value = { List ℕ };
 
-    ghost view = { λ w. w.bytes.items };
+    ghost view = { λ word. word.bytes.items };
 }
 
 /// Names, counted from 0. Contracts see them as a list of lists of bytes.
@@ -31,7 +31,7 @@ impl Model for Names {
 
     ghost Value = { List (List ℕ) };
 
-    ghost view = { λ n. n.words.items };
+    ghost view = { λ names. names.words.items };
 }
 
 impl Names {

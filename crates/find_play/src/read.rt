@@ -26,7 +26,7 @@ use trace_reading::{TraceFault, Why, all_bytes, head_at, head_refusal, line_at};
 /// The fault of bytes that do not begin with the head of a test.
 fn bad_head(bytes: &[u8]) -> TestFault
     requires { HasNoHead bytes.now }
-    ensures { (n : ℕ) × (why : Cause) × (result ≡ TestFault.BadLine n (TestWhy.Trace why)) × StopsAt bytes.now n why }
+    ensures { (line_number : ℕ) × (why : Cause) × (result ≡ TestFault.BadLine line_number (TestWhy.Trace why)) × StopsAt bytes.now line_number why }
 {
     let refusal = head_refusal(bytes).unwrap();
     TestFault::BadLine {
@@ -39,7 +39,7 @@ fn bad_head(bytes: &[u8]) -> TestFault
 fn take_text(alloc: Global, draft: &mut Draft, line: u64, text: &[u8]) -> Result<(), TestFault>
     ensures ok { OnOk result (TestLineFollows (told_in draft.old) text.now (told_in draft.new)) }
     ensures fault { IfErr result IsLineFault }
-    ensures bad_line { (n : ℕ) (why : Said) → result ≡ Err (TestFault.BadLine n why) → (n ≡ line) × (line_in (told_in draft.old) (parts 32 text.now) ≡ Err why) }
+    ensures bad_line { (line_number : ℕ) (why : Said) → result ≡ Err (TestFault.BadLine line_number why) → (line_number ≡ line) × (line_in (told_in draft.old) (parts 32 text.now) ≡ Err why) }
 {
     match line_in(draft, text) {
         Ok(read) => match draft.take(alloc, read) {
@@ -61,7 +61,7 @@ fn take_line<'a>(
     ensures shorter { IfOk result (λ rest. length rest.now + 1 ≤ length bytes.now) }
     ensures ok { IfOk result (λ rest. HasToldLine (told_in draft.old) bytes.now rest.now (told_in draft.new)) }
     ensures fault { IfErr result IsLineFault }
-    ensures bad_line { (n : ℕ) (why : Said) → result ≡ Err (TestFault.BadLine n why) → (n ≡ line) × LineStops (told_in draft.old) (parts 10 bytes.now) why }
+    ensures bad_line { (line_number : ℕ) (why : Said) → result ≡ Err (TestFault.BadLine line_number why) → (line_number ≡ line) × LineStops (told_in draft.old) (parts 10 bytes.now) why }
 {
     match line_at(bytes) {
         Some((text, rest)) => {
@@ -80,7 +80,7 @@ fn take_lines(alloc: Global, draft: &mut Draft, bytes: &[u8]) -> Result<u64, Tes
     requires { length bytes.now ≤ most_bytes }
     ensures ok { IfOk result (λ line. HasToldLines (told_in draft.old) 4 bytes.now [] line (told_in draft.new)) }
     ensures fault { IfErr result IsLineFault }
-    ensures bad_line { (n : ℕ) (why : Said) → result ≡ Err (TestFault.BadLine n why) → StopsBehind (told_in draft.old) 4 bytes.now n why }
+    ensures bad_line { (line_number : ℕ) (why : Said) → result ≡ Err (TestFault.BadLine line_number why) → StopsBehind (told_in draft.old) 4 bytes.now line_number why }
 {
     let mut rest = bytes;
     let mut line = 4;
@@ -97,7 +97,7 @@ fn finish(config: Config, draft: Draft, line: u64) -> Result<Test, TestFault>
     ensures config { IfOk result (λ test. test.config ≡ config) }
     ensures version { IfOk result (λ test. test.version ≡ draft.version) }
     ensures threads { IfOk result (λ test. vec_len test.programs ≡ draft.threads) }
-    ensures bad_line { (n : ℕ) (why : Said) → result ≡ Err (TestFault.BadLine n why) → (n ≡ line) × (test_end_cause (told_in draft) [] ≡ Some why) }
+    ensures bad_line { (line_number : ℕ) (why : Said) → result ≡ Err (TestFault.BadLine line_number why) → (line_number ≡ line) × (test_end_cause (told_in draft) [] ≡ Some why) }
     ensures fault { IfErr result IsLineFault }
 {
     let whole = draft.is_whole();
@@ -124,7 +124,7 @@ fn body_of(alloc: Global, version: u32, config: Config, bytes: &[u8]) -> Result<
     ensures version { IfOk result (λ test. test.version ≡ version) }
     ensures config { IfOk result (λ test. test.config ≡ config) }
     ensures threads { IfOk result (λ test. vec_len test.programs ≡ config.mutators) }
-    ensures bad_line { (n : ℕ) (why : Said) → result ≡ Err (TestFault.BadLine n why) → StopsBehind (untold version config.mutators) 4 bytes.now n why }
+    ensures bad_line { (line_number : ℕ) (why : Said) → result ≡ Err (TestFault.BadLine line_number why) → StopsBehind (untold version config.mutators) 4 bytes.now line_number why }
     ensures fault { IfErr result IsLineFault }
 {
     let Ok(mut draft) = Draft::open(alloc, version, config.mutators()) else {
@@ -138,14 +138,14 @@ fn body_of(alloc: Global, version: u32, config: Config, bytes: &[u8]) -> Result<
 pub fn test_of(alloc: Global, bytes: &[u8]) -> Result<Test, TestFault>
     requires { length bytes.now ≤ most_bytes }
     ensures ok { IfOk result (λ test. IsTest bytes.now (test_said test)) }
-    ensures refused { (n : ℕ) (why : Said) → result ≡ Err (TestFault.BadLine n why) → RefusesTest bytes.now n why }
+    ensures refused { (line_number : ℕ) (why : Said) → result ≡ Err (TestFault.BadLine line_number why) → RefusesTest bytes.now line_number why }
     ensures head { IfOk result (λ test. (rest : List ℕ) × (bytes.now ≡ header test.version test.config ++ rest)) }
     ensures threads { IfOk result (λ test. vec_len test.programs ≡ test.config.mutators) }
     ensures fault { IfErr result IsLineFault }
 
     // Bytes without a head are refused where a trace would be, for the same cause.
-    ensures bad_head { HasNoHead bytes.now → (n : ℕ) × (why : Cause) × (result ≡ Err (TestFault.BadLine n (TestWhy.Trace why))) × StopsAt bytes.now n why }
-    ensures bad_line { (n : ℕ) (why : Said) → result ≡ Err (TestFault.BadLine n why) → IsTraceRefusal bytes.now n why }
+    ensures bad_head { HasNoHead bytes.now → (line_number : ℕ) × (why : Cause) × (result ≡ Err (TestFault.BadLine line_number (TestWhy.Trace why))) × StopsAt bytes.now line_number why }
+    ensures bad_line { (line_number : ℕ) (why : Said) → result ≡ Err (TestFault.BadLine line_number why) → IsTraceRefusal bytes.now line_number why }
 {
     match head_at(bytes) {
         Some((version, config, rest)) => body_of(alloc, version, config, rest),
@@ -159,16 +159,16 @@ pub fn read_test<S: Source>(alloc: Global, source: &mut S) -> Result<Test, TestF
     ensures ok { IfOk result (λ test. (bytes : List ℕ) × Came (S.left source.old) (S.left source.new) bytes × IsTest bytes (test_said test)) }
 
     // The bytes came whole, and are refused at that line and for that cause.
-    ensures refused { (n : ℕ) (why : Said) → result ≡ Err (TestFault.BadLine n why) → (bytes : List ℕ) × Came (S.left source.old) (S.left source.new) bytes × RefusesTest bytes n why }
+    ensures refused { (line_number : ℕ) (why : Said) → result ≡ Err (TestFault.BadLine line_number why) → (bytes : List ℕ) × Came (S.left source.old) (S.left source.new) bytes × RefusesTest bytes line_number why }
 
     ensures head { IfOk result (λ test. (bytes : List ℕ) × Came (S.left source.old) (S.left source.new) bytes × (rest : List ℕ) × (bytes ≡ header test.version test.config ++ rest)) }
     ensures threads { IfOk result (λ test. vec_len test.programs ≡ test.config.mutators) }
 
     // The bytes came whole; and where they have no head, a trace would be refused at that line and for that cause.
-    ensures bad_line { (n : ℕ) (why : Said) → result ≡ Err (TestFault.BadLine n why)
-        → (bytes : List ℕ) × Came (S.left source.old) (S.left source.new) bytes × (length bytes ≤ most_bytes) × IsTraceRefusal bytes n why }
+    ensures bad_line { (line_number : ℕ) (why : Said) → result ≡ Err (TestFault.BadLine line_number why)
+        → (bytes : List ℕ) × Came (S.left source.old) (S.left source.new) bytes × (length bytes ≤ most_bytes) × IsTraceRefusal bytes line_number why }
 
-    ensures too_long { (n : ℕ) → result ≡ Err (TestFault.TooLong n) → (n ≡ most_bytes + 1)
+    ensures too_long { (byte_count : ℕ) → result ≡ Err (TestFault.TooLong byte_count) → (byte_count ≡ most_bytes + 1)
         × ((bytes : List ℕ) × Consumes (S.left source.old) (S.left source.new) bytes × (length bytes ≡ most_bytes + 1)) }
     ensures read_fault { result ≡ Err TestFault.ReadFault → Rose (S.faults source.old) (S.faults source.new) }
     ensures faults_never_fall { S.faults source.old ≤ S.faults source.new }

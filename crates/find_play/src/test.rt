@@ -40,7 +40,7 @@ impl Model for Program {
 
     ghost Value = { List Statement };
 
-    ghost view = { λ p. p.statements.items };
+    ghost view = { λ program. program.statements.items };
 }
 
 impl Program {

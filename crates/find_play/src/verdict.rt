@@ -22,7 +22,7 @@ pub enum Verdict {
 
 // Whether no thread is at a command.
 fn are_over(cast: &Cast) -> bool
-    ensures over { result ≡ true → All (λ a. is_command a ≡ false) cast.now.acts }
+    ensures over { result ≡ true → All (λ act. is_command act ≡ false) cast.now.acts }
     ensures goes_on { result ≡ false → HasCommand cast.now.acts }
 {
     for number in 0..8 {
@@ -67,7 +67,7 @@ pub fn verdict_on(
     history: &History,
     graph: &GraphText,
 ) -> Result<Option<Verdict>, NoMemory>
-    ensures some { IfOk result (λ o. IfSome o (λ verdict. IsVerdictOn test.now.programs.items test.now.bounds.returns (length test.now.notes) test.now.places.items test.now.claims.items history.now.list graph.now.rows verdict)) }
+    ensures some { IfOk result (λ found. IfSome found (λ verdict. IsVerdictOn test.now.programs.items test.now.bounds.returns (length test.now.notes) test.now.places.items test.now.claims.items history.now.list graph.now.rows verdict)) }
     ensures none { result ≡ Ok None → HasNoVerdict test.now.programs.items test.now.bounds.returns (length test.now.notes) history.now.list }
 {
     let Some(cast) = played(alloc, test, history)? else {

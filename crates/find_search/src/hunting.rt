@@ -34,7 +34,7 @@ pub struct Hunted {
 
 // The trace of a schedule that was found, made short, where its replay breaks the test.
 fn break_of(alloc: Global, test: &Test, found: Found, steps: u64) -> Result<Option<Break>, NoMemory>
-    ensures { IfOk result (λ o. IfSome o (λ it. IsBreak test.now it.text.items steps it.verdict)) }
+    ensures { IfOk result (λ broken. IfSome broken (λ it. IsBreak test.now it.text.items steps it.verdict)) }
 {
     let Some(short) = shrink(alloc, test, found.items, found.verdict, test.bounds.steps)? else {
         return Ok(None);

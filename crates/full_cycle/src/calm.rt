@@ -46,7 +46,7 @@ fn set_if_empty(region: usize, top: u64) -> u64
 /// Makes the regions free whose top is 0, and no others.
 pub(crate) fn free_empty(image: &mut Image)
     ensures config { config_of image.new ≡ config_of image.old }
-    ensures words { memory_of image.new ≡ write (memory_of image.old) Free (empty_regions (λ r. memory_of image.old (Top r)) (config_of image.old).regions) }
+    ensures words { memory_of image.new ≡ write (memory_of image.old) Free (empty_regions (λ region. memory_of image.old (Top region)) (config_of image.old).regions) }
 {
     let config = image.config();
     let mut free = 0u64;

@@ -35,7 +35,7 @@ fn fill_if_pinned(image: &mut Image, region: usize)
     ensures places { places_of image.new ≡ places_of image.old }
     ensures found { found_of image.new ≡ found_of image.old }
     ensures marks { marks_of image.new ≡ marks_of image.old }
-    ensures words { memory_of image.new ≡ filled_in (config_of image.old) (λ r. (r == region) && is_pinned (config_of image.old) (memory_of image.old) r) (is_left_over (memory_of image.old) (found_of image.old) Leftover.NotFound) (memory_of image.old) }
+    ensures words { memory_of image.new ≡ filled_in (config_of image.old) (λ any_region. (any_region == region) && is_pinned (config_of image.old) (memory_of image.old) any_region) (is_left_over (memory_of image.old) (found_of image.old) Leftover.NotFound) (memory_of image.old) }
 {
     if image.is_pinned(region) {
         image.fill_leftovers(Leftover::NotFound, region);
@@ -44,7 +44,7 @@ fn fill_if_pinned(image: &mut Image, region: usize)
 
 /// Makes the objects of pinned regions that were not found words that only fill.
 pub(crate) fn fill_unkept(image: &mut Image)
-    requires can { (r : ℕ) → r < (config_of image.old).regions → is_pinned (config_of image.old) (memory_of image.old) r ≡ true → CanFill (config_of image.old) (memory_of image.old) r }
+    requires can { (region : ℕ) → region < (config_of image.old).regions → is_pinned (config_of image.old) (memory_of image.old) region ≡ true → CanFill (config_of image.old) (memory_of image.old) region }
     requires found { AreFound image.old }
     ensures config { config_of image.new ≡ config_of image.old }
     ensures places { places_of image.new ≡ places_of image.old }

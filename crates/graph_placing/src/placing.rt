@@ -37,7 +37,7 @@ pub fn place(alloc: Global, config: Config, text: &GraphText) -> Result<Placed, 
     ensures placed { IfOk result (λ placed. IfHeap placed (λ image. IsPlaced config text.now (memory_of image))) }
 
     // The words stand for any graph that has the text's objects and roots, and nothing pinned.
-    ensures stands { IfOk result (λ placed. IfHeap placed (λ image. (counts : List ℕ) (graph : Graph) → IsGraphOf config text.now counts graph → Represents config (memory_of image) graph (λ t. nothing))) }
+    ensures stands { IfOk result (λ placed. IfHeap placed (λ image. (counts : List ℕ) (graph : Graph) → IsGraphOf config text.now counts graph → Represents config (memory_of image) graph (λ mutator. nothing))) }
 {
     if !fits(config, text) {
         return Ok(Placed::TooSmall);

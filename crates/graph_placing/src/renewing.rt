@@ -53,7 +53,7 @@ pub fn renew(alloc: Global, config: Config, text: &GraphText) -> Result<Renewed,
     ensures counts { IfOk result (λ renewed. IfRenewed renewed (λ image counts. AreCountsOf (names_of text.now) config.mutators counts)) }
 
     // The words stand for the graph of the text whose objects are named anew.
-    ensures stands { IfOk result (λ renewed. IfRenewed renewed (λ image counts. Represents config (memory_of image) (text_graph (text_anew text.now) counts) (λ t. nothing))) }
+    ensures stands { IfOk result (λ renewed. IfRenewed renewed (λ image counts. Represents config (memory_of image) (text_graph (text_anew text.now) counts) (λ mutator. nothing))) }
 {
     if !is_unpinned(text) {
         return Ok(Renewed::Pinned);

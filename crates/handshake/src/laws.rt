@@ -31,8 +31,8 @@ pub fn rows_obey()
 pub fn mutators_are_counted<R, O>()
     ensures counted { (config : Config) (kind : MachineKind R O) (left : R → Bool) (stage : Stage R) (events : List (Event O))
         → AreLeftCounted config left stage → EachCounts config kind left stage events → AreLeftCounted config left (go kind stage events) }
-    ensures found { (config : Config) (left : R → Bool) (stage : Stage R) (number : ℕ) (r : R)
-        → AreLeftCounted config left stage → slice_get stage.machines number ≡ Some r → left r ≡ true → view config stage.words Left ≢ 0 }
+    ensures found { (config : Config) (left : R → Bool) (stage : Stage R) (number : ℕ) (machine : R)
+        → AreLeftCounted config left stage → slice_get stage.machines number ≡ Some machine → left machine ≡ true → view config stage.words Left ≢ 0 }
     ensures none_stays { (config : Config) (kind : MachineKind R O) (left : R → Bool) (stage : Stage R) (events : List (Event O))
         → AreLeftCounted config left stage → EachCounts config kind left stage events → view config stage.words Left ≡ 0 → view config (go kind stage events).words Left ≡ 0 }
 {}

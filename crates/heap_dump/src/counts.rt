@@ -15,7 +15,7 @@ impl Model for Counts {
 
     ghost Value = { List ℕ };
 
-    ghost view = { λ c. c.counts.items };
+    ghost view = { λ counts. counts.counts.items };
 }
 
 impl Counts {

@@ -34,9 +34,9 @@ impl Dump {
         graph: &GraphText,
     ) -> Result<Dump, NoMemory>
         requires { HasDump (dumped config counts graph.now) }
-        ensures is_dump { IfOk result (λ d. IsDump (dumped d.config d.counts d.graph)) }
-        ensures dump { IfOk result (λ d. IsDumpOf config (graph_in (dumped config counts graph.now)) (dumped d.config d.counts d.graph)) }
-        ensures pins { IfOk result (λ d. d.graph.pins ≡ replicate (length graph.now.roots) (replicate 4 None)) }
+        ensures is_dump { IfOk result (λ dump. IsDump (dumped dump.config dump.counts dump.graph)) }
+        ensures dump { IfOk result (λ dump. IsDumpOf config (graph_in (dumped config counts graph.now)) (dumped dump.config dump.counts dump.graph)) }
+        ensures pins { IfOk result (λ dump. dump.graph.pins ≡ replicate (length graph.now.roots) (replicate 4 None)) }
     {
         let Some(words) = words_in(graph) else {
             return Err(NoMemory);
@@ -55,7 +55,7 @@ impl Dump {
 
 // How many words of room the rows of a text take. None: more than a `usize` counts.
 fn words_in(graph: &GraphText) -> Option<usize>
-    ensures { MatchOption result (2 ^ 64 ≤ sum_by row_words graph.now.rows) (λ n. n ≡ sum_by row_words graph.now.rows) }
+    ensures { MatchOption result (2 ^ 64 ≤ sum_by row_words graph.now.rows) (λ words. words ≡ sum_by row_words graph.now.rows) }
 {
     let mut words: usize = 0;
     for row in 0..graph.rows() {

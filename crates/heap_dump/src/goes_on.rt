@@ -52,7 +52,7 @@ fn run(
     requires runnable { All IsRunnableAfter scripts.items }
     requires items { All (IsInSeats dump.now.config) schedule.now }
     ensures begins { IfOk result (λ ran. Begins dump.now.config (stage_from dump.now.config (images.words_of image) dump.now.counts) (graph_in (dumped dump.now.config dump.now.counts dump.now.graph))) }
-    ensures ended { IfOk result (λ ran. IfSome ran (λ x. HasEndedFrom dump.now.config (stage_from dump.now.config (images.words_of image) dump.now.counts) scripts.items schedule.now steps x.0 x.1)) }
+    ensures ended { IfOk result (λ ran. IfSome ran (λ ended. HasEndedFrom dump.now.config (stage_from dump.now.config (images.words_of image) dump.now.counts) scripts.items schedule.now steps ended.0 ended.1)) }
     ensures cut { result ≡ Ok None → IsLeftBusy dump.now.config (stage_from dump.now.config (images.words_of image) dump.now.counts) scripts.items schedule.now steps }
 {
     let Ok(mut work) = Work::of(alloc, scripts) else {

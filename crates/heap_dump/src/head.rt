@@ -33,7 +33,7 @@ fn take_version(bytes: &[u8]) -> Result<&[u8], TraceFault>
 
 /// The heap whose sizes a line spells, with one mutator.
 fn heap_in(text: &[u8]) -> Option<Config>
-    ensures { MatchOption result ((c : Sizes) → IsNarrow c → Spells text.now (heap_line c) → ⊥) (λ c. IsNarrow c × Spells text.now (heap_line c)) }
+    ensures { MatchOption result ((config : Sizes) → IsNarrow config → Spells text.now (heap_line config) → ⊥) (λ config. IsNarrow config × Spells text.now (heap_line config)) }
 {
     let rest = text_at(b"heap", text)?;
     let (sizes, rest) = numbers_at(&[64, 1024, 63], rest)?;
@@ -53,7 +53,7 @@ fn heap_in(text: &[u8]) -> Option<Config>
 /// The heap, with the mutators and helpers that a line spells.
 fn threads_in(heap: &Config, text: &[u8]) -> Option<Config>
     requires { IsNarrow heap.now }
-    ensures { MatchOption result ((c : Sizes) → IsHeapOf heap.now c → Spells text.now (threads_line c) → ⊥) (λ c. IsHeapOf heap.now c × Spells text.now (threads_line c)) }
+    ensures { MatchOption result ((config : Sizes) → IsHeapOf heap.now config → Spells text.now (threads_line config) → ⊥) (λ config. IsHeapOf heap.now config × Spells text.now (threads_line config)) }
 {
     let rest = text_at(b"threads", text)?;
     let (threads, rest) = numbers_at(&[8, 3], rest)?;
@@ -72,7 +72,7 @@ fn threads_in(heap: &Config, text: &[u8]) -> Option<Config>
 
 /// The configuration of a dump, and the bytes behind its first three lines.
 pub(crate) fn take_config(bytes: &[u8]) -> Result<(Config, &[u8]), TraceFault>
-    ensures ok { IfOk result (λ x. Leads Version bytes.now x.1.now 3 (CountsStage x.0)) }
+    ensures ok { IfOk result (λ taken. Leads Version bytes.now taken.1.now 3 (CountsStage taken.0)) }
     ensures err { IfErr result (IsStop Version 1 bytes.now) }
 {
     let rest = take_version(bytes)?;
@@ -102,8 +102,8 @@ pub(crate) fn take_counts(
     threads: usize,
     bytes: &[u8],
 ) -> Result<(Counts, &[u8]), TraceFault>
-    ensures ok { IfOk result (λ x. (c : Sizes) → c.mutators ≡ threads → Leads (CountsStage c) bytes.now x.1.now 1 (Listed (record { config = c; counts = x.0; rows = []; roots = [] }))) }
-    ensures err { IfErr result (λ e. (e ≡ TraceFault.NoMemory) ⊎ ((c : Sizes) → c.mutators ≡ threads → IsStop (CountsStage c) 4 bytes.now e)) }
+    ensures ok { IfOk result (λ taken. (config : Sizes) → config.mutators ≡ threads → Leads (CountsStage config) bytes.now taken.1.now 1 (Listed (record { config = config; counts = taken.0; rows = []; roots = [] }))) }
+    ensures err { IfErr result (λ fault. (fault ≡ TraceFault.NoMemory) ⊎ ((config : Sizes) → config.mutators ≡ threads → IsStop (CountsStage config) 4 bytes.now fault)) }
 {
     let (text, behind) = line_at(4, bytes)?;
     let Some(words) = text_at(b"counts", text) else {

@@ -66,9 +66,9 @@ pub fn dump_of(
     requires narrow { IsNarrow config }
     requires history { IsDumpable config history.now.list }
     requires graph { ShowsGraph graph.now config.mutators (after (opening config.mutators) history.now.list) }
-    ensures is_dump { IfOk result (λ d. IsDump (dumped d.config d.counts d.graph)) }
-    ensures dump { IfOk result (λ d. IsDumpOf config (after (opening config.mutators) history.now.list) (dumped d.config d.counts d.graph)) }
-    ensures counts { IfOk result (λ d. d.counts ≡ objects_made_by_each history.now.list config.mutators) }
+    ensures is_dump { IfOk result (λ dump. IsDump (dumped dump.config dump.counts dump.graph)) }
+    ensures dump { IfOk result (λ dump. IsDumpOf config (after (opening config.mutators) history.now.list) (dumped dump.config dump.counts dump.graph)) }
+    ensures counts { IfOk result (λ dump. dump.counts ≡ objects_made_by_each history.now.list config.mutators) }
 {
     let counts = counts_of(alloc, history, config.mutators())?;
     Dump::of(alloc, config, counts, graph)

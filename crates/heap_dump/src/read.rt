@@ -66,9 +66,9 @@ fn take_objects<'a>(
     requires few { 5 + length bytes.now < 2 ^ 64 }
     requires empty { graph.old.rows ≡ [] }
     requires room { separators bytes.now ≤ graph.old.spare }
-    ensures ok { IfOk result (λ x. HasTakenRows counts.now bytes.now x.1.now x.0 graph.old graph.new) }
-    ensures behind { IfOk result (λ x. NoObjectLine x.1.now) }
-    ensures err { IfErr result (λ e. (config : Sizes) → IsStop (Listed (listed config counts.now [] [])) 5 bytes.now e) }
+    ensures ok { IfOk result (λ taken. HasTakenRows counts.now bytes.now taken.1.now taken.0 graph.old graph.new) }
+    ensures behind { IfOk result (λ taken. NoObjectLine taken.1.now) }
+    ensures err { IfErr result (λ fault. (config : Sizes) → IsStop (Listed (listed config counts.now [] [])) 5 bytes.now fault) }
 {
     let mut rest = bytes;
     let mut lines = 0;
@@ -92,7 +92,7 @@ fn take_all_roots<'a>(
     requires few { first + length bytes.now < 2 ^ 64 }
     requires object { NoObjectLine bytes.now }
     ensures ok { IfOk result (λ rest. (all : List (List Reference)) × HasTakenRoots bytes.now rest.now (length graph.old.roots) graph.old graph.new all × (length all ≡ length graph.old.roots)) }
-    ensures err { IfErr result (λ e. (dump : Dumped) → dump.roots ≡ [] → dump.config.mutators ≡ length graph.old.roots → IsStop (Listed dump) first bytes.now e) }
+    ensures err { IfErr result (λ fault. (dump : Dumped) → dump.roots ≡ [] → dump.config.mutators ≡ length graph.old.roots → IsStop (Listed dump) first bytes.now fault) }
 {
     let mut rest = bytes;
     for mutator in 0..graph.mutators() {
@@ -116,7 +116,7 @@ fn take_mark<'a>(
     requires order { InOrder (names_of graph.now) }
     requires few { length graph.now.roots ≤ 8 }
     ensures ok { IfOk result (λ rest. (text : List ℕ) × (parts 10 bytes.now ≡ text ∷ parts 10 rest.now) × Spells text mark_line × IsReach (graph_from graph.now) (names_of graph.now)) }
-    ensures err { IfErr result (λ e. (e ≡ TraceFault.NoMemory) ⊎ ((dump : Dumped) → IsHeldDump dump graph.now → dump.roots ≢ [] → IsStop (Listed dump) line bytes.now e)) }
+    ensures err { IfErr result (λ fault. (fault ≡ TraceFault.NoMemory) ⊎ ((dump : Dumped) → IsHeldDump dump graph.now → dump.roots ≢ [] → IsStop (Listed dump) line bytes.now fault)) }
 {
     let (text, behind) = line_at(line, bytes)?;
     if text == b"trace".as_slice() {
@@ -133,11 +133,11 @@ fn take_mark<'a>(
 /// The dump and the trace that these bytes spell.
 fn resumed_of(alloc: Global, bytes: &[u8]) -> Result<Resumed, TraceFault>
     requires { length bytes.now ≤ most_bytes }
-    ensures version { IfOk result (λ r. r.trace.version ≡ run_version) }
-    ensures config { IfOk result (λ r. r.trace.config ≡ r.dump.config) }
-    ensures ok { IfOk result (λ r. Resumes bytes.now (dumped r.dump.config r.dump.counts r.dump.graph) r.trace.scripts r.trace.schedule) }
+    ensures version { IfOk result (λ resumed. resumed.trace.version ≡ run_version) }
+    ensures config { IfOk result (λ resumed. resumed.trace.config ≡ resumed.dump.config) }
+    ensures ok { IfOk result (λ resumed. Resumes bytes.now (dumped resumed.dump.config resumed.dump.counts resumed.dump.graph) resumed.trace.scripts resumed.trace.schedule) }
     ensures fault { IfErr result IsTextFault }
-    ensures bad_line { (n : ℕ) (why : Cause) → result ≡ Err (TraceFault.BadLine n why) → DumpRefused bytes.now n why }
+    ensures bad_line { (line_number : ℕ) (why : Cause) → result ≡ Err (TraceFault.BadLine line_number why) → DumpRefused bytes.now line_number why }
 {
     let (config, rest) = take_config(bytes)?;
     let (counts, rest) = take_counts(alloc, config.mutators(), rest)?;
@@ -162,15 +162,15 @@ fn resumed_of(alloc: Global, bytes: &[u8]) -> Result<Resumed, TraceFault>
 /// Reads a dump, the line `trace`, and the lines of commands and of a schedule that are to run from it. It reads to the end of the source, or until one
 /// byte more came than these may have together, and then looks at the lines.
 pub fn read_dump<S: Source>(alloc: Global, source: &mut S) -> Result<Resumed, TraceFault>
-    ensures version { IfOk result (λ r. r.trace.version ≡ run_version) }
-    ensures config { IfOk result (λ r. r.trace.config ≡ r.dump.config) }
-    ensures ok { IfOk result (λ r. (bytes : List ℕ) × Came (S.left source.old) (S.left source.new) bytes
-        × Resumes bytes (dumped r.dump.config r.dump.counts r.dump.graph) r.trace.scripts r.trace.schedule) }
+    ensures version { IfOk result (λ resumed. resumed.trace.version ≡ run_version) }
+    ensures config { IfOk result (λ resumed. resumed.trace.config ≡ resumed.dump.config) }
+    ensures ok { IfOk result (λ resumed. (bytes : List ℕ) × Came (S.left source.old) (S.left source.new) bytes
+        × Resumes bytes (dumped resumed.dump.config resumed.dump.counts resumed.dump.graph) resumed.trace.scripts resumed.trace.schedule) }
 
     // The bytes came whole, and are refused at that line and for that cause.
-    ensures bad_line { (n : ℕ) (why : Cause) → result ≡ Err (TraceFault.BadLine n why) → (bytes : List ℕ) × Came (S.left source.old) (S.left source.new) bytes × DumpRefused bytes n why }
+    ensures bad_line { (line_number : ℕ) (why : Cause) → result ≡ Err (TraceFault.BadLine line_number why) → (bytes : List ℕ) × Came (S.left source.old) (S.left source.new) bytes × DumpRefused bytes line_number why }
 
-    ensures too_long { (n : ℕ) → result ≡ Err (TraceFault.TooLong n) → (n ≡ most_bytes + 1)
+    ensures too_long { (byte_count : ℕ) → result ≡ Err (TraceFault.TooLong byte_count) → (byte_count ≡ most_bytes + 1)
         × ((bytes : List ℕ) × Consumes (S.left source.old) (S.left source.new) bytes × (length bytes ≡ most_bytes + 1)) }
     ensures read_fault { result ≡ Err TraceFault.ReadFault → Rose (S.faults source.old) (S.faults source.new) }
     ensures faults_never_fall { S.faults source.old ≤ S.faults source.new }

@@ -20,7 +20,7 @@ const NOBODY: Name = Name {
 /// The number that these digits spell, if a u32 holds it.
 fn small(digits: &[u8]) -> Option<u32>
     requires { AllDigits 10 digits.now }
-    ensures { MatchOption result (2 ^ 32 ≤ digits_value 10 digits.now) (λ n. n ≡ digits_value 10 digits.now) }
+    ensures { MatchOption result (2 ^ 32 ≤ digits_value 10 digits.now) (λ number. number ≡ digits_value 10 digits.now) }
 {
     let value = value_of(digits)?;
     if value <= u64::from(u32::MAX) {
@@ -44,7 +44,7 @@ fn name_of(thread: &[u8], count: &[u8]) -> Name
 
 /// The reference that a word spells: a dash for null, and two numbers with a dot between for a name.
 pub(crate) fn reference_in(word: &[u8]) -> Option<Option<Name>>
-    ensures { MatchOption result ((reference : Reference) → IsDumpReference word.now reference → ⊥) (λ x. (reference : Reference) × IsDumpReference word.now reference × (x ≡ held reference)) }
+    ensures { MatchOption result ((reference : Reference) → IsDumpReference word.now reference → ⊥) (λ spelled. (reference : Reference) × IsDumpReference word.now reference × (spelled ≡ held reference)) }
 {
     if word == b"-".as_slice() {
         return Some(None);
@@ -74,7 +74,7 @@ fn is_named(counts: &[u32], name: Name) -> bool
 /// The name of an object, of threads that made so many, that a word spells.
 pub(crate) fn name_in(counts: &[u32], word: &[u8]) -> Option<Name>
     requires { length counts.now ≤ 8 }
-    ensures { MatchOption result ((n : Named) → IsNamed counts.now n → word.now ≢ name_word n) (λ n. IsNamed counts.now n × (word.now ≡ name_word n)) }
+    ensures { MatchOption result ((name : Named) → IsNamed counts.now name → word.now ≢ name_word name) (λ name. IsNamed counts.now name × (word.now ≡ name_word name)) }
 {
     let name = reference_in(word)??;
     if is_named(counts, name) {

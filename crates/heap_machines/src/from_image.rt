@@ -50,8 +50,8 @@ fn machine_at(config: Config, counts: &[u32], number: usize) -> Machine
 pub fn machines_from(alloc: Global, image: Image, counts: &[u32]) -> Result<Vec<Machine>, NoMemory>
     requires { length counts.now ≡ (config_of image).mutators }
     ensures machines { IfOk result (λ machines. map shown machines.items ≡ map (machine_from (config_of image) counts.now (memory_of image)) (range_with_len 0 (seat_count (config_of image).mutators (config_of image).helpers))) }
-    ensures heap { IfOk result (λ machines. All (λ m. machine_config m ≡ config_of image) machines.items) }
-    ensures orders { IfOk result (λ machines. All (λ m. order_of m ≡ Nothing) machines.items) }
+    ensures heap { IfOk result (λ machines. All (λ machine. machine_config machine ≡ config_of image) machines.items) }
+    ensures orders { IfOk result (λ machines. All (λ machine. order_of machine ≡ Nothing) machines.items) }
 {
     let config = image.config();
     let mut machines = Vec::new(alloc);

@@ -51,9 +51,9 @@ impl Machine {
 
     /// The machine of a number, as a heap begins with it. The error is that memory for the control's image was refused.
     pub fn open(alloc: Global, config: Config, number: usize) -> Result<Machine, NoMemory>
-        ensures shown { IfOk result (λ m. shown m ≡ opening_machine config number) }
-        ensures heap { IfOk result (λ m. config_of m ≡ config) }
-        ensures order { IfOk result (λ m. order_of m ≡ Order.Nothing) }
+        ensures shown { IfOk result (λ machine. shown machine ≡ opening_machine config number) }
+        ensures heap { IfOk result (λ machine. config_of machine ≡ config) }
+        ensures order { IfOk result (λ machine. order_of machine ≡ Order.Nothing) }
     {
         if number < config.mutators() {
             Ok(Machine::Mutator(Mutator::new(config, number)))

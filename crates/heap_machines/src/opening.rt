@@ -12,8 +12,8 @@ use std::alloc::Global;
 /// The machines of a heap before the first event, by their numbers. The error is that memory for them was refused.
 pub fn open_machines(alloc: Global, config: Config) -> Result<Vec<Machine>, NoMemory>
     ensures machines { IfOk result (λ machines. map shown machines.items ≡ map (opening_machine config) (range_with_len 0 (seat_count config.mutators config.helpers))) }
-    ensures heap { IfOk result (λ machines. All (λ m. config_of m ≡ config) machines.items) }
-    ensures orders { IfOk result (λ machines. All (λ m. order_of m ≡ Nothing) machines.items) }
+    ensures heap { IfOk result (λ machines. All (λ machine. config_of machine ≡ config) machines.items) }
+    ensures orders { IfOk result (λ machines. All (λ machine. order_of machine ≡ Nothing) machines.items) }
 {
     let mut machines = Vec::new(alloc);
     for number in 0..config.seats() {

@@ -49,7 +49,7 @@ fn seated(
 ) -> Result<Vec<Seat>, NoMemory>
     requires config { config_of heap ≡ config }
     requires count { length bundles.items ≡ seat_count config.mutators config.helpers }
-    requires bundles { (k : ℕ) (b : Bundles) → slice_get bundles.items k ≡ Some b → IsFresh heap b (dealt_to (seat_count config.mutators config.helpers) k (whole (start_of_heap heap).machines)) }
+    requires bundles { (bundle_number : ℕ) (bundle : Bundles) → slice_get bundles.items bundle_number ≡ Some bundle → IsFresh heap bundle (dealt_to (seat_count config.mutators config.helpers) bundle_number (whole (start_of_heap heap).machines)) }
     requires begins { ∥ BeginsRenewable config (start_of_heap heap) ∥₁ }
     ensures { IfOk result (λ seats. AreFreshSeats config (start_of_heap heap) seats.items) }
 {

@@ -52,7 +52,7 @@ fn image_of(alloc: Global, plain: &Plain) -> Result<Image, Fail>
     requires rest { is_resting (machine_at plain.now 0) ≡ true }
     requires control { machine_at plain.now 1 ≡ fresh_control (first_free (config_of plain.now).regions) }
     ensures config { IfOk result (λ image. images.config_of image ≡ config_of plain.now) }
-    ensures stands { IfOk result (λ image. ∥ ((graph : Graph) × Represents (config_of plain.now) (images.memory_of image) graph (λ t. nothing) × (graph.count 1 ≡ made_of_machine (machine_at plain.now 0))) ∥₁) }
+    ensures stands { IfOk result (λ image. ∥ ((graph : Graph) × Represents (config_of plain.now) (images.memory_of image) graph (λ mutator. nothing) × (graph.count 1 ≡ made_of_machine (machine_at plain.now 0))) ∥₁) }
 {
     let config = plain.config();
     let mut image = Image::open(alloc, config)?;
@@ -66,7 +66,7 @@ fn image_of(alloc: Global, plain: &Plain) -> Result<Image, Fail>
 // not ended.
 fn goes_on(alloc: Global, mut image: Image, made: u32) -> Result<Plain, Fail>
     requires seats { ((images.config_of image).mutators ≡ 1) × ((images.config_of image).helpers ≡ 0) }
-    requires stands { ∥ ((graph : Graph) × Represents (images.config_of image) (images.memory_of image) graph (λ t. nothing) × (graph.count 1 ≡ made)) ∥₁ }
+    requires stands { ∥ ((graph : Graph) × Represents (images.config_of image) (images.memory_of image) graph (λ mutator. nothing) × (graph.count 1 ≡ made)) ∥₁ }
     ensures config { IfOk result (λ plain. config_of plain ≡ images.config_of image) }
     ensures rest { IfOk result (λ plain. may_begin (machine_at plain 0) ≡ true) }
     ensures made { IfOk result (λ plain. made_of_machine (machine_at plain 0) ≡ made) }

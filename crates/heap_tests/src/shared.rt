@@ -36,7 +36,7 @@ fn turn(heap: &Heap, bundle: &mut Bundle, work: &mut Work, number: usize, betwee
     requires between { between ≡ true → may_begin (machine_at bundle.old number) ≡ true }
     ensures same { IsSameBundle bundle.old bundle.new }
     ensures work { AreAtWork bundle.new work.new }
-    ensures others { (k : ℕ) → k ≢ number → machine_at bundle.new k ≡ machine_at bundle.old k }
+    ensures others { (other : ℕ) → other ≢ number → machine_at bundle.new other ≡ machine_at bundle.old other }
     ensures done { result ≡ Stepped.Done → may_begin (machine_at bundle.new number) ≡ true }
 {
     order(bundle, work, number, between);

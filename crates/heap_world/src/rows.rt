@@ -74,10 +74,10 @@ fn add_object(first: u64, heap: &[u64], address: u64, text: &mut GraphText)
 
 // Adds the row of the object at each of some addresses.
 fn add_objects(first: u64, heap: &[u64], order: &[u32], text: &mut GraphText)
-    requires above { All (λ a. first ≤ a) order.now }
-    requires below { All (λ a. a + size_at heap.now (a - first) ≤ first + length heap.now) order.now }
-    requires named { All (λ a. All (IsNamed first heap.now) (refs_at heap.now (a - first))) order.now }
-    requires room { sum_by (λ a. size_at heap.now (a - first)) order.now ≤ text.old.spare }
+    requires above { All (λ address. first ≤ address) order.now }
+    requires below { All (λ address. address + size_at heap.now (address - first) ≤ first + length heap.now) order.now }
+    requires named { All (λ address. All (IsNamed first heap.now) (refs_at heap.now (address - first))) order.now }
+    requires room { sum_by (λ address. size_at heap.now (address - first)) order.now ≤ text.old.spare }
     ensures rows { text.new.rows ≡ text.old.rows ++ map (row_in_heap first heap.now) order.now }
     ensures roots { text.new.roots ≡ text.old.roots }
     ensures pins { text.new.pins ≡ text.old.pins }
@@ -91,11 +91,11 @@ fn add_objects(first: u64, heap: &[u64], order: &[u32], text: &mut GraphText)
 /// Adds the row of the object at each of some addresses, and brings all rows into the order of names. `heap` has a word
 /// for each address from `first` on.
 pub(crate) fn write_objects(first: u64, heap: &[u64], order: &[u32], text: &mut GraphText)
-    requires above { All (λ a. first ≤ a) order.now }
-    requires below { All (λ a. a + size_at heap.now (a - first) ≤ first + length heap.now) order.now }
-    requires named { All (λ a. All (IsNamed first heap.now) (refs_at heap.now (a - first))) order.now }
-    requires room { sum_by (λ a. size_at heap.now (a - first)) order.now ≤ text.old.spare }
-    requires differ { IsDistinct same_name (map (λ r. r.name) (text.old.rows ++ map (row_in_heap first heap.now) order.now)) }
+    requires above { All (λ address. first ≤ address) order.now }
+    requires below { All (λ address. address + size_at heap.now (address - first) ≤ first + length heap.now) order.now }
+    requires named { All (λ address. All (IsNamed first heap.now) (refs_at heap.now (address - first))) order.now }
+    requires room { sum_by (λ address. size_at heap.now (address - first)) order.now ≤ text.old.spare }
+    requires differ { IsDistinct same_name (map (λ row. row.name) (text.old.rows ++ map (row_in_heap first heap.now) order.now)) }
     ensures rows { IsPermutation (text.old.rows ++ map (row_in_heap first heap.now) order.now) text.new.rows }
     ensures order { InOrder (names_of text.new) }
     ensures roots { text.new.roots ≡ text.old.roots }
@@ -116,7 +116,7 @@ pub(crate) fn set_roots(first: u64, heap: &[u64], roots: &[u64], text: &mut Grap
     ensures room { text.new.room ≡ text.old.room }
     ensures pins { text.new.pins ≡ text.old.pins }
     ensures threads { length text.new.roots ≡ length text.old.roots }
-    ensures roots { text.new.roots ≡ root_rows (λ t i. reference_in first heap.now (root_word roots.now t i)) (length text.old.roots) }
+    ensures roots { text.new.roots ≡ root_rows (λ thread index. reference_in first heap.now (root_word roots.now thread index)) (length text.old.roots) }
 {
     for (position, word) in roots.iter().enumerate() {
         let thread = (position / 16) as u32 + 1;
@@ -132,7 +132,7 @@ pub(crate) fn set_pins(first: u64, heap: &[u64], pins: &[u64], text: &mut GraphT
     requires rows { length text.old.pins ≡ length text.old.roots }
     requires lengths { All (λ row. length row ≡ 4) text.old.pins }
     ensures rest { text.new ≡ record text.old { pins = text.new.pins } }
-    ensures pins { text.new.pins ≡ pin_rows (λ t i. reference_in first heap.now (pin_word pins.now t i)) (length text.old.roots) }
+    ensures pins { text.new.pins ≡ pin_rows (λ thread slot. reference_in first heap.now (pin_word pins.now thread slot)) (length text.old.roots) }
 {
     for (position, word) in pins.iter().enumerate() {
         let thread = (position / 4) as u32 + 1;

@@ -17,5 +17,5 @@ pub fn letting_go_leaves()
 
 /// A law: a region's edge lies neither above its top nor above the free words of a buffer that ends there.
 pub fn edges_lie()
-    ensures { (config : Config) (memory : Word → ℕ) (r : ℕ) → EdgesLie config memory r }
+    ensures { (config : Config) (memory : Word → ℕ) (region : ℕ) → EdgesLie config memory region }
 {}

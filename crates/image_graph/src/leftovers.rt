@@ -48,7 +48,7 @@ impl Image {
     pub fn ends_at(&self, object: u64, address: u64) -> bool
         requires header { IsWord (config_of self.now) (Heap object) }
         requires shape { is_filler (memory_of self.now (Heap object)) ≡ false → IsWord (config_of self.now) (Heap (object + 1)) }
-        ensures { result ≡ (object + stride_at (λ a. memory_of self.now (Heap a)) object == address) }
+        ensures { result ≡ (object + stride_at (λ any_address. memory_of self.now (Heap any_address)) object == address) }
     {
         let (header, shape) = self.header_and_shape(object);
         next_object(object, header, shape) == address
@@ -91,7 +91,7 @@ impl Image {
         ensures places { places_of self.new ≡ places_of self.old }
         ensures found { found_of self.new ≡ found_of self.old }
         ensures marks { marks_of self.new ≡ marks_of self.old }
-        ensures words { memory_of self.new ≡ is_filled_from (config_of self.old) (λ a. (object == a) && is_left_over (memory_of self.old) (found_of self.old) left a) address (memory_of self.old) }
+        ensures words { memory_of self.new ≡ is_filled_from (config_of self.old) (λ any_address. (object == any_address) && is_left_over (memory_of self.old) (found_of self.old) left any_address) address (memory_of self.old) }
     {
         if object != address {
             return;
@@ -111,7 +111,7 @@ impl Image {
         ensures places { places_of self.new ≡ places_of self.old }
         ensures found { found_of self.new ≡ found_of self.old }
         ensures marks { marks_of self.new ≡ marks_of self.old }
-        ensures words { memory_of self.new ≡ filled_in (config_of self.old) (λ r. r == region) (is_left_over (memory_of self.old) (found_of self.old) left) (memory_of self.old) }
+        ensures words { memory_of self.new ≡ filled_in (config_of self.old) (λ any_region. any_region == region) (is_left_over (memory_of self.old) (found_of self.old) left) (memory_of self.old) }
     {
         let first = base(self.config, region);
         let top = self.top(region);

@@ -101,9 +101,9 @@ fn is_named_right(image: &Image, name: u64) -> bool
 
 // Whether the references of an object name objects.
 fn are_fields_right(image: &Image, objects: &[u64], address: u64, refs: u64) -> bool
-    requires inside { (i : ℕ) → i < refs → IsWord (config_of image.now) (Heap (address + 3 + i)) }
+    requires inside { (field : ℕ) → field < refs → IsWord (config_of image.now) (Heap (address + 3 + field)) }
     requires small { address + 3 + refs < 2 ^ 32 }
-    ensures { IsTrue result → (i : ℕ) → i < refs → IsReference objects.now (memory_of image.now (Heap (address + 3 + i))) }
+    ensures { IsTrue result → (field : ℕ) → field < refs → IsReference objects.now (memory_of image.now (Heap (address + 3 + field))) }
 {
     let config = image.config();
     for index in 0..refs {

@@ -30,7 +30,7 @@ fn is_region_right(image: &Image, objects: &[u64], region: usize) -> bool
 
 /// Whether each region is right.
 pub(crate) fn are_regions_right(image: &Image, objects: &[u64]) -> bool
-    ensures { IsTrue result → (r : ℕ) → r < (config_of image.now).regions → IsRegionRight (config_of image.now) (memory_of image.now) objects.now r }
+    ensures { IsTrue result → (region : ℕ) → region < (config_of image.now).regions → IsRegionRight (config_of image.now) (memory_of image.now) objects.now region }
 {
     for region in 0..image.config().regions() {
         if !is_region_right(image, objects, region) {
@@ -64,7 +64,7 @@ pub(crate) fn has_no_buffers(image: &Image) -> bool
 
 /// Whether no region is shared, or one that is in use, and not in the collection set.
 pub(crate) fn is_share_right(image: &Image) -> bool
-    ensures { IsTrue result → ShareIsOpen (config_of image.now) (memory_of image.now Share) (memory_of image.now Free) (memory_of image.now Cset) (λ r. None) }
+    ensures { IsTrue result → ShareIsOpen (config_of image.now) (memory_of image.now Share) (memory_of image.now Free) (memory_of image.now Cset) (λ region. None) }
 {
     let config = image.config();
     let share = image.word(config.share_at());
@@ -123,7 +123,7 @@ fn is_mutator_right(image: &Image, objects: &[u64], mutator: usize) -> bool
 
 /// Whether each mutator is right.
 pub(crate) fn are_mutators_right(image: &Image, objects: &[u64]) -> bool
-    ensures { IsTrue result → (t : ℕ) → t < (config_of image.now).mutators → IsMutatorRight (memory_of image.now) objects.now t }
+    ensures { IsTrue result → (mutator : ℕ) → mutator < (config_of image.now).mutators → IsMutatorRight (memory_of image.now) objects.now mutator }
 {
     for mutator in 0..image.config().mutators() {
         if !is_mutator_right(image, objects, mutator) {

@@ -55,7 +55,7 @@ impl Image {
     // The lowest region that has room for so many words above its top, or nothing where each has less.
     fn room_for(&self, words: u64) -> Option<usize>
         requires { AreWithin (config_of self.now) (memory_of self.now) }
-        ensures { result ≡ lowest_room (config_of self.now).region_words (λ r. memory_of self.now (Top r)) words (config_of self.now).regions }
+        ensures { result ≡ lowest_room (config_of self.now).region_words (λ region. memory_of self.now (Top region)) words (config_of self.now).regions }
     {
         first_with_room(self.config(), self.tops(), 0, words)
     }
@@ -68,7 +68,7 @@ impl Image {
         ensures within { AreWithin (config_of self.new) (memory_of self.new) }
         ensures idle { memory_of self.old (Wait mutator) ≡ 0 → memory_of self.new ≡ memory_of self.old }
         ensures waits { memory_of self.old (Wait mutator) ≢ 0 → memory_of self.new ≡ served_in (config_of self.old) (memory_of self.old) mutator (room_for (config_of self.old) (memory_of self.old) mutator) }
-        ensures left { result ≡ false ↔ ((memory_of self.old (Wait mutator) ≢ 0) × NoneHasRoom (config_of self.old).region_words (λ r. memory_of self.old (Top r)) (object_words (request_shape_in (memory_of self.old (Wait mutator)))) (config_of self.old).regions) }
+        ensures left { result ≡ false ↔ ((memory_of self.old (Wait mutator) ≢ 0) × NoneHasRoom (config_of self.old).region_words (λ region. memory_of self.old (Top region)) (object_words (request_shape_in (memory_of self.old (Wait mutator)))) (config_of self.old).regions) }
     {
         let config = self.config();
         let request = self.word(config.wait_at(mutator));
@@ -91,8 +91,8 @@ impl Image {
         requires { AreWithin (config_of self.old) (memory_of self.old) }
         ensures config { config_of self.new ≡ config_of self.old }
         ensures words { memory_of self.new ≡ served (config_of self.old) (memory_of self.old) (config_of self.old).mutators }
-        ensures left { result ≡ false → (t : ℕ) × IsLeft (config_of self.old) (memory_of self.old) t }
-        ensures served { result ≡ true → (t : ℕ) → IsLeft (config_of self.old) (memory_of self.old) t → ⊥ }
+        ensures left { result ≡ false → (mutator : ℕ) × IsLeft (config_of self.old) (memory_of self.old) mutator }
+        ensures served { result ≡ true → (mutator : ℕ) → IsLeft (config_of self.old) (memory_of self.old) mutator → ⊥ }
     {
         let mut all = true;
         for mutator in 0..self.config().mutators() {
@@ -114,8 +114,8 @@ impl Image {
         ensures words { memory_of self.new ≡ served (config_of self.old) (memory_of self.old) (config_of self.old).mutators }
         ensures graph { IsServedGraph (config_of self.old) (memory_of self.old) (memory_of self.new) }
         ensures holds { ServingHolds (config_of self.old) (memory_of self.old) (memory_of self.new) }
-        ensures left { result ≡ false → (t : ℕ) × IsLeft (config_of self.old) (memory_of self.old) t }
-        ensures served { result ≡ true → (t : ℕ) → IsLeft (config_of self.old) (memory_of self.old) t → ⊥ }
+        ensures left { result ≡ false → (mutator : ℕ) × IsLeft (config_of self.old) (memory_of self.old) mutator }
+        ensures served { result ≡ true → (mutator : ℕ) → IsLeft (config_of self.old) (memory_of self.old) mutator → ⊥ }
     {
         self.give_turns()
     }

@@ -121,7 +121,7 @@ impl Model for Put {
 
     ghost Value = { Course };
 
-    ghost view = { λ p. p.course };
+    ghost view = { λ operation. operation.course };
 }
 
 impl Put {
@@ -170,7 +170,7 @@ impl Model for Take {
 
     ghost Value = { Course };
 
-    ghost view = { λ t. t.course };
+    ghost view = { λ operation. operation.course };
 }
 
 impl Take {

@@ -64,9 +64,9 @@ impl Model for User {
 
     ghost Value = { Use };
 
-    ghost view = { λ u. record { spot = u.spot; plan = u.plan; got = u.got; refused = u.refused } };
+    ghost view = { λ user. record { spot = user.spot; plan = user.plan; got = user.got; refused = user.refused } };
 
-    ghost invariant = { λ u. IsWithin u.plan u.got };
+    ghost invariant = { λ user. IsWithin user.plan user.got };
 }
 
 impl User {

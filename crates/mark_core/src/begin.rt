@@ -26,7 +26,7 @@ fn find_roots(image: &mut Image, mutator: usize)
     requires found { AreFound image.old }
     ensures unchanged { IsUnchanged image.old image.new }
     ensures found { AreFound image.new }
-    ensures noted { found_of image.new ≡ with_addresses (found_of image.old) (map (λ i. memory_of image.old (Root mutator i)) (range_with_len 0 16)) }
+    ensures noted { found_of image.new ≡ with_addresses (found_of image.old) (map (λ index. memory_of image.old (Root mutator index)) (range_with_len 0 16)) }
 {
     let config = image.config();
     for index in 0..16 {
@@ -88,7 +88,7 @@ fn find_pins(image: &mut Image, mutator: usize)
     requires found { AreFound image.old }
     ensures unchanged { IsUnchanged image.old image.new }
     ensures found { AreFound image.new }
-    ensures noted { found_of image.new ≡ with_addresses (found_of image.old) (map (λ i. memory_of image.old (Pin mutator i)) (range_with_len 0 4)) }
+    ensures noted { found_of image.new ≡ with_addresses (found_of image.old) (map (λ slot. memory_of image.old (Pin mutator slot)) (range_with_len 0 4)) }
 {
     let config = image.config();
     for slot in 0..4 {

@@ -28,8 +28,8 @@ fn next_marked(image: &Image, row: usize, from: u64, end: u64) -> u64
     requires inside { end ≤ ((config_of image.now).regions + 1) * (config_of image.now).region_words }
     ensures from { from ≤ result }
     ensures end { result ≤ end }
-    ensures none { (a : ℕ) → from ≤ a → a < result → mark_at (config_of image.now) (λ n. slice_index (words_of image.now) (row + n)) a ≡ 0 }
-    ensures marked { result < end → mark_at (config_of image.now) (λ n. slice_index (words_of image.now) (row + n)) result ≡ 1 }
+    ensures none { (address : ℕ) → from ≤ address → address < result → mark_at (config_of image.now) (λ index. slice_index (words_of image.now) (row + index)) address ≡ 0 }
+    ensures marked { result < end → mark_at (config_of image.now) (λ index. slice_index (words_of image.now) (row + index)) result ≡ 1 }
 {
     let config = image.config();
     let first = config.region_words() as u64;
@@ -52,7 +52,7 @@ pub(crate) fn next_grey(image: &Image, from: u64, end: u64) -> u64
     requires inside { end ≤ ((config_of image.now).regions + 1) * (config_of image.now).region_words }
     ensures from { from ≤ result }
     ensures end { result ≤ end }
-    ensures none { (a : ℕ) → from ≤ a → a < result → marks.is_grey (config_of image.now) (memory_of image.now) a ≡ false }
+    ensures none { (address : ℕ) → from ≤ address → address < result → marks.is_grey (config_of image.now) (memory_of image.now) address ≡ false }
     ensures grey { result < end → marks.is_grey (config_of image.now) (memory_of image.now) result ≡ true }
 {
     next_marked(image, image.config().grey_at(0), from, end)
@@ -66,7 +66,7 @@ pub fn next_black(image: &Image, from: u64, end: u64) -> u64
     requires inside { end ≤ ((config_of image.now).regions + 1) * (config_of image.now).region_words }
     ensures from { from ≤ result }
     ensures end { result ≤ end }
-    ensures none { (a : ℕ) → from ≤ a → a < result → marks.is_black (config_of image.now) (memory_of image.now) a ≡ false }
+    ensures none { (address : ℕ) → from ≤ address → address < result → marks.is_black (config_of image.now) (memory_of image.now) address ≡ false }
     ensures black { result < end → marks.is_black (config_of image.now) (memory_of image.now) result ≡ true }
 {
     next_marked(image, image.config().black_at(0), from, end)

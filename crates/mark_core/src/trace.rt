@@ -38,7 +38,7 @@ fn find_entries(image: &mut Image, mutator: usize)
     requires found { AreFound image.old }
     ensures unchanged { IsUnchanged image.old image.new }
     ensures found { AreFound image.new }
-    ensures noted { found_of image.new ≡ with_addresses (found_of image.old) (map (λ i. memory_of image.old (Buffer mutator i)) (range_with_len 0 (memory_of image.old (Count mutator)))) }
+    ensures noted { found_of image.new ≡ with_addresses (found_of image.old) (map (λ entry. memory_of image.old (Buffer mutator entry)) (range_with_len 0 (memory_of image.old (Count mutator)))) }
 {
     let config = image.config();
     let count = image.word(config.count_at(mutator));

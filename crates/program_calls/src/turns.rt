@@ -105,10 +105,10 @@ impl Turns {
         alloc: Global,
         config: &Config,
     ) -> Result<Option<(Schedule, u64)>, NoMemory>
-        ensures items { IfOk result (λ found. IfSome found (λ x. AllByRecursion (IsItem config.now) x.0)) }
-        ensures of_steps { IfOk result (λ found. IfSome found (λ x. AllByRecursion IsOfSteps x.0)) }
-        ensures steps { IfOk result (λ found. IfSome found (λ x. x.1 ≡ steps_named x.0)) }
-        ensures few { IfOk result (λ found. IfSome found (λ x. x.1 ≤ usual_steps)) }
+        ensures items { IfOk result (λ found. IfSome found (λ scheduled. AllByRecursion (IsItem config.now) scheduled.0)) }
+        ensures of_steps { IfOk result (λ found. IfSome found (λ scheduled. AllByRecursion IsOfSteps scheduled.0)) }
+        ensures steps { IfOk result (λ found. IfSome found (λ scheduled. scheduled.1 ≡ steps_named scheduled.0)) }
+        ensures few { IfOk result (λ found. IfSome found (λ scheduled. scheduled.1 ≤ usual_steps)) }
     {
         let steps = self.made.load(Ordering::SeqCst);
         if steps > self.machines.len() as u64 || steps > MOST_STEPS {

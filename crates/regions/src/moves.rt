@@ -38,8 +38,8 @@ fn slide_object(first: u64, places: &[u64], from: usize, to: usize, heap: &mut [
     requires down { to ≤ from }
     requires inside { from + object_words (slice_index heap.old (from + 1)) ≤ length heap.old }
     requires small { length heap.old ≤ 2 ^ 32 }
-    requires table { (i : ℕ) → i < refs_in (slice_index heap.old (from + 1))
-        → IsInTable first places.now (slice_index heap.old (from + (3 + i))) }
+    requires table { (field : ℕ) → field < refs_in (slice_index heap.old (from + 1))
+        → IsInTable first places.now (slice_index heap.old (from + (3 + field))) }
     ensures { IsMovedTo (from_table first places.now) from to heap.old heap.new }
 {
     let shape = heap[from + 1];

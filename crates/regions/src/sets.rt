@@ -33,7 +33,7 @@ pub fn size(set: u64) -> u32
 pub fn all_but(region: usize) -> u64
     requires { region < 64 }
     ensures value { result ≡ all_but region }
-    ensures members { (r : ℕ) → IsIn result r ↔ ((r < 64) × (r ≢ region)) }
+    ensures members { (any_region : ℕ) → IsIn result any_region ↔ ((any_region < 64) × (any_region ≢ region)) }
 {
     !(1 << region)
 }

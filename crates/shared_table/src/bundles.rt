@@ -14,7 +14,7 @@ pub fn open_table<R, O, K, M: Machines<R, O, K>>(
     key: &K,
 ) -> Result<(StepsTable<R, O, K, M>, ViewSeat<R>), AllocError>
     requires { words.now ≡ (M.opening key.now).words }
-    ensures { IfOk result (λ t. (t.0.shared.key ≡ key.now) × (t.0.shared.table_id.words ≡ length words.now) × (t.0.shared.table_id.slots ≡ 0) × (t.1.table_id ≡ t.0.shared.table_id) × (t.1.me ≡ (whole (M.opening key.now).machines, []))) }
+    ensures { IfOk result (λ opened. (opened.0.shared.key ≡ key.now) × (opened.0.shared.table_id.words ≡ length words.now) × (opened.0.shared.table_id.slots ≡ 0) × (opened.1.table_id ≡ opened.0.shared.table_id) × (opened.1.me ≡ (whole (M.opening key.now).machines, []))) }
 {
     Table::of_words(alloc, words, key)
 }

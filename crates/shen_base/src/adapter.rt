@@ -46,10 +46,10 @@ impl<R: Read> Source for InSource<R> {
     ghost calls = { read_calls };
 
     fn read(&mut self, buf: &mut [u8]) -> Result<usize, Failed>
-        ensures within { IfOk result (λ n. n ≤ length buf.new) }
-        ensures next_bytes { IfOk result (λ n.
-            Consumes (R.remaining (reader_of self.old)) (R.remaining (reader_of self.new)) (take n buf.new)) }
-        ensures none_only_at_end { IfOk result (λ n. n ≡ 0 → 0 < length buf.new →
+        ensures within { IfOk result (λ count. count ≤ length buf.new) }
+        ensures next_bytes { IfOk result (λ count.
+            Consumes (R.remaining (reader_of self.old)) (R.remaining (reader_of self.new)) (take count buf.new)) }
+        ensures none_only_at_end { IfOk result (λ count. count ≡ 0 → 0 < length buf.new →
             IsAtEnd (R.remaining (reader_of self.new))) }
         ensures failed_takes_none { OnErr result
             (Keeps (R.remaining (reader_of self.old)) (R.remaining (reader_of self.new))) }
@@ -108,10 +108,10 @@ impl<W: Write> Sink for OutSink<W> {
     ghost calls = { write_calls };
 
     fn write(&mut self, piece: &[u8]) -> Result<usize, Failed>
-        ensures within { IfOk result (λ n. n ≤ length piece.now) }
-        ensures appended { IfOk result (λ n.
-            Appends (W.contents (writer_of self.old)) (W.contents (writer_of self.new)) (take n piece.now)) }
-        ensures none_only_of_empty { IfOk result (λ n. n ≡ 0 → length piece.now ≡ 0) }
+        ensures within { IfOk result (λ count. count ≤ length piece.now) }
+        ensures appended { IfOk result (λ count.
+            Appends (W.contents (writer_of self.old)) (W.contents (writer_of self.new)) (take count piece.now)) }
+        ensures none_only_of_empty { IfOk result (λ count. count ≡ 0 → length piece.now ≡ 0) }
         ensures failed_writes_none { OnErr result
             (Keeps (W.contents (writer_of self.old)) (W.contents (writer_of self.new))) }
         ensures failed_only_by_fault { OnErr result (Rose (write_faults self.old) (write_faults self.new)) }

@@ -28,9 +28,9 @@ impl Model for Block {
 
     ghost Value = { Held };
 
-    ghost view = { λ b. record { unsent = take b.used b.bytes; failed = b.failed } };
+    ghost view = { λ block. record { unsent = take block.used block.bytes; failed = block.failed } };
 
-    ghost invariant = { λ b. (b.used ≤ 4096) × (length b.bytes ≡ 4096) };
+    ghost invariant = { λ block. (block.used ≤ 4096) × (length block.bytes ≡ 4096) };
 }
 
 impl Block {

@@ -24,9 +24,9 @@ impl Model for Unread {
 
     ghost Value = { List ℕ };
 
-    ghost view = { λ s. drop s.position s.bytes.items };
+    ghost view = { λ unread. drop unread.position unread.bytes.items };
 
-    ghost invariant = { λ s. s.position ≤ length s.bytes.items };
+    ghost invariant = { λ unread. unread.position ≤ length unread.bytes.items };
 }
 
 impl Unread {
@@ -63,7 +63,7 @@ impl Model for PlainSource {
 
     ghost Value = { Stock };
 
-    ghost view = { λ s. record { unread = s.unread; calls = s.calls } };
+    ghost view = { λ source. record { unread = source.unread; calls = source.calls } };
 }
 
 impl PlainSource {
@@ -86,18 +86,18 @@ impl Source for PlainSource {
     ghost calls = { λ source. source.calls };
 
     fn read(&mut self, buf: &mut [u8]) -> Result<usize, Failed>
-        ensures within { IfOk result (λ n. n ≤ length buf.new) }
-        ensures next_bytes { IfOk result (λ n.
-            Consumes (Some self.old.unread) (Some self.new.unread) (take n buf.new)) }
-        ensures none_only_at_end { IfOk result (λ n. n ≡ 0 → 0 < length buf.new →
+        ensures within { IfOk result (λ count. count ≤ length buf.new) }
+        ensures next_bytes { IfOk result (λ count.
+            Consumes (Some self.old.unread) (Some self.new.unread) (take count buf.new)) }
+        ensures none_only_at_end { IfOk result (λ count. count ≡ 0 → 0 < length buf.new →
             IsAtEnd (Some self.new.unread)) }
         ensures one_call { self.new.calls ≡ raised self.old.calls }
 
         // It never fails, and gives all that there is room for.
         ensures never_fails { IsOk result }
-        ensures count { IfOk result (λ n. n ≡ min (length buf.old) (length self.old.unread)) }
-        ensures buffer { IfOk result (λ n. buf.new ≡ take n self.old.unread ++ drop n buf.old) }
-        ensures rest { IfOk result (λ n. self.new.unread ≡ drop n self.old.unread) }
+        ensures count { IfOk result (λ count. count ≡ min (length buf.old) (length self.old.unread)) }
+        ensures buffer { IfOk result (λ count. buf.new ≡ take count self.old.unread ++ drop count buf.old) }
+        ensures rest { IfOk result (λ count. self.new.unread ≡ drop count self.old.unread) }
     {
         raise(&mut self.calls);
         Ok(self.unread.give(buf.len(), buf))
@@ -121,10 +121,10 @@ impl Model for MemorySource {
 
     ghost Value = { Supply };
 
-    ghost view = { λ s. record
-        { unread = s.unread; piece = s.piece; failing = s.failing.items; calls = s.calls; faults = s.faults } };
+    ghost view = { λ source. record
+        { unread = source.unread; piece = source.piece; failing = source.failing.items; calls = source.calls; faults = source.faults } };
 
-    ghost invariant = { λ s. 1 ≤ s.piece };
+    ghost invariant = { λ source. 1 ≤ source.piece };
 }
 
 impl MemorySource {
@@ -153,10 +153,10 @@ impl Source for MemorySource {
     ghost calls = { λ source. source.calls };
 
     fn read(&mut self, buf: &mut [u8]) -> Result<usize, Failed>
-        ensures within { IfOk result (λ n. n ≤ length buf.new) }
-        ensures next_bytes { IfOk result (λ n.
-            Consumes (Some self.old.unread) (Some self.new.unread) (take n buf.new)) }
-        ensures none_only_at_end { IfOk result (λ n. n ≡ 0 → 0 < length buf.new →
+        ensures within { IfOk result (λ count. count ≤ length buf.new) }
+        ensures next_bytes { IfOk result (λ count.
+            Consumes (Some self.old.unread) (Some self.new.unread) (take count buf.new)) }
+        ensures none_only_at_end { IfOk result (λ count. count ≡ 0 → 0 < length buf.new →
             IsAtEnd (Some self.new.unread)) }
         ensures failed_takes_none { OnErr result (Keeps (Some self.old.unread) (Some self.new.unread)) }
         ensures failed_only_by_fault { OnErr result (Rose self.old.faults self.new.faults) }
@@ -170,11 +170,11 @@ impl Source for MemorySource {
         ensures failed_buffer { OnErr result (buf.new ≡ buf.old) }
 
         // Else it gives a piece, or all that is left or that there is room for.
-        ensures count { IfOk result (λ n.
-            n ≡ min (min (length buf.old) self.old.piece) (length self.old.unread)) }
-        ensures buffer { IfOk result (λ n. buf.new ≡ take n self.old.unread ++ drop n buf.old) }
-        ensures given { IfOk result (λ n.
-            self.new ≡ record self.old { unread = drop n self.old.unread; calls = raised self.old.calls }) }
+        ensures count { IfOk result (λ count.
+            count ≡ min (min (length buf.old) self.old.piece) (length self.old.unread)) }
+        ensures buffer { IfOk result (λ count. buf.new ≡ take count self.old.unread ++ drop count buf.old) }
+        ensures given { IfOk result (λ count.
+            self.new ≡ record self.old { unread = drop count self.old.unread; calls = raised self.old.calls }) }
     {
         raise(&mut self.calls);
         if self.failing.contains(&self.calls) {
@@ -203,16 +203,16 @@ impl Model for MemorySink {
 
     ghost Value = { Store };
 
-    ghost view = { λ s. record {
-      stored = s.bytes.items;
-      room = s.room;
-      piece = s.piece;
-      failing = s.failing.items;
-      calls = s.calls;
-      faults = s.faults;
+    ghost view = { λ sink. record {
+      stored = sink.bytes.items;
+      room = sink.room;
+      piece = sink.piece;
+      failing = sink.failing.items;
+      calls = sink.calls;
+      faults = sink.faults;
     } };
 
-    ghost invariant = { λ s. (1 ≤ s.piece) × (vec_len s.bytes + s.room ≤ vec_capacity s.bytes) };
+    ghost invariant = { λ sink. (1 ≤ sink.piece) × (vec_len sink.bytes + sink.room ≤ vec_capacity sink.bytes) };
 }
 
 impl MemorySink {
@@ -259,10 +259,10 @@ impl Sink for MemorySink {
     ghost calls = { λ sink. sink.calls };
 
     fn write(&mut self, piece: &[u8]) -> Result<usize, Failed>
-        ensures within { IfOk result (λ n. n ≤ length piece.now) }
-        ensures appended { IfOk result (λ n.
-            Appends (Some self.old.stored) (Some self.new.stored) (take n piece.now)) }
-        ensures none_only_of_empty { IfOk result (λ n. n ≡ 0 → length piece.now ≡ 0) }
+        ensures within { IfOk result (λ count. count ≤ length piece.now) }
+        ensures appended { IfOk result (λ count.
+            Appends (Some self.old.stored) (Some self.new.stored) (take count piece.now)) }
+        ensures none_only_of_empty { IfOk result (λ count. count ≡ 0 → length piece.now ≡ 0) }
         ensures failed_writes_none { OnErr result (Keeps (Some self.old.stored) (Some self.new.stored)) }
         ensures failed_only_by_fault { OnErr result (Rose self.old.faults self.new.faults) }
         ensures faults_never_fall { self.old.faults ≤ self.new.faults }
@@ -275,9 +275,9 @@ impl Sink for MemorySink {
             (self.new ≡ record self.old { calls = raised self.old.calls; faults = raised self.old.faults }) }
 
         // Else it takes a piece, or all that was handed in or that there is room for.
-        ensures count { IfOk result (λ n. n ≡ min (min (length piece.now) self.old.piece) self.old.room) }
-        ensures taken { IfOk result (λ n. self.new ≡ record self.old
-            { stored = self.old.stored ++ take n piece.now; room = self.old.room - n; calls = raised self.old.calls }) }
+        ensures count { IfOk result (λ count. count ≡ min (min (length piece.now) self.old.piece) self.old.room) }
+        ensures taken { IfOk result (λ count. self.new ≡ record self.old
+            { stored = self.old.stored ++ take count piece.now; room = self.old.room - count; calls = raised self.old.calls }) }
     {
         raise(&mut self.calls);
         let is_full = self.room == 0 && !piece.is_empty();

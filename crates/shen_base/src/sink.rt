@@ -20,9 +20,9 @@ pub trait Sink {
     /// only of an empty piece.
     fn write(&mut self, piece: &[u8]) -> Result<usize, Failed>
         // At Ok the front of the piece was appended.
-        ensures within { IfOk result (λ n. n ≤ length piece.now) }
-        ensures appended { IfOk result (λ n. Appends (written self.old) (written self.new) (take n piece.now)) }
-        ensures none_only_of_empty { IfOk result (λ n. n ≡ 0 → length piece.now ≡ 0) }
+        ensures within { IfOk result (λ count. count ≤ length piece.now) }
+        ensures appended { IfOk result (λ count. Appends (written self.old) (written self.new) (take count piece.now)) }
+        ensures none_only_of_empty { IfOk result (λ count. count ≡ 0 → length piece.now ≡ 0) }
 
         // At Failed no byte was written, and a fault was counted.
         ensures failed_writes_none { OnErr result (Keeps (written self.old) (written self.new)) }

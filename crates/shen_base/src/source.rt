@@ -20,9 +20,9 @@ pub trait Source {
     /// none at room for some is the end of the input. What stands in `buf` behind them, or after `Failed`, is not told.
     fn read(&mut self, buf: &mut [u8]) -> Result<usize, Failed>
         // At Ok the front of the buffer holds the next bytes, and no byte is lost.
-        ensures within { IfOk result (λ n. n ≤ length buf.new) }
-        ensures next_bytes { IfOk result (λ n. Consumes (left self.old) (left self.new) (take n buf.new)) }
-        ensures none_only_at_end { IfOk result (λ n. n ≡ 0 → 0 < length buf.new → IsAtEnd (left self.new)) }
+        ensures within { IfOk result (λ count. count ≤ length buf.new) }
+        ensures next_bytes { IfOk result (λ count. Consumes (left self.old) (left self.new) (take count buf.new)) }
+        ensures none_only_at_end { IfOk result (λ count. count ≡ 0 → 0 < length buf.new → IsAtEnd (left self.new)) }
 
         // At Failed no byte was taken, and a fault was counted.
         ensures failed_takes_none { OnErr result (Keeps (left self.old) (left self.new)) }

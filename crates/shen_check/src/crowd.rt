@@ -107,7 +107,7 @@ fn words_beside(work: &Work, mutator: usize, thread: u32) -> u64
 // The words that the next commands of all threads but one ask for.
 fn words_waiting(work: &Work, threads: usize, thread: u32) -> u64
     requires few { threads ≤ 8 }
-    requires has { (m : ℕ) → m < threads → HasScript work.now m }
+    requires has { (mutator : ℕ) → mutator < threads → HasScript work.now mutator }
     ensures words { result ≡ words_waiting work.now threads thread }
     ensures few { result ≤ threads * 2 ^ 40 }
 {

@@ -29,7 +29,7 @@ pub struct Judge {
 // Whether an entry has the next command of its thread's script.
 fn is_next(work: &Work, threads: usize, entry: Entry) -> bool
     requires few { threads ≤ 8 }
-    requires has { (m : ℕ) → m < threads → HasScript work.now m }
+    requires has { (mutator : ℕ) → mutator < threads → HasScript work.now mutator }
     ensures { MatchBool result ((1 ≤ entry.thread) × (entry.thread ≤ threads) × (next_of work.now (entry.thread - 1) ≡ Some entry.command))
         ((1 ≤ entry.thread) → (entry.thread ≤ threads) → next_of work.now (entry.thread - 1) ≡ Some entry.command → ⊥) }
 {
@@ -122,9 +122,9 @@ impl Judge {
         requires valid { All (λ script. All IsValid script) trace.now.scripts }
         requires few { All (λ script. length script < 2 ^ 32 - 1) trace.now.scripts }
         requires judged { HasJudged trace.now.scripts (take at history.now.list) self.old.graph self.old.work }
-        ensures { (e : Claimed) → slice_get history.now.list at ≡ Some e → IfOk result (λ may. MatchBool may
-            (MayFollow trace.now.config trace.now.scripts (take at history.now.list) e × HasJudged trace.now.scripts (take (at + 1) history.now.list) self.new.graph self.new.work)
-            (MayFollow trace.now.config trace.now.scripts (take at history.now.list) e → ⊥)) }
+        ensures { (entry : Claimed) → slice_get history.now.list at ≡ Some entry → IfOk result (λ may. MatchBool may
+            (MayFollow trace.now.config trace.now.scripts (take at history.now.list) entry × HasJudged trace.now.scripts (take (at + 1) history.now.list) self.new.graph self.new.work)
+            (MayFollow trace.now.config trace.now.scripts (take at history.now.list) entry → ⊥)) }
     {
         let entry = history.entry(at);
         if !is_next(&self.work, trace.config.mutators(), entry) {
@@ -140,9 +140,9 @@ impl Judge {
     /// The first thread, counted from 1, that has a command left.
     pub fn first_left(&self, threads: usize) -> Option<u32>
         requires few { threads ≤ 8 }
-        requires has { (m : ℕ) → m < threads → HasScript self.now.work m }
-        ensures { MatchOption result ((m : ℕ) → m < threads → next_of self.now.work m ≡ None)
-            (λ t. (1 ≤ t) × (t ≤ threads) × IsSome (next_of self.now.work (t - 1)) × ((m : ℕ) → m < t - 1 → next_of self.now.work m ≡ None)) }
+        requires has { (mutator : ℕ) → mutator < threads → HasScript self.now.work mutator }
+        ensures { MatchOption result ((mutator : ℕ) → mutator < threads → next_of self.now.work mutator ≡ None)
+            (λ thread. (1 ≤ thread) × (thread ≤ threads) × IsSome (next_of self.now.work (thread - 1)) × ((mutator : ℕ) → mutator < thread - 1 → next_of self.now.work mutator ≡ None)) }
     {
         for mutator in 0..threads {
             if self.work.next(mutator).is_some() {
@@ -161,7 +161,7 @@ impl Judge {
         body: &[u8],
     ) -> Result<bool, NoMemory>
         requires threads { threads ≡ threads_of self.graph }
-        requires has { (m : ℕ) → m < threads → HasScript self.work m }
+        requires has { (mutator : ℕ) → mutator < threads → HasScript self.work mutator }
         ensures { (scripts : List (List Asked)) (before : List Claimed) → length scripts ≡ threads → HasJudged scripts before self.graph self.work
             → IfOk result (λ same. MatchBool same (IsAnswerText version (length scripts) before body.now) (IsAnswerText version (length scripts) before body.now → ⊥)) }
     {

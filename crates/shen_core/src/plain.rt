@@ -23,7 +23,7 @@ pub struct Plain {
     notes: History,
     ghost all_words: { length words.items ≡ table_words config },
     ghost all_machines: { length machines.items ≡ seat_count config.mutators config.helpers },
-    ghost one_heap: { All (λ m. machine_config m ≡ config) machines.items },
+    ghost one_heap: { All (λ machine. machine_config machine ≡ config) machines.items },
     ghost reached: { ∥ IsShownBySomeRun config words.items (map shown machines.items) ∥₁ },
 }
 
@@ -92,7 +92,7 @@ impl Plain {
     fn of(config: Config, words: Vec<u64>, machines: Vec<Machine>, notes: History) -> Plain
         requires words { length words.items ≡ table_words config }
         requires machines { length machines.items ≡ seat_count config.mutators config.helpers }
-        requires heap { All (λ m. machine_config m ≡ config) machines.items }
+        requires heap { All (λ machine. machine_config machine ≡ config) machines.items }
         requires reached { ∥ IsShownBySomeRun config words.items (map shown machines.items) ∥₁ }
         ensures config { config_of result ≡ config }
         ensures words { words_of result ≡ words.items }

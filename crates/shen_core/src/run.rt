@@ -335,7 +335,7 @@ impl Plain {
     // No mutator has more replies than commands, as the work knows.
     fn within_scripts(&self, work: &Work)
         requires { CanRun self.now work.now }
-        ensures { (t : ℕ) → t < (config_of self.now).mutators → length (replies_of work.now t) ≤ length (script_in work.now t) }
+        ensures { (mutator : ℕ) → mutator < (config_of self.now).mutators → length (replies_of work.now mutator) ≤ length (script_in work.now mutator) }
     {
         for mutator in 0..self.config().mutators() {
             let _ = work.next(mutator);

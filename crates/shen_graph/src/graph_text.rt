@@ -82,13 +82,13 @@ fn gather(
     requires within { All (Within (length references.now) (length numbers.now)) places.old.items }
     requires no_references { moved_references.old.items ≡ [] }
     requires no_numbers { moved_numbers.old.items ≡ [] }
-    requires room_for_references { sum_by (λ p. span_length p.refs) places.old.items ≤ vec_capacity moved_references.old }
-    requires room_for_numbers { sum_by (λ p. span_length p.nums) places.old.items ≤ vec_capacity moved_numbers.old }
+    requires room_for_references { sum_by (λ place. span_length place.refs) places.old.items ≤ vec_capacity moved_references.old }
+    requires room_for_numbers { sum_by (λ place. span_length place.nums) places.old.items ≤ vec_capacity moved_numbers.old }
     ensures rows { map (row_at moved_references.new.items moved_numbers.new.items) places.new.items
         ≡ map (row_at references.now numbers.now) places.old.items }
     ensures laid { IsLaid places.new.items (vec_len moved_references.new) (vec_len moved_numbers.new) }
-    ensures references { vec_len moved_references.new ≡ sum_by (λ p. span_length p.refs) places.old.items }
-    ensures numbers { vec_len moved_numbers.new ≡ sum_by (λ p. span_length p.nums) places.old.items }
+    ensures references { vec_len moved_references.new ≡ sum_by (λ place. span_length place.refs) places.old.items }
+    ensures numbers { vec_len moved_numbers.new ≡ sum_by (λ place. span_length place.nums) places.old.items }
     ensures places { vec_len places.new ≡ vec_len places.old }
     ensures place_room { vec_capacity places.new ≡ vec_capacity places.old }
     ensures reference_room { vec_capacity moved_references.old ≤ vec_capacity moved_references.new }

@@ -29,7 +29,7 @@ impl Model for History {
 
     ghost Value = { Noting };
 
-    ghost view = { λ h. record { list = map seen_entry h.entries.items; spare = vec_capacity h.entries - vec_len h.entries } };
+    ghost view = { λ history. record { list = map seen_entry history.entries.items; spare = vec_capacity history.entries - vec_len history.entries } };
 }
 
 impl History {

@@ -23,7 +23,7 @@ impl Model for Object {
 
     ghost Value = { Row };
 
-    ghost view = { λ o. record { name = o.name; refs = o.refs.items; nums = o.nums.items } };
+    ghost view = { λ object. record { name = object.name; refs = object.refs.items; nums = object.nums.items } };
 }
 
 // How many words an object with these fields has.

@@ -40,9 +40,9 @@ impl Model for PlainGraph {
 
     ghost Value = { Plain };
 
-    ghost view = { λ g. record { rows = g.objects.items; roots = g.roots.items; counts = g.counts.items; pins = g.pins.items } };
+    ghost view = { λ graph. record { rows = graph.objects.items; roots = graph.roots.items; counts = graph.counts.items; pins = graph.pins.items } };
 
-    ghost invariant = { λ g. (1 ≤ vec_len g.roots) × (vec_len g.counts ≡ vec_len g.roots) × All (λ row. length row ≡ 16) g.roots.items × (vec_len g.pins ≡ vec_len g.roots) × All (λ row. length row ≡ 4) g.pins.items };
+    ghost invariant = { λ graph. (1 ≤ vec_len graph.roots) × (vec_len graph.counts ≡ vec_len graph.roots) × All (λ row. length row ≡ 16) graph.roots.items × (vec_len graph.pins ≡ vec_len graph.roots) × All (λ row. length row ≡ 4) graph.pins.items };
 }
 
 // What shows a reference.
@@ -109,7 +109,7 @@ fn differs(slot: Option<Pinned>, name: Name, place: u64) -> bool
 
 // Where the first object of that name stands.
 fn first_named(objects: &[Object], name: Name) -> Option<usize>
-    ensures { result ≡ position (λ r. same_name name r.name) objects.now }
+    ensures { result ≡ position (λ object. same_name name object.name) objects.now }
 {
     objects.iter().position(|object| object.name == name)
 }
@@ -704,7 +704,7 @@ impl PlainGraph {
     // The object of that name.
     fn object_named(&self, name: Name) -> Option<&Object>
         ensures { MatchOption result ((graph_of self.now).object name ≡ None)
-            (λ o. ((graph_of self.now).object name ≡ Some (record { refs = o.now.refs; nums = o.now.nums })) × (o.now.name ≡ name)) }
+            (λ found. ((graph_of self.now).object name ≡ Some (record { refs = found.now.refs; nums = found.now.nums })) × (found.now.name ≡ name)) }
     {
         match first_named(&self.objects, name) {
             Some(place) => Some(&self.objects[place]),
@@ -735,7 +735,7 @@ impl PlainGraph {
 
     // Adds the rows of the objects of these names to a text.
     fn put_objects(&self, names: &[Name], text: &mut GraphText)
-        requires { sum_by (λ n. size (named (graph_of self.now) (Some n))) names.now ≤ text.old.spare }
+        requires { sum_by (λ name. size (named (graph_of self.now) (Some name))) names.now ≤ text.old.spare }
         ensures rows { text.new.rows ≡ text.old.rows ++ map (row_in (graph_of self.now)) names.now }
         ensures roots { text.new.roots ≡ text.old.roots }
         ensures pins { text.new.pins ≡ text.old.pins }

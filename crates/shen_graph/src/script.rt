@@ -17,7 +17,7 @@ impl Model for Script {
 
     ghost Value = { List Command };
 
-    ghost view = { λ s. s.commands.items };
+    ghost view = { λ script. script.commands.items };
 }
 
 impl Script {

@@ -20,7 +20,7 @@ impl Model for Replies {
 
     ghost Value = { Given };
 
-    ghost view = { λ r. record { list = r.given.items; room = vec_capacity r.given - vec_len r.given } };
+    ghost view = { λ replies. record { list = replies.given.items; room = vec_capacity replies.given - vec_len replies.given } };
 }
 
 impl Replies {
@@ -62,9 +62,9 @@ impl Model for Job {
 
     ghost Value = { Progress };
 
-    ghost view = { λ j. record { script = j.script; replies = j.replies.list } };
+    ghost view = { λ job. record { script = job.script; replies = job.replies.list } };
 
-    ghost invariant = { λ j. (length j.replies.list ≤ length j.script) × (length j.script ≤ length j.replies.list + j.replies.room) };
+    ghost invariant = { λ job. (length job.replies.list ≤ length job.script) × (length job.script ≤ length job.replies.list + job.replies.room) };
 }
 
 impl Job {
@@ -116,9 +116,9 @@ impl Model for Work {
 
     ghost Value = { List (Option Progress) };
 
-    ghost view = { λ w. w.jobs };
+    ghost view = { λ work. work.jobs };
 
-    ghost invariant = { λ w. length w.jobs ≡ 8 };
+    ghost invariant = { λ work. length work.jobs ≡ 8 };
 }
 
 impl Work {

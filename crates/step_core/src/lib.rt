@@ -105,5 +105,5 @@ pub fn hints_have_places()
 /// A law: where a heap is at rest, whatever happened before and in whichever phase it is, its words represent the graph after the history,
 /// and nobody asks for an object.
 pub fn rest_represents()
-    ensures { (change : Change) → PausesByParts change → (config : Config) (stage : Stage Actor) (graph : Graph) → Begins config stage graph → (events : List (Event Order)) → IsAtRest config (go (kind change config) stage events) → Represents config (settled config (go (kind change config) stage events)) (after graph (history change config stage events)) (λ t. nothing) }
+    ensures { (change : Change) → PausesByParts change → (config : Config) (stage : Stage Actor) (graph : Graph) → Begins config stage graph → (events : List (Event Order)) → IsAtRest config (go (kind change config) stage events) → Represents config (settled config (go (kind change config) stage events)) (after graph (history change config stage events)) (λ mutator. nothing) }
 {}

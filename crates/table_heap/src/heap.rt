@@ -50,10 +50,10 @@ fn opened_table(
 >
     requires words { words.items ≡ (start_of_key key.now).words }
     requires count { length words.items ≡ table_words key.now.config }
-    ensures key { IfOk result (λ t. t.0.shared.key ≡ key.now) }
-    ensures words { IfOk result (λ t. t.0.shared.table_id.words ≡ table_words key.now.config) }
-    ensures slots { IfOk result (λ t. t.0.shared.table_id.slots ≡ 0) }
-    ensures seat { IfOk result (λ t. (t.1.table_id ≡ t.0.shared.table_id) × (t.1.me ≡ (whole (table_start key.now).machines, []))) }
+    ensures key { IfOk result (λ opened. opened.0.shared.key ≡ key.now) }
+    ensures words { IfOk result (λ opened. opened.0.shared.table_id.words ≡ table_words key.now.config) }
+    ensures slots { IfOk result (λ opened. opened.0.shared.table_id.slots ≡ 0) }
+    ensures seat { IfOk result (λ opened. (opened.1.table_id ≡ opened.0.shared.table_id) × (opened.1.me ≡ (whole (table_start key.now).machines, []))) }
 {
     match open_table(alloc, &words, key) {
         Ok(opened) => Ok(opened),
@@ -110,9 +110,9 @@ impl Heap {
         requires words { words.items ≡ (start_of_key key).words }
         requires count { length words.items ≡ table_words key.config }
         requires machines { AreMachinesOfStage key.config machines.items (start_of_key key) }
-        ensures config { IfOk result (λ t. config_of t.0 ≡ key.config) }
-        ensures key { IfOk result (λ t. start_of_heap t.0 ≡ start_of_key key) }
-        ensures bundle { IfOk result (λ t. IsFresh t.0 t.1 (whole (start_of_heap t.0).machines)) }
+        ensures config { IfOk result (λ opened. config_of opened.0 ≡ key.config) }
+        ensures key { IfOk result (λ opened. start_of_heap opened.0 ≡ start_of_key key) }
+        ensures bundle { IfOk result (λ opened. IsFresh opened.0 opened.1 (whole (start_of_heap opened.0).machines)) }
     {
         let config = key.config;
         let (table, seat) = opened_table(alloc, &key, words)?;
@@ -141,11 +141,11 @@ impl Heap {
     ) -> Result<(Heap, Vec<Bundle>), NoMemory>
         requires workers { 1 ≤ workers }
         requires fresh { IsFresh heap all (whole (start_of_heap heap).machines) }
-        ensures config { IfOk result (λ t. config_of t.0 ≡ config_of heap) }
-        ensures start { IfOk result (λ t. start_of_heap t.0 ≡ start_of_heap heap) }
-        ensures count { IfOk result (λ t. length t.1.items ≡ workers) }
-        ensures stealing { IfOk result (λ t. StealFromEachOther t.1.items) }
-        ensures bundles { IfOk result (λ t. (k : ℕ) (b : Bundles) → slice_get t.1.items k ≡ Some b → IsFresh t.0 b (dealt_to workers k (whole (start_of_heap heap).machines))) }
+        ensures config { IfOk result (λ dealt. config_of dealt.0 ≡ config_of heap) }
+        ensures start { IfOk result (λ dealt. start_of_heap dealt.0 ≡ start_of_heap heap) }
+        ensures count { IfOk result (λ dealt. length dealt.1.items ≡ workers) }
+        ensures stealing { IfOk result (λ dealt. StealFromEachOther dealt.1.items) }
+        ensures bundles { IfOk result (λ dealt. (bundle_number : ℕ) (bundle : Bundles) → slice_get dealt.1.items bundle_number ≡ Some bundle → IsFresh dealt.0 bundle (dealt_to workers bundle_number (whole (start_of_heap heap).machines))) }
     {
         let Ok(mut bundles) = Vec::with_capacity(alloc, workers) else {
             return Err(NoMemory);
@@ -170,11 +170,11 @@ impl Heap {
         workers: usize,
     ) -> Result<(Heap, Vec<Bundle>), NoMemory>
         requires { 1 ≤ workers }
-        ensures config { IfOk result (λ t. config_of t.0 ≡ config) }
-        ensures opening { IfOk result (λ t. start_of_heap t.0 ≡ heap_opening config) }
-        ensures count { IfOk result (λ t. length t.1.items ≡ workers) }
-        ensures stealing { IfOk result (λ t. StealFromEachOther t.1.items) }
-        ensures bundles { IfOk result (λ t. (k : ℕ) (b : Bundles) → slice_get t.1.items k ≡ Some b → IsFresh t.0 b (dealt_to workers k (whole (heap_opening config).machines))) }
+        ensures config { IfOk result (λ opened. config_of opened.0 ≡ config) }
+        ensures opening { IfOk result (λ opened. start_of_heap opened.0 ≡ heap_opening config) }
+        ensures count { IfOk result (λ opened. length opened.1.items ≡ workers) }
+        ensures stealing { IfOk result (λ opened. StealFromEachOther opened.1.items) }
+        ensures bundles { IfOk result (λ opened. (bundle_number : ℕ) (bundle : Bundles) → slice_get opened.1.items bundle_number ≡ Some bundle → IsFresh opened.0 bundle (dealt_to workers bundle_number (whole (heap_opening config).machines))) }
     {
         let words = open_words(alloc, config)?;
         let machines = open_machines(alloc, config)?;
@@ -195,12 +195,12 @@ impl Heap {
         requires workers { 1 ≤ workers }
         requires counts { length counts.items ≡ (images.config_of image).mutators }
         requires begins { ∥ ((graph : Graph) × CanBeginFrom (images.config_of image) (images.memory_of image) counts.items graph) ∥₁ }
-        ensures config { IfOk result (λ t. config_of t.0 ≡ images.config_of image) }
-        ensures start { IfOk result (λ t. start_of_heap t.0 ≡ stage_from (images.config_of image) (images.words_of image) counts.items) }
+        ensures config { IfOk result (λ opened. config_of opened.0 ≡ images.config_of image) }
+        ensures start { IfOk result (λ opened. start_of_heap opened.0 ≡ stage_from (images.config_of image) (images.words_of image) counts.items) }
         ensures begins { (graph : Graph) → CanBeginFrom (images.config_of image) (images.memory_of image) counts.items graph → Begins (images.config_of image) (stage_from (images.config_of image) (images.words_of image) counts.items) graph }
-        ensures count { IfOk result (λ t. length t.1.items ≡ workers) }
-        ensures stealing { IfOk result (λ t. StealFromEachOther t.1.items) }
-        ensures bundles { IfOk result (λ t. (k : ℕ) (b : Bundles) → slice_get t.1.items k ≡ Some b → IsFresh t.0 b (dealt_to workers k (whole (stage_from (images.config_of image) (images.words_of image) counts.items).machines))) }
+        ensures count { IfOk result (λ opened. length opened.1.items ≡ workers) }
+        ensures stealing { IfOk result (λ opened. StealFromEachOther opened.1.items) }
+        ensures bundles { IfOk result (λ opened. (bundle_number : ℕ) (bundle : Bundles) → slice_get opened.1.items bundle_number ≡ Some bundle → IsFresh opened.0 bundle (dealt_to workers bundle_number (whole (stage_from (images.config_of image) (images.words_of image) counts.items).machines))) }
     {
         let config = image.config();
         let words = words_from(alloc, &image)?;

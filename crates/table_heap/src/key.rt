@@ -11,5 +11,5 @@ use heap_words::Config;
 pub struct HeapKey {
     pub(crate) config: Config,
     pub(crate) left: Option<Left>,
-    ghost begins: { ∥ ((g : Graph) × Begins config (start_from config left) g) ∥₁ },
+    ghost begins: { ∥ ((graph : Graph) × Begins config (start_from config left) graph) ∥₁ },
 }

@@ -33,7 +33,7 @@ impl Outcome<u64, Bounds> for TellsLeast {
     ghost use Rattle.std.specs.Prelude.{◌≡◌, ◌∷◌, []};
     ghost use Rattle.table_heap.specs.Rule.{bounds};
 
-    ghost then = { λ v xs w. (xs ≡ w.least ∷ []) × (w ≡ bounds 1 w.least 0) };
+    ghost then = { λ before addresses after. (addresses ≡ after.least ∷ []) × (after ≡ bounds 1 after.least 0) };
 }
 
 // The second one tells the greatest.
@@ -43,7 +43,7 @@ impl Outcome<u64, Bounds> for TellsGreatest {
     ghost use Rattle.std.specs.Prelude.{◌≡◌, ◌∷◌, []};
     ghost use Rattle.table_heap.specs.Rule.{bounds};
 
-    ghost then = { λ v xs w. (xs ≡ w.greatest ∷ []) × (w ≡ bounds 2 v.least w.greatest) };
+    ghost then = { λ before addresses after. (addresses ≡ after.greatest ∷ []) × (after ≡ bounds 2 before.least after.greatest) };
 }
 
 // Any other call leaves what is known, and what comes or leaves lies within it.
@@ -53,14 +53,14 @@ impl Outcome<u64, Bounds> for Within {
     ghost use Rattle.std.specs.Prelude.{◌≡◌, All};
     ghost use Rattle.table_heap.specs.Rule.{IsBetween};
 
-    ghost then = { λ v xs w. (w ≡ v) × All (IsBetween v) xs };
+    ghost then = { λ before addresses after. (after ≡ before) × All (IsBetween before) addresses };
 }
 
 // A pass for a thief knows the same.
 pub(crate) struct Same;
 
 impl Split<Bounds> for Same {
-    ghost left = { λ v. v };
+    ghost left = { λ view. view };
 
-    ghost right = { λ v. v };
+    ghost right = { λ view. view };
 }

@@ -19,7 +19,7 @@ fn share_with(bundles: &mut Vec<Bundle>, bundle: usize, other: usize) -> Result<
     requires other { other < length bundles.old.items }
     requires heap { (config : Config) × HaveConfig config bundles.old.items }
     ensures more { AllShareMore bundles.old.items bundles.new.items }
-    ensures steals { IfOk result (λ _. (b own : Bundles) → other ≢ bundle → slice_get bundles.new.items other ≡ Some b → slice_get bundles.new.items bundle ≡ Some own → StealsFrom b own) }
+    ensures steals { IfOk result (λ _. (other_bundle own : Bundles) → other ≢ bundle → slice_get bundles.new.items other ≡ Some other_bundle → slice_get bundles.new.items bundle ≡ Some own → StealsFrom other_bundle own) }
 {
     if other == bundle {
         return Ok(());

@@ -43,7 +43,7 @@ fn most_reserved(text: &[u8]) -> u64
 
 /// The line at the front, if it has an end, and the bytes behind it.
 pub fn line_at(bytes: &[u8]) -> Option<(&[u8], &[u8])>
-    ensures { MatchOption result ((text : List ℕ) × (parts 10 bytes.now ≡ text ∷ [])) (λ x. parts 10 bytes.now ≡ x.0.now ∷ parts 10 x.1.now) }
+    ensures { MatchOption result ((text : List ℕ) × (parts 10 bytes.now ≡ text ∷ [])) (λ cut. parts 10 bytes.now ≡ cut.0.now ∷ parts 10 cut.1.now) }
 {
     let (text, end) = cut(b'\n', bytes);
     let (_, rest) = end.split_first()?;
@@ -76,7 +76,7 @@ fn heap_cause(bytes: &[u8]) -> Option<Why>
 
 /// Why no line of the threads stands at the front.
 fn threads_cause(bytes: &[u8]) -> Option<Why>
-    ensures { (v r w e : ℕ) → result ≡ cause_of (stage.Threads v r w e) (parts 10 bytes.now) }
+    ensures { (version regions region_words reserve : ℕ) → result ≡ cause_of (stage.Threads version regions region_words reserve) (parts 10 bytes.now) }
 {
     match line_at(bytes) {
         Some((text, _)) => title_cause(b"threads", &[(1, 8), (0, 3)], text),
@@ -105,7 +105,7 @@ pub struct Refusal {
 
 /// The first line of a trace's head that is refused, and why. None: the bytes begin with a head.
 pub fn head_refusal(bytes: &[u8]) -> Option<Refusal>
-    ensures { MatchOption result ((v : ℕ) × (config : Config) × (rest : List ℕ) × IsVersion v × IsNarrow config × (bytes.now ≡ header v config ++ rest)) (λ r. StopsAt bytes.now r.line r.why) }
+    ensures { MatchOption result ((version : ℕ) × (config : Config) × (rest : List ℕ) × IsVersion version × IsNarrow config × (bytes.now ≡ header version config ++ rest)) (λ refusal. StopsAt bytes.now refusal.line refusal.why) }
 {
     if let Some(why) = version_cause(bytes) {
         return Some(Refusal { line: 1, why });

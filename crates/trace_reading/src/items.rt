@@ -13,7 +13,7 @@ const MOST_COUNT: u64 = 4_000_000_000;
 
 /// The place whose code stands at the front, and the bytes behind it.
 fn place_at(bytes: &[u8]) -> Option<(Place, &[u8])>
-    ensures { MatchOption result (BeginsWithNone code_of IsAny bytes.now) (λ x. BeginsWith code_of IsAny bytes.now x.0 x.1.now) }
+    ensures { MatchOption result (BeginsWithNone code_of IsAny bytes.now) (λ found. BeginsWith code_of IsAny bytes.now found.0 found.1.now) }
 {
     match bytes {
         [first, second, rest @ ..] => {
@@ -27,7 +27,7 @@ fn place_at(bytes: &[u8]) -> Option<(Place, &[u8])>
 /// The item of this machine whose aim stands at the front, and the bytes behind it.
 fn aim_at<'a>(config: &Config, number: usize, bytes: &'a [u8]) -> Option<(Item, &'a [u8])>
     requires { number < seat_count config.now.mutators config.now.helpers }
-    ensures { MatchOption result (BeginsWithNone aim (IsItemOf config.now number) bytes.now) (λ x. BeginsWith aim (IsItemOf config.now number) bytes.now x.0 x.1.now) }
+    ensures { MatchOption result (BeginsWithNone aim (IsItemOf config.now number) bytes.now) (λ found. BeginsWith aim (IsItemOf config.now number) bytes.now found.0 found.1.now) }
 {
     let (mark, rest) = bytes.split_first()?;
     match *mark {
@@ -52,7 +52,7 @@ fn aim_at<'a>(config: &Config, number: usize, bytes: &'a [u8]) -> Option<(Item, 
 
 /// The item at the front, and the bytes behind it.
 pub(crate) fn item_at<'a>(config: &Config, bytes: &'a [u8]) -> Option<(Item, &'a [u8])>
-    ensures { MatchOption result (BeginsWithNone item (IsItem config.now) bytes.now) (λ x. BeginsWith item (IsItem config.now) bytes.now x.0 x.1.now) }
+    ensures { MatchOption result (BeginsWithNone item (IsItem config.now) bytes.now) (λ found. BeginsWith item (IsItem config.now) bytes.now found.0 found.1.now) }
 {
     let (machine, rest) = positive_at(config.seats() as u64, bytes)?;
     aim_at(config, machine as usize - 1, rest)

@@ -7,5 +7,5 @@ ghost use Rattle.trace_reading.specs.Grammar.{Reads, IsSameTrace};
 
 /// A law: bytes are a trace in one way at most.
 pub fn traces_are_read_once()
-    ensures { (bytes : List ℕ) (v w : ℕ) (config other_config : Config) (xs ys : List (List Command)) (is js : List Item) → Reads bytes v config xs is → Reads bytes w other_config ys js → IsSameTrace v config xs is w other_config ys js }
+    ensures { (bytes : List ℕ) (version other_version : ℕ) (config other_config : Config) (scripts other_scripts : List (List Command)) (items other_items : List Item) → Reads bytes version config scripts items → Reads bytes other_version other_config other_scripts other_items → IsSameTrace version config scripts items other_version other_config other_scripts other_items }
 {}

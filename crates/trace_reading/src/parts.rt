@@ -13,7 +13,7 @@ pub fn cut(separator: u8, bytes: &[u8]) -> (&[u8], &[u8])
 
 /// How many bytes stand before the first such byte.
 fn before(separator: u8, bytes: &[u8]) -> usize
-    ensures { result ≡ prefix_len (λ b. if b == separator then false else true) bytes.now }
+    ensures { result ≡ prefix_len (λ byte. if byte == separator then false else true) bytes.now }
 {
     for (count, byte) in bytes.iter().enumerate() {
         if *byte == separator {
@@ -25,8 +25,8 @@ fn before(separator: u8, bytes: &[u8]) -> usize
 
 /// The next word, and the bytes from the space behind it on.
 pub fn next_word(words: &[u8]) -> Option<(&[u8], &[u8])>
-    ensures shorter { IfSome result (λ x. length x.1.now < length words.now) }
-    ensures words { MatchOption result (parts_behind 32 words.now ≡ []) (λ x. parts_behind 32 words.now ≡ x.0.now ∷ parts_behind 32 x.1.now) }
+    ensures shorter { IfSome result (λ cut. length cut.1.now < length words.now) }
+    ensures words { MatchOption result (parts_behind 32 words.now ≡ []) (λ cut. parts_behind 32 words.now ≡ cut.0.now ∷ parts_behind 32 cut.1.now) }
 {
     match words {
         [_, text @ ..] => Some(cut(b' ', text)),

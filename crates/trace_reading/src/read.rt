@@ -55,9 +55,9 @@ fn sizes_at(bytes: &[u8]) -> Option<(HeadNumbers, &[u8])>
 
 /// The version and the configuration at the head of a trace, and the bytes behind its three lines.
 pub fn head_at(bytes: &[u8]) -> Option<(u32, Config, &[u8])>
-    ensures found { IfSome result (λ x. bytes.now ≡ header x.0 x.1 ++ x.2.now) }
-    ensures known { IfSome result (λ x. IsVersion x.0) }
-    ensures narrow { IfSome result (λ x. IsNarrow x.1) }
+    ensures found { IfSome result (λ head. bytes.now ≡ header head.0 head.1 ++ head.2.now) }
+    ensures known { IfSome result (λ head. IsVersion head.0) }
+    ensures narrow { IfSome result (λ head. IsNarrow head.1) }
     ensures none { IfNone result (HasNoHead bytes.now) }
 {
     let (numbers, rest) = sizes_at(bytes)?;
@@ -84,8 +84,8 @@ fn take_line<'a>(
     scripts: &mut Vec<Script>,
 ) -> Result<&'a [u8], NotTaken>
     requires { length scripts.old.items ≡ threads }
-    ensures ok { IfOk result (λ rest. (l : TraceLine) × IsLine version threads l × (bytes.now ≡ line l ++ rest.now) × (scripts.new.items ≡ with_line scripts.old.items l)) }
-    ensures refused { result ≡ Err NotTaken.Refused → (l : TraceLine) (rest : List ℕ) → IsLine version threads l → bytes.now ≢ line l ++ rest }
+    ensures ok { IfOk result (λ rest. (trace_line : TraceLine) × IsLine version threads trace_line × (bytes.now ≡ line trace_line ++ rest.now) × (scripts.new.items ≡ with_line scripts.old.items trace_line)) }
+    ensures refused { result ≡ Err NotTaken.Refused → (trace_line : TraceLine) (rest : List ℕ) → IsLine version threads trace_line → bytes.now ≢ line trace_line ++ rest }
 {
     let Some((thread, command, rest)) = line_at(version, threads, bytes) else {
         return Err(NotTaken::Refused);
@@ -118,10 +118,10 @@ fn take_lines<'a>(
 ) -> Result<(u64, &'a [u8]), TraceFault>
     requires scripts { scripts.old.items ≡ scripts_of config.now.mutators [] }
     requires few { first + length bytes.now < 2 ^ 64 }
-    ensures ok { IfOk result (λ x. (taken : HasReadLines version config.now.mutators bytes.now x.1.now scripts.new.items) × (x.0 ≡ first + length taken.lines)) }
-    ensures behind { IfOk result (λ x. IsBehindCommands x.1.now) }
+    ensures ok { IfOk result (λ reached. (taken : HasReadLines version config.now.mutators bytes.now reached.1.now scripts.new.items) × (reached.0 ≡ first + length taken.lines)) }
+    ensures behind { IfOk result (λ reached. IsBehindCommands reached.1.now) }
     ensures fault { IfErr result IsTextFault }
-    ensures bad_line { (n : ℕ) (why : Cause) → result ≡ Err (TraceFault.BadLine n why) → StopsCommands version config.now first bytes.now n why }
+    ensures bad_line { (line_number : ℕ) (why : Cause) → result ≡ Err (TraceFault.BadLine line_number why) → StopsCommands version config.now first bytes.now line_number why }
 {
     let threads = config.mutators() as u32;
     let mut rest = bytes;
@@ -140,7 +140,7 @@ fn take_lines<'a>(
 /// The fault of bytes that do not begin with a line of a command of the version, where this is line `number`.
 fn bad_command(version: u32, config: &Config, number: u64, bytes: &[u8]) -> TraceFault
     requires some { IsBehindCommands bytes.now → ⊥ }
-    requires refused { (l : TraceLine) (rest : List ℕ) → IsLine version config.now.mutators l → bytes.now ≢ line l ++ rest }
+    requires refused { (trace_line : TraceLine) (rest : List ℕ) → IsLine version config.now.mutators trace_line → bytes.now ≢ line trace_line ++ rest }
     ensures { (why : Cause) × (result ≡ TraceFault.BadLine number why) × (cause_of (body_stage version config.now false) (parts 10 bytes.now) ≡ Some why) }
 {
     let why = body_refusal(version, config, false, bytes).unwrap();
@@ -150,7 +150,7 @@ fn bad_command(version: u32, config: &Config, number: u64, bytes: &[u8]) -> Trac
 /// The fault of bytes that do not begin with the head of a trace.
 fn bad_head(bytes: &[u8]) -> TraceFault
     requires { HasNoHead bytes.now }
-    ensures { (n : ℕ) × (why : Cause) × (result ≡ TraceFault.BadLine n why) × StopsAt bytes.now n why }
+    ensures { (line_number : ℕ) × (why : Cause) × (result ≡ TraceFault.BadLine line_number why) × StopsAt bytes.now line_number why }
 {
     let refusal = head_refusal(bytes).unwrap();
     TraceFault::BadLine {
@@ -162,7 +162,7 @@ fn bad_head(bytes: &[u8]) -> TraceFault
 /// A script without a command for each of so many threads.
 fn empty_scripts(alloc: Global, threads: u32) -> Result<Vec<Script>, TraceFault>
     ensures ok { IfOk result (λ scripts. scripts.items ≡ scripts_of threads []) }
-    ensures fault { IfErr result (λ e. e ≡ TraceFault.NoMemory) }
+    ensures fault { IfErr result (λ fault. fault ≡ TraceFault.NoMemory) }
 {
     let mut scripts = Vec::new(alloc);
     for _ in 0..threads {
@@ -181,7 +181,7 @@ pub fn trace_of(alloc: Global, bytes: &[u8]) -> Result<Trace, TraceFault>
     requires { length bytes.now ≤ most_bytes }
     ensures ok { IfOk result (λ trace. Reads bytes.now trace.version trace.config trace.scripts trace.schedule) }
     ensures fault { IfErr result IsTextFault }
-    ensures bad_line { (n : ℕ) (why : Cause) → result ≡ Err (TraceFault.BadLine n why) → Refused bytes.now n why }
+    ensures bad_line { (line_number : ℕ) (why : Cause) → result ≡ Err (TraceFault.BadLine line_number why) → Refused bytes.now line_number why }
 {
     let Some((version, config, rest)) = head_at(bytes) else {
         return Err(bad_head(bytes));
@@ -203,7 +203,7 @@ pub fn trace_behind(
     ensures config { IfOk result (λ trace. trace.config ≡ config) }
     ensures ok { IfOk result (λ trace. HasReadBody version config bytes.now trace.scripts trace.schedule) }
     ensures fault { IfErr result IsTextFault }
-    ensures bad_line { (n : ℕ) (why : Cause) → result ≡ Err (TraceFault.BadLine n why) → StopsBody version config first bytes.now n why }
+    ensures bad_line { (line_number : ℕ) (why : Cause) → result ≡ Err (TraceFault.BadLine line_number why) → StopsBody version config first bytes.now line_number why }
 {
     let mut scripts = empty_scripts(alloc, config.mutators() as u32)?;
     let Ok(mut schedule) = Schedule::open(alloc) else {
@@ -225,9 +225,9 @@ pub fn read_trace<S: Source>(alloc: Global, source: &mut S) -> Result<Trace, Tra
     ensures ok { IfOk result (λ trace. (bytes : List ℕ) × Came (S.left source.old) (S.left source.new) bytes × Reads bytes trace.version trace.config trace.scripts trace.schedule) }
 
     // The bytes came whole, and are refused at that line and for that cause.
-    ensures bad_line { (n : ℕ) (why : Cause) → result ≡ Err (TraceFault.BadLine n why) → (bytes : List ℕ) × Came (S.left source.old) (S.left source.new) bytes × Refused bytes n why }
+    ensures bad_line { (line_number : ℕ) (why : Cause) → result ≡ Err (TraceFault.BadLine line_number why) → (bytes : List ℕ) × Came (S.left source.old) (S.left source.new) bytes × Refused bytes line_number why }
 
-    ensures too_long { (n : ℕ) → result ≡ Err (TraceFault.TooLong n) → (n ≡ most_bytes + 1)
+    ensures too_long { (byte_count : ℕ) → result ≡ Err (TraceFault.TooLong byte_count) → (byte_count ≡ most_bytes + 1)
         × ((bytes : List ℕ) × Consumes (S.left source.old) (S.left source.new) bytes × (length bytes ≡ most_bytes + 1)) }
     ensures read_fault { result ≡ Err TraceFault.ReadFault → Rose (S.faults source.old) (S.faults source.new) }
     ensures faults_never_fall { S.faults source.old ≤ S.faults source.new }

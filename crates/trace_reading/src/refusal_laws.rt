@@ -11,7 +11,7 @@ ghost use Rattle.trace_reading.specs.Refused.{Refused};
 /// for two causes. That they are one trace at most is a law of the grammar.
 pub fn bytes_are_read_or_refused()
     ensures either { (bytes : List ℕ) → length bytes ≤ most_bytes
-        → ((v : ℕ) × (config : Config) × (scripts : List (List Command)) × (items : List Item) × Reads bytes v config scripts items) ⊎ ((n : ℕ) × (why : Why) × Refused bytes n why) }
-    ensures never_both { (bytes : List ℕ) (v : ℕ) (config : Config) (scripts : List (List Command)) (items : List Item) (n : ℕ) (why : Why) → Reads bytes v config scripts items → Refused bytes n why → ⊥ }
-    ensures once { (bytes : List ℕ) (n m : ℕ) (why other : Why) → Refused bytes n why → Refused bytes m other → (n ≡ m) × (why ≡ other) }
+        → ((version : ℕ) × (config : Config) × (scripts : List (List Command)) × (items : List Item) × Reads bytes version config scripts items) ⊎ ((line_number : ℕ) × (why : Why) × Refused bytes line_number why) }
+    ensures never_both { (bytes : List ℕ) (version : ℕ) (config : Config) (scripts : List (List Command)) (items : List Item) (line_number : ℕ) (why : Why) → Reads bytes version config scripts items → Refused bytes line_number why → ⊥ }
+    ensures once { (bytes : List ℕ) (line_number other_line_number : ℕ) (why other_why : Why) → Refused bytes line_number why → Refused bytes other_line_number other_why → (line_number ≡ other_line_number) × (why ≡ other_why) }
 {}

@@ -9,7 +9,7 @@ ghost use Rattle.trace_reading.specs.Scanning.{behind, digit_count, is_numeral, 
 
 /// What is behind a text at the front of the bytes.
 pub fn text_at<'a>(text: &[u8], bytes: &'a [u8]) -> Option<&'a [u8]>
-    ensures { option_map (λ r. r.now) result ≡ behind text.now bytes.now }
+    ensures { option_map (λ rest. rest.now) result ≡ behind text.now bytes.now }
 {
     bytes.strip_prefix(text)
 }
@@ -29,7 +29,7 @@ pub fn digits_at(bytes: &[u8]) -> usize
 /// The number that these digits spell, if a u64 holds it.
 pub fn value_of(digits: &[u8]) -> Option<u64>
     requires { AllDigits 10 digits.now }
-    ensures { MatchOption result (2 ^ 64 ≤ digits_value 10 digits.now) (λ n. n ≡ digits_value 10 digits.now) }
+    ensures { MatchOption result (2 ^ 64 ≤ digits_value 10 digits.now) (λ number. number ≡ digits_value 10 digits.now) }
 {
     let mut value: u64 = 0;
     for digit in digits {
@@ -41,7 +41,7 @@ pub fn value_of(digits: &[u8]) -> Option<u64>
 /// The number with one digit more.
 fn with_digit(value: u64, digit: u8) -> Option<u64>
     requires { IsInRange 48 57 digit }
-    ensures { MatchOption result (2 ^ 64 ≤ value * 10 + (digit - 48)) (λ n. n ≡ value * 10 + (digit - 48)) }
+    ensures { MatchOption result (2 ^ 64 ≤ value * 10 + (digit - 48)) (λ number. number ≡ value * 10 + (digit - 48)) }
 {
     value.checked_mul(10)?.checked_add(u64::from(digit - b'0'))
 }
@@ -91,7 +91,7 @@ pub fn positive_at(limit: u64, bytes: &[u8]) -> Option<(u64, &[u8])>
 
 /// The number from 1 to `most` that a whole text spells. A number has no needless zero in front.
 pub fn number_in(most: u64, text: &[u8]) -> Option<u64>
-    ensures { MatchOption result ((n : ℕ) → IsUpTo most n → text.now ≡ decimal n → ⊥) (λ n. IsUpTo most n × (text.now ≡ decimal n)) }
+    ensures { MatchOption result ((number : ℕ) → IsUpTo most number → text.now ≡ decimal number → ⊥) (λ number. IsUpTo most number × (text.now ≡ decimal number)) }
 {
     let (number, rest) = positive_at(most, text)?;
     if rest.is_empty() { Some(number) } else { None }

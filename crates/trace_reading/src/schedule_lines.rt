@@ -24,7 +24,7 @@ fn take_item<'a>(
     bytes: &'a [u8],
     schedule: &mut Schedule,
 ) -> Result<&'a [u8], NotTaken>
-    ensures ok { IfOk result (λ rest. (i : Piece) × BeginsWith spaced_item (IsItem config.now) bytes.now i rest.now × (schedule.new ≡ schedule.old ++ i ∷ [])) }
+    ensures ok { IfOk result (λ rest. (item : Piece) × BeginsWith spaced_item (IsItem config.now) bytes.now item rest.now × (schedule.new ≡ schedule.old ++ item ∷ [])) }
     ensures refused { result ≡ Err NotTaken.Refused → BeginsWithNone spaced_item (IsItem config.now) bytes.now }
 {
     let Some(word) = text_at(b" ", bytes) else {
@@ -98,7 +98,7 @@ pub(crate) fn take_schedule(
     requires behind { IsBehindCommands bytes.now }
     ensures ok { OnOk result (HasScheduled config.now bytes.now schedule.old schedule.new) }
     ensures fault { IfErr result IsTextFault }
-    ensures bad_line { (n : ℕ) (why : Cause) → result ≡ Err (TraceFault.BadLine n why) → StopsTurns version config.now first bytes.now n why }
+    ensures bad_line { (line_number : ℕ) (why : Cause) → result ≡ Err (TraceFault.BadLine line_number why) → StopsTurns version config.now first bytes.now line_number why }
 {
     let mut rest = bytes;
     let mut line = first;

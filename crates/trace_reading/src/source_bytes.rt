@@ -20,7 +20,7 @@ const BLOCK: usize = 65_536;
 /// So many bytes to read into.
 fn room_for(alloc: Global, bytes: usize) -> Result<Vec<u8>, TraceFault>
     ensures size { IfOk result (λ room. vec_len room ≡ bytes) }
-    ensures err { IfErr result (λ e. e ≡ TraceFault.NoMemory) }
+    ensures err { IfErr result (λ fault. fault ≡ TraceFault.NoMemory) }
 {
     match vec![in alloc; 0; bytes] {
         Ok(room) => Ok(room),
@@ -36,8 +36,8 @@ fn read_piece<S: Source>(
 ) -> Result<usize, TraceFault>
     ensures taken { OnOk result ((first : Option (List ℕ)) →
         Consumes first (S.left source.old) bytes.old.items → Consumes first (S.left source.new) bytes.new.items) }
-    ensures count { IfOk result (λ n. (n ≤ length piece.old) × (vec_len bytes.new ≡ vec_len bytes.old + n)) }
-    ensures at_end { IfOk result (λ n. n ≡ 0 → 0 < length piece.old → IsAtEnd (S.left source.new)) }
+    ensures count { IfOk result (λ count. (count ≤ length piece.old) × (vec_len bytes.new ≡ vec_len bytes.old + count)) }
+    ensures at_end { IfOk result (λ count. count ≡ 0 → 0 < length piece.old → IsAtEnd (S.left source.new)) }
     ensures fault { IfErr result IsReadingFault }
     ensures read_fault { result ≡ Err TraceFault.ReadFault → Rose (S.faults source.old) (S.faults source.new) }
     ensures faults_never_fall { S.faults source.old ≤ S.faults source.new }
@@ -61,10 +61,10 @@ fn read_piece<S: Source>(
 /// least one byte.
 pub fn all_bytes<S: Source>(alloc: Global, source: &mut S) -> Result<Vec<u8>, TraceFault>
     ensures ok { IfOk result (λ bytes. Came (S.left source.old) (S.left source.new) bytes.items × (length bytes.items ≤ most_bytes)) }
-    ensures too_long { (n : ℕ) → result ≡ Err (TraceFault.TooLong n) → (n ≡ most_bytes + 1)
+    ensures too_long { (byte_count : ℕ) → result ≡ Err (TraceFault.TooLong byte_count) → (byte_count ≡ most_bytes + 1)
         × ((bytes : List ℕ) × Consumes (S.left source.old) (S.left source.new) bytes × (length bytes ≡ most_bytes + 1)) }
     ensures read_fault { result ≡ Err TraceFault.ReadFault → Rose (S.faults source.old) (S.faults source.new) }
-    ensures no_bad_line { (n : ℕ) (why : Why) → result ≢ Err (TraceFault.BadLine n why) }
+    ensures no_bad_line { (line_number : ℕ) (why : Why) → result ≢ Err (TraceFault.BadLine line_number why) }
     ensures faults_never_fall { S.faults source.old ≤ S.faults source.new }
     ensures few_calls { HasFewCalls (S.left source.old) (S.left source.new) (S.calls source.old) (S.calls source.new) }
 {

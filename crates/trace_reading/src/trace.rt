@@ -17,7 +17,7 @@ impl Model for Scripts {
 
     ghost Value = { List (List Command) };
 
-    ghost view = { λ s. s.scripts.items };
+    ghost view = { λ scripts. scripts.scripts.items };
 }
 
 impl Scripts {

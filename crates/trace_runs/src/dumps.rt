@@ -25,8 +25,8 @@ use trace_text::Line;
 /// The dump of the heap at the end of a trace.
 fn dump_after(alloc: Global, trace: Trace, steps: u64) -> Result<Dump, Refusal>
     requires { (bytes : List ℕ) × Reads bytes trace.version trace.config trace.scripts trace.schedule }
-    ensures is_dump { IfOk result (λ d. IsDump (dumped d.config d.counts d.graph)) }
-    ensures ok { IfOk result (λ d. (bytes : List ℕ) → Reads bytes trace.version trace.config trace.scripts trace.schedule → IsReplayedToDump bytes steps (dump_text (dumped d.config d.counts d.graph))) }
+    ensures is_dump { IfOk result (λ dump. IsDump (dumped dump.config dump.counts dump.graph)) }
+    ensures ok { IfOk result (λ dump. (bytes : List ℕ) → Reads bytes trace.version trace.config trace.scripts trace.schedule → IsReplayedToDump bytes steps (dump_text (dumped dump.config dump.counts dump.graph))) }
     ensures unfinished { result ≡ Err Refusal.Unfinished → (bytes : List ℕ) → Reads bytes trace.version trace.config trace.scripts trace.schedule → IsUnfinished bytes steps }
 {
     let config = trace.config;

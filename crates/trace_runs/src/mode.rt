@@ -87,14 +87,14 @@ pub fn mode_of(words: &[String]) -> Option<Mode>
 
 // The steps of `replay`, or `replay --steps N`.
 fn steps_of(words: &[String]) -> Option<u64>
-    ensures { MatchOption result (((n : ℕ) × IsReplay (map string_bytes words.now) n) → ⊥) (IsReplay (map string_bytes words.now)) }
+    ensures { MatchOption result (((steps : ℕ) × IsReplay (map string_bytes words.now) steps) → ⊥) (IsReplay (map string_bytes words.now)) }
 {
     number_of("replay", "--steps", USUAL_STEPS, MOST_STEPS, words)
 }
 
 // The steps of a replay behind whose words this one stands.
 fn steps_before(last_word: &str, words: &[String]) -> Option<u64>
-    ensures { MatchOption result (((n : ℕ) × IsReplayThen last_word.now (map string_bytes words.now) n) → ⊥) (IsReplayThen last_word.now (map string_bytes words.now)) }
+    ensures { MatchOption result (((steps : ℕ) × IsReplayThen last_word.now (map string_bytes words.now) steps) → ⊥) (IsReplayThen last_word.now (map string_bytes words.now)) }
 {
     match words {
         [front @ .., last] if last.as_str() == last_word => steps_of(front),
@@ -104,21 +104,21 @@ fn steps_before(last_word: &str, words: &[String]) -> Option<u64>
 
 // The steps of `resume`, or `resume --steps N`.
 fn resume_steps_of(words: &[String]) -> Option<u64>
-    ensures { MatchOption result (((n : ℕ) × IsResume (map string_bytes words.now) n) → ⊥) (IsResume (map string_bytes words.now)) }
+    ensures { MatchOption result (((steps : ℕ) × IsResume (map string_bytes words.now) steps) → ⊥) (IsResume (map string_bytes words.now)) }
 {
     number_of("resume", "--steps", USUAL_STEPS, MOST_STEPS, words)
 }
 
 // The bundles of `run`, or `run --workers K`.
 fn workers_of(words: &[String]) -> Option<u64>
-    ensures { MatchOption result (((n : ℕ) × IsRunBy (map string_bytes words.now) n) → ⊥) (IsRunBy (map string_bytes words.now)) }
+    ensures { MatchOption result (((workers : ℕ) × IsRunBy (map string_bytes words.now) workers) → ⊥) (IsRunBy (map string_bytes words.now)) }
 {
     number_of("run", "--workers", MOST_MACHINES, MOST_MACHINES, words)
 }
 
 // What a churn is to be made from: `churn SEED COUNT`.
 fn workload_of(words: &[String]) -> Option<Workload>
-    ensures { MatchOption result (((seed : ℕ) × ((count : ℕ) × IsChurn (map string_bytes words.now) seed count)) → ⊥) (λ w. IsChurn (map string_bytes words.now) w.seed w.count) }
+    ensures { MatchOption result (((seed : ℕ) × ((count : ℕ) × IsChurn (map string_bytes words.now) seed count)) → ⊥) (λ workload. IsChurn (map string_bytes words.now) workload.seed workload.count) }
 {
     match words {
         [word, seed, count] if word.as_str() == "churn" => {
@@ -152,7 +152,7 @@ fn count_of(words: &[String]) -> Option<u64>
 
 // The seed that a whole word spells.
 fn seed_in(word: &str) -> Option<u64>
-    ensures { MatchOption result ((n : ℕ) → n ≤ most_seed → word.now ≡ decimal n → ⊥) (λ n. (n ≤ most_seed) × (word.now ≡ decimal n)) }
+    ensures { MatchOption result ((seed : ℕ) → seed ≤ most_seed → word.now ≡ decimal seed → ⊥) (λ seed. (seed ≤ most_seed) × (word.now ≡ decimal seed)) }
 {
     if word == "0" {
         Some(0)
@@ -164,7 +164,7 @@ fn seed_in(word: &str) -> Option<u64>
 // The number that goes with a command, where the words are the command: the usual one where they are that word alone, or
 // the one, at most `most`, that stands behind the option.
 fn number_of(command: &str, option: &str, usual: u64, most: u64, words: &[String]) -> Option<u64>
-    ensures { MatchOption result (((n : ℕ) × IsNumbered command.now option.now usual most (map string_bytes words.now) n) → ⊥) (IsNumbered command.now option.now usual most (map string_bytes words.now)) }
+    ensures { MatchOption result (((number : ℕ) × IsNumbered command.now option.now usual most (map string_bytes words.now) number) → ⊥) (IsNumbered command.now option.now usual most (map string_bytes words.now)) }
 {
     match words {
         [word] if word.as_str() == command => Some(usual),

@@ -45,7 +45,7 @@ pub enum Refusal {
 /// Runs the schedule of a trace, and then rounds, on a heap of its own, until all mutators have ended and the control has.
 fn run(alloc: Global, trace: Trace, steps: u64) -> Result<(Work, Plain), Refusal>
     requires { (bytes : List ℕ) × Reads bytes trace.version trace.config trace.scripts trace.schedule }
-    ensures finished { IfOk result (λ x. HasFinished trace.config trace.scripts trace.schedule steps x.0 x.1) }
+    ensures finished { IfOk result (λ ran. HasFinished trace.config trace.scripts trace.schedule steps ran.0 ran.1) }
     ensures unfinished { result ≡ Err Refusal.Unfinished → (bytes : List ℕ) → Reads bytes trace.version trace.config trace.scripts trace.schedule → IsUnfinished bytes steps }
 {
     let Ok(mut work) = Work::of(alloc, trace.scripts.into_vec()) else {
@@ -90,8 +90,8 @@ pub(crate) fn run_noted(
     steps: u64,
 ) -> Result<(Work, Plain, History), Refusal>
     requires { (bytes : List ℕ) × Reads bytes trace.version trace.config trace.scripts trace.schedule }
-    ensures finished { IfOk result (λ x. HasFinished trace.config trace.scripts trace.schedule steps x.0 x.1) }
-    ensures history { IfOk result (λ x. x.2.list ≡ history_of trace.config trace.scripts trace.schedule steps) }
+    ensures finished { IfOk result (λ ran. HasFinished trace.config trace.scripts trace.schedule steps ran.0 ran.1) }
+    ensures history { IfOk result (λ ran. ran.2.list ≡ history_of trace.config trace.scripts trace.schedule steps) }
     ensures unfinished { result ≡ Err Refusal.Unfinished → (bytes : List ℕ) → Reads bytes trace.version trace.config trace.scripts trace.schedule → IsUnfinished bytes steps }
 {
     let Ok(mut history) = history_for(alloc, &trace) else {
@@ -119,7 +119,7 @@ pub(crate) fn graph_of(
     requires rest { AllRest plain.old }
     ensures shows { IfOk result (λ text. (run : Run config) → memory.Shows plain.old (ending pause_image config run) → ShowsGraph text config.mutators (graph_after pause_image config run)) }
     ensures threads { IfOk result (λ text. length text.roots ≡ config.mutators) }
-    ensures fault { IfErr result (λ e. e ≡ Refusal.NoMemory) }
+    ensures fault { IfErr result (λ refusal. refusal ≡ Refusal.NoMemory) }
 {
     let Ok(mut text) = GraphText::open(alloc, config.heap_size(), config.mutators()) else {
         return Err(Refusal::NoMemory);
@@ -156,11 +156,11 @@ pub fn noted_answer_to(
     steps: u64,
 ) -> Result<(Answer, History), Refusal>
     requires { (bytes : List ℕ) × Reads bytes trace.version trace.config trace.scripts trace.schedule }
-    ensures whole { IfOk result (λ x. IsWhole trace.config trace.scripts (events_of trace.config trace.scripts trace.schedule steps)) }
-    ensures history { IfOk result (λ x. x.1.list ≡ history_of trace.config trace.scripts trace.schedule steps) }
-    ensures graph { IfOk result (λ x. ShowsGraph x.0.graph trace.config.mutators (after (first_graph trace.config) (history_of trace.config trace.scripts trace.schedule steps))) }
-    ensures ok { IfOk result (λ x. (bytes : List ℕ) → Reads bytes trace.version trace.config trace.scripts trace.schedule → IsReplayedNoted bytes steps (spelled_answer x.0 ++ history_text x.1.list)) }
-    ensures scripts { IfOk result (λ x. (mutator : ℕ) → mutator < length x.0.graph.roots → HasScript x.0.replies mutator) }
+    ensures whole { IfOk result (λ answered. IsWhole trace.config trace.scripts (events_of trace.config trace.scripts trace.schedule steps)) }
+    ensures history { IfOk result (λ answered. answered.1.list ≡ history_of trace.config trace.scripts trace.schedule steps) }
+    ensures graph { IfOk result (λ answered. ShowsGraph answered.0.graph trace.config.mutators (after (first_graph trace.config) (history_of trace.config trace.scripts trace.schedule steps))) }
+    ensures ok { IfOk result (λ answered. (bytes : List ℕ) → Reads bytes trace.version trace.config trace.scripts trace.schedule → IsReplayedNoted bytes steps (spelled_answer answered.0 ++ history_text answered.1.list)) }
+    ensures scripts { IfOk result (λ answered. (mutator : ℕ) → mutator < length answered.0.graph.roots → HasScript answered.0.replies mutator) }
     ensures unfinished { result ≡ Err Refusal.Unfinished → (bytes : List ℕ) → Reads bytes trace.version trace.config trace.scripts trace.schedule → IsUnfinished bytes steps }
 {
     let config = trace.config;

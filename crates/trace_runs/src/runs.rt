@@ -44,7 +44,7 @@ pub fn run_scripts<R: Threads + Wait + Sync, G: Gate>(
     requires workers { 1 ≤ workers }
     requires count { length scripts.items ≡ config.mutators }
     requires runnable { All IsRunnable scripts.items }
-    ensures { IfOk result (λ x. HasCome config scripts.items x.0 x.1) }
+    ensures { IfOk result (λ ran. HasCome config scripts.items ran.0 ran.1) }
 {
     let bundles = config.seats().min(workers as usize);
     let Ok(work) = Work::of(alloc, scripts) else {

@@ -58,7 +58,7 @@ fn start<'s, E, R: Wait + Sync, G: Gate>(
     part: Part,
 ) -> Result<Thread, Part>
     requires { PartCanRun heap.now part }
-    ensures ok { IfOk result (λ thread. (assigned : Assigned) (workers k : ℕ) → PartIsReady heap.now assigned workers k (k + 1) part → IsThread heap.now assigned workers k thread) }
+    ensures ok { IfOk result (λ thread. (assigned : Assigned) (workers bundle_number : ℕ) → PartIsReady heap.now assigned workers bundle_number (bundle_number + 1) part → IsThread heap.now assigned workers bundle_number thread) }
     ensures err { IfErr result (λ back. back ≡ part) }
 {
     let given = Given(Snapshot::of(&part));
@@ -123,8 +123,8 @@ fn start_all<'s, E, R: Wait + Sync, G: Gate>(
 
 // The part of a thread, once it has run.
 fn ended<R: Threads + Wait, G: Gate>(rt: &R, heap: &Heap, gate: &G, thread: Thread) -> Part
-    requires { (assigned : Assigned) × (workers : ℕ) × (k : ℕ) × IsThread heap.now assigned workers k thread }
-    ensures { (assigned : Assigned) (workers k : ℕ) → IsThread heap.now assigned workers k thread → IsDone heap.now assigned workers k (k + 1) result }
+    requires { (assigned : Assigned) × (workers : ℕ) × (bundle_number : ℕ) × IsThread heap.now assigned workers bundle_number thread }
+    ensures { (assigned : Assigned) (workers bundle_number : ℕ) → IsThread heap.now assigned workers bundle_number thread → IsDone heap.now assigned workers bundle_number (bundle_number + 1) result }
 {
     match thread {
         Thread::Over(part) => part,

@@ -49,7 +49,7 @@ fn put_replies<K: Sink>(block: &mut Block, sink: &mut K, work: &Work, mutators: 
     requires { (mutator : ℕ) → mutator < mutators → HasScript work.now mutator }
     ensures put { Puts (stage (K.written sink.old) (K.faults sink.old) (K.calls sink.old) block.old)
         (stage (K.written sink.new) (K.faults sink.new) (K.calls sink.new) block.new)
-        (flat_map (λ t. flat_map (reply_line t) (replies_of work.now (t - 1))) (thread_numbers mutators)) }
+        (flat_map (λ thread. flat_map (reply_line thread) (replies_of work.now (thread - 1))) (thread_numbers mutators)) }
     ensures few { mutators ≤ 8 }
 {
     for mutator in 0..mutators {
@@ -162,7 +162,7 @@ fn put_references<K: Sink>(block: &mut Block, sink: &mut K, graph: &GraphText, r
     requires { row < length graph.now.rows }
     ensures { Puts (stage (K.written sink.old) (K.faults sink.old) (K.calls sink.old) block.old)
         (stage (K.written sink.new) (K.faults sink.new) (K.calls sink.new) block.new)
-        (flat_map (λ r. space ∷ reference_word r) (row_of graph.now row).refs) }
+        (flat_map (λ reference. space ∷ reference_word reference) (row_of graph.now row).refs) }
 {
     for index in 0..graph.refs_at(row) {
         put_reference(block, sink, graph.reference_at(row, index));
@@ -174,7 +174,7 @@ fn put_numbers<K: Sink>(block: &mut Block, sink: &mut K, graph: &GraphText, row:
     requires { row < length graph.now.rows }
     ensures { Puts (stage (K.written sink.old) (K.faults sink.old) (K.calls sink.old) block.old)
         (stage (K.written sink.new) (K.faults sink.new) (K.calls sink.new) block.new)
-        (flat_map (λ n. space ∷ decimal n) (row_of graph.now row).nums) }
+        (flat_map (λ number. space ∷ decimal number) (row_of graph.now row).nums) }
 {
     for index in 0..graph.nums_at(row) {
         block.put(sink, b" ");
@@ -187,7 +187,7 @@ pub fn put_roots<K: Sink>(block: &mut Block, sink: &mut K, graph: &GraphText)
     requires { length graph.now.roots ≤ 8 }
     ensures { Puts (stage (K.written sink.old) (K.faults sink.old) (K.calls sink.old) block.old)
         (stage (K.written sink.new) (K.faults sink.new) (K.calls sink.new) block.new)
-        (flat_map (λ t. roots_line t (root_of graph.now t)) (thread_numbers (length graph.now.roots))) }
+        (flat_map (λ thread. roots_line thread (root_of graph.now thread)) (thread_numbers (length graph.now.roots))) }
 {
     for mutator in 0..graph.mutators() {
         put_roots_of(block, sink, graph, mutator as u32 + 1);
@@ -212,7 +212,7 @@ fn put_root_words<K: Sink>(block: &mut Block, sink: &mut K, graph: &GraphText, t
     requires thread { (1 ≤ thread) × (thread ≤ length graph.now.roots) }
     ensures { Puts (stage (K.written sink.old) (K.faults sink.old) (K.calls sink.old) block.old)
         (stage (K.written sink.new) (K.faults sink.new) (K.calls sink.new) block.new)
-        (flat_map (λ w. space ∷ w) (root_spellings (root_of graph.now thread))) }
+        (flat_map (λ word. space ∷ word) (root_spellings (root_of graph.now thread))) }
 {
     for index in 0..ROOTS {
         put_reference(block, sink, graph.root_at(thread, index));
@@ -236,7 +236,7 @@ fn put_all_pins<K: Sink>(block: &mut Block, sink: &mut K, graph: &GraphText)
     requires { length graph.now.roots ≤ 8 }
     ensures { Puts (stage (K.written sink.old) (K.faults sink.old) (K.calls sink.old) block.old)
         (stage (K.written sink.new) (K.faults sink.new) (K.calls sink.new) block.new)
-        (flat_map (λ t. pins_line t (pin_of graph.now t)) (thread_numbers (length graph.now.roots))) }
+        (flat_map (λ thread. pins_line thread (pin_of graph.now thread)) (thread_numbers (length graph.now.roots))) }
 {
     for mutator in 0..graph.mutators() {
         put_pins_of(block, sink, graph, mutator as u32 + 1);
@@ -261,7 +261,7 @@ fn put_pin_words<K: Sink>(block: &mut Block, sink: &mut K, graph: &GraphText, th
     requires thread { (1 ≤ thread) × (thread ≤ length graph.now.roots) }
     ensures { Puts (stage (K.written sink.old) (K.faults sink.old) (K.calls sink.old) block.old)
         (stage (K.written sink.new) (K.faults sink.new) (K.calls sink.new) block.new)
-        (flat_map (λ w. space ∷ w) (pin_spellings (pin_of graph.now thread))) }
+        (flat_map (λ word. space ∷ word) (pin_spellings (pin_of graph.now thread))) }
 {
     for slot in 0..SLOTS {
         put_reference(block, sink, graph.pin_at(thread, slot as u32));

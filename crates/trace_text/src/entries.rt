@@ -49,8 +49,8 @@ pub(crate) fn entries_in(
     threads: u32,
     bytes: &[u8],
 ) -> Result<(History, &[u8]), NoMemory>
-    ensures taken { IfOk result (λ x. AllByRecursion (IsClaim version threads) x.0.list × (bytes.now ≡ flat_map entry_line x.0.list ++ x.1.now)) }
-    ensures none { IfOk result (λ x. BeginsWithNoEntry version threads x.1.now) }
+    ensures taken { IfOk result (λ taken. AllByRecursion (IsClaim version threads) taken.0.list × (bytes.now ≡ flat_map entry_line taken.0.list ++ taken.1.now)) }
+    ensures none { IfOk result (λ taken. BeginsWithNoEntry version threads taken.1.now) }
 {
     let mut history = History::open(alloc)?;
     let mut rest = bytes;

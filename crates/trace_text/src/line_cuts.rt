@@ -7,7 +7,7 @@ use trace_reading::line_at;
 
 /// The bytes before the first line that is this text, and the bytes behind it. A line without an end is none.
 pub(crate) fn cut_at<'a>(text: &[u8], bytes: &'a [u8]) -> Option<(&'a [u8], &'a [u8])>
-    ensures { MatchOption result (HasNoLine text.now bytes.now) (λ x. IsCutAt text.now bytes.now x.0.now x.1.now) }
+    ensures { MatchOption result (HasNoLine text.now bytes.now) (λ cut. IsCutAt text.now bytes.now cut.0.now cut.1.now) }
 {
     let mut rest = bytes;
     'lines: while let Some((line, behind)) = line_at(rest) {
@@ -21,7 +21,7 @@ pub(crate) fn cut_at<'a>(text: &[u8], bytes: &'a [u8]) -> Option<(&'a [u8], &'a 
 
 // How many lines end in these bytes.
 fn ends_in(bytes: &[u8]) -> usize
-    ensures count { result ≡ count_by (λ b. b == 10) bytes.now }
+    ensures count { result ≡ count_by (λ byte. byte == 10) bytes.now }
     ensures few { result ≤ length bytes.now }
 {
     bytes.iter().filter(|byte| **byte == b'\n').count()

@@ -9,6 +9,6 @@ ghost use Rattle.trace_text.specs.LinesTaken.{Taken, none_taken, ended_lines, Ta
 /// A law: the head of a trace of a version, whose regions have at most 1,024 words, and lines that were taken one after the other, each
 /// with its end, are read as what was taken, if they are not too long together.
 pub fn lines_taken_are_read()
-    ensures { (v : ℕ) (config : Config) (texts : List (List ℕ)) (t : Taken) → IsVersion v → IsNarrow config → TakesLines (none_taken v config) texts t
-        → length (header v config ++ ended_lines texts) ≤ most_bytes → Reads (header v config ++ ended_lines texts) v config t.scripts t.items }
+    ensures { (version : ℕ) (config : Config) (texts : List (List ℕ)) (taken : Taken) → IsVersion version → IsNarrow config → TakesLines (none_taken version config) texts taken
+        → length (header version config ++ ended_lines texts) ≤ most_bytes → Reads (header version config ++ ended_lines texts) version config taken.scripts taken.items }
 {}

@@ -38,7 +38,7 @@ impl Model for TraceLines {
 
     ghost Value = { Taken };
 
-    ghost view = { λ t. record { version = t.version; config = t.config; scripts = t.scripts.items; items = t.schedule; scheduled = t.scheduled } };
+    ghost view = { λ lines. record { version = lines.version; config = lines.config; scripts = lines.scripts.items; items = lines.schedule; scheduled = lines.scheduled } };
 }
 
 // A script without a command for each of so many threads.

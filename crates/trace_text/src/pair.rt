@@ -36,7 +36,7 @@ fn no_answer(alloc: Global, bytes: &[u8]) -> TraceFault
     requires few { length bytes.now ≤ most_bytes }
     requires none { HasNoLine (codes "answer") bytes.now }
     ensures fault { IsTextFault result }
-    ensures bad_line { (n : ℕ) (why : Cause) → result ≡ TraceFault.BadLine n why → LacksTrace bytes.now n why ⊎ LacksAnswer bytes.now n why }
+    ensures bad_line { (line_number : ℕ) (why : Cause) → result ≡ TraceFault.BadLine line_number why → LacksTrace bytes.now line_number why ⊎ LacksAnswer bytes.now line_number why }
 {
     match trace_of(alloc, bytes) {
         Ok(_) => TraceFault::BadLine {
@@ -50,9 +50,9 @@ fn no_answer(alloc: Global, bytes: &[u8]) -> TraceFault
 /// The trace before the line `answer`, and the bytes behind that line.
 fn trace_before(alloc: Global, bytes: &[u8]) -> Result<(Trace, &[u8]), TraceFault>
     requires few { length bytes.now ≤ most_bytes }
-    ensures ok { IfOk result (λ x. HasTrace bytes.now x.0.version x.0.config x.0.scripts x.0.schedule x.1.now) }
+    ensures ok { IfOk result (λ found. HasTrace bytes.now found.0.version found.0.config found.0.scripts found.0.schedule found.1.now) }
     ensures fault { IfErr result IsTextFault }
-    ensures bad_line { (n : ℕ) (why : Cause) → result ≡ Err (TraceFault.BadLine n why) → LacksTrace bytes.now n why ⊎ LacksAnswer bytes.now n why }
+    ensures bad_line { (line_number : ℕ) (why : Cause) → result ≡ Err (TraceFault.BadLine line_number why) → LacksTrace bytes.now line_number why ⊎ LacksAnswer bytes.now line_number why }
 {
     let Some((front, behind)) = cut_at(b"answer", bytes) else {
         return Err(no_answer(alloc, bytes));
@@ -87,7 +87,7 @@ fn wanted_at(bytes: &[u8]) -> Why
 fn no_entry(bytes: &[u8], from_it: &[u8]) -> TraceFault
     requires few { length bytes.now ≤ most_bytes }
     requires part { (before : List ℕ) × (bytes.now ≡ before ++ from_it.now) }
-    ensures { (n : ℕ) × ((before : List ℕ) × (result ≡ TraceFault.BadLine n (wanted_at (parts 10 from_it.now))) × (bytes.now ≡ before ++ from_it.now) × (n ≡ last_line before)) }
+    ensures { (line_number : ℕ) × ((before : List ℕ) × (result ≡ TraceFault.BadLine line_number (wanted_at (parts 10 from_it.now))) × (bytes.now ≡ before ++ from_it.now) × (line_number ≡ last_line before)) }
 {
     let before = &bytes[..bytes.len() - from_it.len()];
     TraceFault::BadLine {
@@ -106,9 +106,9 @@ fn claims_in(
 ) -> Result<(Body, History), TraceFault>
     requires few { length bytes.now ≤ most_bytes }
     requires part { (before : List ℕ) × (bytes.now ≡ before ++ behind.now) }
-    ensures ok { IfOk result (λ x. HasClaims version threads behind.now x.0 x.1.list) }
+    ensures ok { IfOk result (λ claims. HasClaims version threads behind.now claims.0 claims.1.list) }
     ensures fault { IfErr result IsTextFault }
-    ensures bad_line { (n : ℕ) (why : Cause) → result ≡ Err (TraceFault.BadLine n why) → LacksHistory bytes.now behind.now n why ⊎ LacksEntry version threads bytes.now behind.now n why }
+    ensures bad_line { (line_number : ℕ) (why : Cause) → result ≡ Err (TraceFault.BadLine line_number why) → LacksHistory bytes.now behind.now line_number why ⊎ LacksEntry version threads bytes.now behind.now line_number why }
 {
     let Some((body, claimed)) = cut_at(b"history", behind) else {
         return Err(TraceFault::BadLine {
@@ -133,7 +133,7 @@ fn pair_of(alloc: Global, bytes: &[u8]) -> Result<Pair, TraceFault>
     requires { length bytes.now ≤ most_bytes }
     ensures ok { IfOk result (λ pair. IsPair bytes.now pair.trace.version pair.trace.config pair.trace.scripts pair.trace.schedule pair.body pair.history.list) }
     ensures fault { IfErr result IsTextFault }
-    ensures bad_line { (n : ℕ) (why : Cause) → result ≡ Err (TraceFault.BadLine n why) → IsPairRefused bytes.now n why }
+    ensures bad_line { (line_number : ℕ) (why : Cause) → result ≡ Err (TraceFault.BadLine line_number why) → IsPairRefused bytes.now line_number why }
 {
     let (trace, behind) = match trace_before(alloc, bytes) {
         Ok(taken) => taken,
@@ -158,9 +158,9 @@ pub fn read_pair<S: Source>(alloc: Global, source: &mut S) -> Result<Pair, Trace
         × IsPair bytes pair.trace.version pair.trace.config pair.trace.scripts pair.trace.schedule pair.body pair.history.list) }
 
     // The bytes came whole, and are refused at that line and for that cause.
-    ensures bad_line { (n : ℕ) (why : Cause) → result ≡ Err (TraceFault.BadLine n why) → (bytes : List ℕ) × Came (S.left source.old) (S.left source.new) bytes × IsPairRefused bytes n why }
+    ensures bad_line { (line_number : ℕ) (why : Cause) → result ≡ Err (TraceFault.BadLine line_number why) → (bytes : List ℕ) × Came (S.left source.old) (S.left source.new) bytes × IsPairRefused bytes line_number why }
 
-    ensures too_long { (n : ℕ) → result ≡ Err (TraceFault.TooLong n) → (n ≡ most_bytes + 1)
+    ensures too_long { (byte_count : ℕ) → result ≡ Err (TraceFault.TooLong byte_count) → (byte_count ≡ most_bytes + 1)
         × ((bytes : List ℕ) × Consumes (S.left source.old) (S.left source.new) bytes × (length bytes ≡ most_bytes + 1)) }
     ensures read_fault { result ≡ Err TraceFault.ReadFault → Rose (S.faults source.old) (S.faults source.new) }
     ensures faults_never_fall { S.faults source.old ≤ S.faults source.new }

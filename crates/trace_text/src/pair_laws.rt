@@ -14,25 +14,25 @@ ghost use Rattle.trace_text.specs.Refusals.{IsPairRefused};
 
 /// A law: bytes are a trace with a body and a history in one way at most.
 pub fn pairs_are_read_once()
-    ensures { (bytes : List ℕ) (v w : ℕ) (config other_config : Config) (xs ys : List (List Command)) (is js : List Item) (body other : List ℕ) (es fs : List Entry)
-        → IsPair bytes v config xs is body es → IsPair bytes w other_config ys js other fs → IsSamePair v config xs is body es w other_config ys js other fs }
+    ensures { (bytes : List ℕ) (version other_version : ℕ) (config other_config : Config) (scripts other_scripts : List (List Command)) (items other_items : List Item) (body other_body : List ℕ) (entries other_entries : List Entry)
+        → IsPair bytes version config scripts items body entries → IsPair bytes other_version other_config other_scripts other_items other_body other_entries → IsSamePair version config scripts items body entries other_version other_config other_scripts other_items other_body other_entries }
 {}
 
 /// A law: bytes within the limit are a trace with a body and a history, or are refused at a line for a cause; never both, and
 /// never at two lines or for two causes.
 pub fn pairs_are_read_or_refused()
     ensures either { (bytes : List ℕ) → length bytes ≤ most_bytes
-        → ((v : ℕ) × (config : Config) × (scripts : List (List Command)) × (items : List Item) × (body : List ℕ) × (entries : List Entry) × IsPair bytes v config scripts items body entries)
-        ⊎ ((n : ℕ) × (why : Why) × IsPairRefused bytes n why) }
-    ensures never_both { (bytes : List ℕ) (v : ℕ) (config : Config) (scripts : List (List Command)) (items : List Item) (body : List ℕ) (entries : List Entry) (n : ℕ) (why : Why)
-        → IsPair bytes v config scripts items body entries → IsPairRefused bytes n why → ⊥ }
-    ensures once { (bytes : List ℕ) (n m : ℕ) (why other : Why) → IsPairRefused bytes n why → IsPairRefused bytes m other → (n ≡ m) × (why ≡ other) }
+        → ((version : ℕ) × (config : Config) × (scripts : List (List Command)) × (items : List Item) × (body : List ℕ) × (entries : List Entry) × IsPair bytes version config scripts items body entries)
+        ⊎ ((line_number : ℕ) × (why : Why) × IsPairRefused bytes line_number why) }
+    ensures never_both { (bytes : List ℕ) (version : ℕ) (config : Config) (scripts : List (List Command)) (items : List Item) (body : List ℕ) (entries : List Entry) (line_number : ℕ) (why : Why)
+        → IsPair bytes version config scripts items body entries → IsPairRefused bytes line_number why → ⊥ }
+    ensures once { (bytes : List ℕ) (line_number other_line_number : ℕ) (why other_why : Why) → IsPairRefused bytes line_number why → IsPairRefused bytes other_line_number other_why → (line_number ≡ other_line_number) × (why ≡ other_why) }
 {}
 
 /// A law: a trace, the line `answer`, and the answer and the text of a history that the trace's threads may have are such a text, of
 /// that answer and that history, where they are not too long. So what a replay writes with its history can be judged.
 pub fn histories_can_be_read()
-    ensures { (trace body : List ℕ) (v : ℕ) (config : Config) (scripts : List (List Command)) (items : List Item) (entries : List Entry) → Reads trace v config scripts items
-        → EachIsLegal config.regions config.region_words (opening config.mutators) entries → Follows scripts entries → IsAnswerText v config.mutators entries body → length (trace ++ (codes "answer\n" ++ (body ++ history_text entries))) ≤ most_bytes
-        → IsPair (trace ++ (codes "answer\n" ++ (body ++ history_text entries))) v config scripts items body entries }
+    ensures { (trace body : List ℕ) (version : ℕ) (config : Config) (scripts : List (List Command)) (items : List Item) (entries : List Entry) → Reads trace version config scripts items
+        → EachIsLegal config.regions config.region_words (opening config.mutators) entries → Follows scripts entries → IsAnswerText version config.mutators entries body → length (trace ++ (codes "answer\n" ++ (body ++ history_text entries))) ≤ most_bytes
+        → IsPair (trace ++ (codes "answer\n" ++ (body ++ history_text entries))) version config scripts items body entries }
 {}

@@ -34,7 +34,7 @@ pub fn write_trace<K: Sink>(sink: &mut K, trace: &Trace) -> Result<(), WriteFaul
 
 /// A law: a trace that was read can be written.
 pub fn read_traces_can_be_written()
-    ensures { (bytes : List ℕ) (version : ℕ) (c : Sizes) (scripts : List (List Asked)) (items : List Turn) → Reads bytes version c scripts items → IsWritable version c scripts items }
+    ensures { (bytes : List ℕ) (version : ℕ) (config : Sizes) (scripts : List (List Asked)) (items : List Turn) → Reads bytes version config scripts items → IsWritable version config scripts items }
 {}
 
 // Puts the three lines at the head of a trace of a version.
