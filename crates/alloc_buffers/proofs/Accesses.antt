@@ -35,7 +35,7 @@ is_taking_place place.TS = true
 is_taking_place _ = false
 
 -- it stands at one of them
-its_place : (take : TakeSpot) → is_taking_place (place_at take) ≡ true
+its_place : (taking : TakeSpot) → is_taking_place (place_at taking) ≡ true
 its_place LoadBuffer = refl
 its_place (LoadShared buffer) = refl
 its_place (LoadTop buffer region) = refl
@@ -49,8 +49,8 @@ its_place (StoreBuffer address room) = refl
 its_place (Ended taken end) = refl
 
 -- and at no other place
-pub stands_elsewhere : (take : TakeSpot) (other : Place) → is_taking_place other ≡ false → place_at take ≡ other → ⊥
-stands_elsewhere take other not_its same = false≢true (sym not_its ∙ ap is_taking_place (sym same) ∙ its_place take)
+pub stands_elsewhere : (taking : TakeSpot) (asked_place : Place) → is_taking_place asked_place ≡ false → place_at taking ≡ asked_place → ⊥
+stands_elsewhere taking asked_place not_its same_place = false≢true (sym not_its ∙ ap is_taking_place (sym same_place) ∙ its_place taking)
 
 -- the words of which a taking makes accesses: the free word, the shared region, tops, buffers, and words of the heap
 abbrev pub is_room_word : Word → Bool
@@ -63,33 +63,33 @@ is_room_word _ = false
 
 -- they are of the image
 room_in_image : (word : Word) → is_room_word word ≡ true → is_image word ≡ true
-room_in_image Free is = refl
-room_in_image Share is = refl
-room_in_image (Top region) is = refl
-room_in_image (Current seat) is = refl
-room_in_image (Heap address) is = refl
-room_in_image _ is = absurd (cc (is))
+room_in_image Free room_word = refl
+room_in_image Share room_word = refl
+room_in_image (Top region) room_word = refl
+room_in_image (Current seat) room_word = refl
+room_in_image (Heap address) room_word = refl
+room_in_image _ room_word = absurd (cc (room_word))
 
 -- a word of the heap of which it makes an access is the first one of the free words of the seat's buffer
-pub writes_spare : (config : Config) (world : World) (seat words : ℕ) (take : TakeSpot) → CanTake config world seat words take → (address : ℕ) → (touch_at seat words take).word ≡ Heap address
-    → (more : ℕ) × (world.block address ≡ Some (spare seat more)) × (1 ≤ more)
-writes_spare config world seat words (Fill buffer address room) can at is =
-    let same : next_in buffer ≡ at = cc in
-    (free_words buffer, ap world.block (sym same) ∙ can.facts.left, (let some = can.facts.some in omega (arith, some)))
-writes_spare config world seat words LoadBuffer can address is = cc
-writes_spare config world seat words (LoadShared buffer) can address is = cc
-writes_spare config world seat words (LoadTop buffer region) can address is = cc
-writes_spare config world seat words (Carve buffer region top room) can address is = cc
-writes_spare config world seat words (LoadFree buffer shared) can address is = cc
-writes_spare config world seat words (TakeRegion buffer shared region) can address is = cc
-writes_spare config world seat words (ShareRegion buffer shared region) can address is = cc
-writes_spare config world seat words (GiveBack buffer region) can address is = cc
-writes_spare config world seat words (StoreBuffer address room) can at is = cc
-writes_spare config world seat words (Ended taken end) can address is = cc
+pub writes_spare : (config : Config) (world : World) (seat words : ℕ) (taking : TakeSpot) → CanTake config world seat words taking → (address : ℕ) → (touch_at seat words taking).word ≡ Heap address
+    → (free_space : ℕ) × (world.block address ≡ Some (spare seat free_space)) × (1 ≤ free_space)
+writes_spare config world seat words (Fill buffer address room) can_take asked_address touches_address =
+    let next_address : next_in buffer ≡ asked_address = cc in
+    (free_words buffer, ap world.block (sym next_address) ∙ can_take.facts.left, (let some_left = can_take.facts.some in omega (arith, some_left)))
+writes_spare config world seat words LoadBuffer can_take address touches_address = cc
+writes_spare config world seat words (LoadShared buffer) can_take address touches_address = cc
+writes_spare config world seat words (LoadTop buffer region) can_take address touches_address = cc
+writes_spare config world seat words (Carve buffer region top room) can_take address touches_address = cc
+writes_spare config world seat words (LoadFree buffer shared) can_take address touches_address = cc
+writes_spare config world seat words (TakeRegion buffer shared region) can_take address touches_address = cc
+writes_spare config world seat words (ShareRegion buffer shared region) can_take address touches_address = cc
+writes_spare config world seat words (GiveBack buffer region) can_take address touches_address = cc
+writes_spare config world seat words (StoreBuffer address room) can_take asked_address touches_address = cc
+writes_spare config world seat words (Ended taken end) can_take address touches_address = cc
 
 module _ (seat words : ℕ) where
   -- its next access is of one of them
-  its_word : (take : TakeSpot) → is_room_word (touch_at seat words take).word ≡ true
+  its_word : (taking : TakeSpot) → is_room_word (touch_at seat words taking).word ≡ true
   its_word LoadBuffer = refl
   its_word (LoadShared buffer) = refl
   its_word (LoadTop buffer region) = refl
@@ -103,19 +103,19 @@ module _ (seat words : ℕ) where
   its_word (Ended taken end) = refl
 
   -- so it is of a word of the image
-  pub in_image : (take : TakeSpot) → is_image (touch_at seat words take).word ≡ true
-  in_image take = room_in_image (touch_at seat words take).word (its_word take)
+  pub in_image : (taking : TakeSpot) → is_image (touch_at seat words taking).word ≡ true
+  in_image taking = room_in_image (touch_at seat words taking).word (its_word taking)
 
   -- of no other word
-  pub accesses_elsewhere : (take : TakeSpot) (other : Word) → is_room_word other ≡ false → (touch_at seat words take).word ≡ other → ⊥
-  accesses_elsewhere take other not_its same = false≢true (sym not_its ∙ ap is_room_word (sym same) ∙ its_word take)
+  pub accesses_elsewhere : (taking : TakeSpot) (word : Word) → is_room_word word ≡ false → (touch_at seat words taking).word ≡ word → ⊥
+  accesses_elsewhere taking word not_its touches_word = false≢true (sym not_its ∙ ap is_room_word (sym touches_word) ∙ its_word taking)
 
   -- and each other word stays as it is
-  pub others_stay : (memory : Word → ℕ) (take : TakeSpot) (other : Word) → is_room_word other ≡ false → touched memory (touch_at seat words take) other ≡ memory other
-  others_stay memory take other not_its = cond-false (same_word (touch_at seat words take).word other) _ _ (⊎_elim
-      (λ (same : same_word (touch_at seat words take).word other ≡ true). absurd (accesses_elsewhere take other not_its (same_word_true _ _ same)))
-      (λ (differs : same_word (touch_at seat words take).word other ≡ false). differs)
-      (cases_Bool (same_word (touch_at seat words take).word other)))
+  pub others_stay : (memory : Word → ℕ) (taking : TakeSpot) (word : Word) → is_room_word word ≡ false → touched memory (touch_at seat words taking) word ≡ memory word
+  others_stay memory taking word not_its = cond-false (same_word (touch_at seat words taking).word word) _ _ (⊎_elim
+      (λ (touches_word : same_word (touch_at seat words taking).word word ≡ true). absurd (accesses_elsewhere taking word not_its (same_word_true _ _ touches_word)))
+      (λ (words_differ : same_word (touch_at seat words taking).word word ≡ false). words_differ)
+      (cases_Bool (same_word (touch_at seat words taking).word word)))
 
 -- whether another machine may be faster
 abbrev may_wait : TakeSpot → Bool
@@ -125,55 +125,55 @@ may_wait (ShareRegion buffer shared region) = true
 may_wait _ = false
 
 -- a step that cannot come too late never says that another machine was faster
-never : (take next : TakeSpot) → may_wait take ≡ false → says_at take next ≡ Again → ⊥
-never (Carve buffer region top room) next waits is = absurd (true≢false waits)
-never (TakeRegion buffer shared region) next waits is = absurd (true≢false waits)
-never (ShareRegion buffer shared region) next waits is = absurd (true≢false waits)
-never LoadBuffer (Ended answer to) waits is = cc
-never LoadBuffer _ waits is = cc
-never (LoadShared buffer) (Ended answer to) waits is = cc
-never (LoadShared buffer) _ waits is = cc
-never (LoadTop buffer region) (Ended answer to) waits is = cc
-never (LoadTop buffer region) _ waits is = cc
-never (LoadFree buffer shared) (Ended answer to) waits is = cc
-never (LoadFree buffer shared) _ waits is = cc
-never (GiveBack buffer region) (Ended answer to) waits is = cc
-never (GiveBack buffer region) _ waits is = cc
-never (Fill buffer address room) (Ended answer to) waits is = cc
-never (Fill buffer address room) _ waits is = cc
-never (StoreBuffer address room) (Ended answer to) waits is = cc
-never (StoreBuffer address room) _ waits is = cc
-never (Ended taken end) (Ended answer to) waits is = cc
-never (Ended taken end) _ waits is = cc
+never : (taking next_spot : TakeSpot) → may_wait taking ≡ false → says_at taking next_spot ≡ Again → ⊥
+never (Carve buffer region top room) next_spot waits says_again = absurd (true≢false waits)
+never (TakeRegion buffer shared region) next_spot waits says_again = absurd (true≢false waits)
+never (ShareRegion buffer shared region) next_spot waits says_again = absurd (true≢false waits)
+never LoadBuffer (Ended answer next_end) waits says_again = cc
+never LoadBuffer _ waits says_again = cc
+never (LoadShared buffer) (Ended answer next_end) waits says_again = cc
+never (LoadShared buffer) _ waits says_again = cc
+never (LoadTop buffer region) (Ended answer next_end) waits says_again = cc
+never (LoadTop buffer region) _ waits says_again = cc
+never (LoadFree buffer shared) (Ended answer next_end) waits says_again = cc
+never (LoadFree buffer shared) _ waits says_again = cc
+never (GiveBack buffer region) (Ended answer next_end) waits says_again = cc
+never (GiveBack buffer region) _ waits says_again = cc
+never (Fill buffer address room) (Ended answer next_end) waits says_again = cc
+never (Fill buffer address room) _ waits says_again = cc
+never (StoreBuffer address room) (Ended answer next_end) waits says_again = cc
+never (StoreBuffer address room) _ waits says_again = cc
+never (Ended taken end) (Ended answer next_end) waits says_again = cc
+never (Ended taken end) _ waits says_again = cc
 
 -- where it has carved it goes on
 carved_never : (buffer region top room address : ℕ) → says_at (Carve buffer region top room) (carved_at buffer address room) ≡ Again → ⊥
 carved_never buffer region top room address = by_test (nat_lt (next_in buffer) (end_in buffer))
   where
     by_test : (holds : Bool) → says_at (Carve buffer region top room) (if holds then Fill buffer address room else StoreBuffer address room) ≡ Again → ⊥
-    by_test true is = cc
-    by_test false is = cc
+    by_test true says_again = cc
+    by_test false says_again = cc
 
 -- a step says so exactly where the taking waits
-pub says_where_it_waits : (config : Config) (words : ℕ) (kind : Kind) (take : TakeSpot) (got : ℕ) → (says_at take (next_at config words kind take got) ≡ Again) ↔ WaitsAt take got
+pub says_where_it_waits : (config : Config) (words : ℕ) (kind : Kind) (taking : TakeSpot) (got : ℕ) → (says_at taking (next_at config words kind taking got) ≡ Again) ↔ WaitsAt taking got
 says_where_it_waits config words kind (Carve buffer region top room) got = ⊎_elim
-    (λ (same : got ≡ top). (
-      λ is. absurd (carved_never buffer region top room (base_of config region + top)
-          (subst (λ b. says_at (Carve buffer region top room) (if b then carved_at buffer (base_of config region + top) room else LoadShared buffer) ≡ Again) (eq-eqb got top same) is)),
-      λ waits. absurd (waits same),
+    (λ (same_top : got ≡ top). (
+      λ says_again. absurd (carved_never buffer region top room (base_of config region + top)
+          (subst (λ carved_test. says_at (Carve buffer region top room) (if carved_test then carved_at buffer (base_of config region + top) room else LoadShared buffer) ≡ Again) (eq-eqb got top same_top) says_again)),
+      λ waits. absurd (waits same_top),
     ))
-    (λ (differs : got ≢ top). (
-      λ is. differs,
-      λ waits. ap (says_at (Carve buffer region top room)) (cond-false (got == top) (carved_at buffer (base_of config region + top) room) (LoadShared buffer) (ne_eqb got top differs)),
+    (λ (tops_differ : got ≢ top). (
+      λ says_again. tops_differ,
+      λ waits. ap (says_at (Carve buffer region top room)) (cond-false (got == top) (carved_at buffer (base_of config region + top) room) (LoadShared buffer) (ne_eqb got top tops_differ)),
     ))
     (cases_eq got top)
 says_where_it_waits config words kind (TakeRegion buffer shared region) got = grind (arith, nat_tests)
 says_where_it_waits config words kind (ShareRegion buffer shared region) got = grind (arith, nat_tests)
-says_where_it_waits config words kind LoadBuffer got = (λ is. absurd (never LoadBuffer (next_at config words kind LoadBuffer got) refl is), λ waits. absurd waits)
-says_where_it_waits config words kind (LoadShared buffer) got = (λ is. absurd (never (LoadShared buffer) (next_at config words kind (LoadShared buffer) got) refl is), λ waits. absurd waits)
-says_where_it_waits config words kind (LoadTop buffer region) got = (λ is. absurd (never (LoadTop buffer region) (next_at config words kind (LoadTop buffer region) got) refl is), λ waits. absurd waits)
-says_where_it_waits config words kind (LoadFree buffer shared) got = (λ is. absurd (never (LoadFree buffer shared) (next_at config words kind (LoadFree buffer shared) got) refl is), λ waits. absurd waits)
-says_where_it_waits config words kind (GiveBack buffer region) got = (λ is. absurd (never (GiveBack buffer region) (next_at config words kind (GiveBack buffer region) got) refl is), λ waits. absurd waits)
-says_where_it_waits config words kind (Fill buffer address room) got = (λ is. absurd (never (Fill buffer address room) (next_at config words kind (Fill buffer address room) got) refl is), λ waits. absurd waits)
-says_where_it_waits config words kind (StoreBuffer address room) got = (λ is. absurd (never (StoreBuffer address room) (next_at config words kind (StoreBuffer address room) got) refl is), λ waits. absurd waits)
-says_where_it_waits config words kind (Ended taken end) got = (λ is. absurd (never (Ended taken end) (next_at config words kind (Ended taken end) got) refl is), λ waits. absurd waits)
+says_where_it_waits config words kind LoadBuffer got = (λ says_again. absurd (never LoadBuffer (next_at config words kind LoadBuffer got) refl says_again), λ waits. absurd waits)
+says_where_it_waits config words kind (LoadShared buffer) got = (λ says_again. absurd (never (LoadShared buffer) (next_at config words kind (LoadShared buffer) got) refl says_again), λ waits. absurd waits)
+says_where_it_waits config words kind (LoadTop buffer region) got = (λ says_again. absurd (never (LoadTop buffer region) (next_at config words kind (LoadTop buffer region) got) refl says_again), λ waits. absurd waits)
+says_where_it_waits config words kind (LoadFree buffer shared) got = (λ says_again. absurd (never (LoadFree buffer shared) (next_at config words kind (LoadFree buffer shared) got) refl says_again), λ waits. absurd waits)
+says_where_it_waits config words kind (GiveBack buffer region) got = (λ says_again. absurd (never (GiveBack buffer region) (next_at config words kind (GiveBack buffer region) got) refl says_again), λ waits. absurd waits)
+says_where_it_waits config words kind (Fill buffer address room) got = (λ says_again. absurd (never (Fill buffer address room) (next_at config words kind (Fill buffer address room) got) refl says_again), λ waits. absurd waits)
+says_where_it_waits config words kind (StoreBuffer address room) got = (λ says_again. absurd (never (StoreBuffer address room) (next_at config words kind (StoreBuffer address room) got) refl says_again), λ waits. absurd waits)
+says_where_it_waits config words kind (Ended taken end) got = (λ says_again. absurd (never (Ended taken end) (next_at config words kind (Ended taken end) got) refl says_again), λ waits. absurd waits)

@@ -24,7 +24,7 @@ use Rattle.alloc_buffers.specs.Rows.{free_words, carved_at}
 use Rattle.alloc_buffers.specs.Facts.{CanTake}
 use Rattle.alloc_buffers.proofs.TakeSteps.{TakeStep, can_at, looked, exchange_lost, left_of, buffer_small, store_ready, region_end_small}
 
-module _ (config : Config) (world : World) (seat words : ℕ) (kind : Kind) (buffer region top room : ℕ) (shared : Shared config world) (can : CanTake config world seat words (Carve buffer region top room)) (won : (world.memory (Top region) == top) ≡ true) where
+module _ (config : Config) (world : World) (seat words : ℕ) (kind : Kind) (buffer region top room : ℕ) (shared : Shared config world) (can_take : CanTake config world seat words (Carve buffer region top room)) (won : (world.memory (Top region) == top) ≡ true) where
   abbrev tops : ℕ → ℕ
   tops region = world.memory (Top region)
 
@@ -34,7 +34,7 @@ module _ (config : Config) (world : World) (seat words : ℕ) (kind : Kind) (buf
 
   -- the words above the top lie in the region, and are as many as are wanted
   numbers : (top + room ≤ config.region_words) × (words ≤ room)
-  numbers = let fit = and_parts _ _ (and_parts _ _ can.ready).1 in (leb-true (top + room) config.region_words fit.0, leb-true words room fit.1)
+  numbers = let words_fit = and_parts _ _ (and_parts _ _ can_take.ready).1 in (leb-true (top + room) config.region_words words_fit.0, leb-true words room words_fit.1)
 
   -- the world in which the words above the top are carved
   abbrev carved_world : World
@@ -45,10 +45,10 @@ module _ (config : Config) (world : World) (seat words : ℕ) (kind : Kind) (buf
   grows = record {
     parsable = shared.parsable;
     rooms = shared.owned.rooms;
-    within = can.facts.1.within;
+    within = can_take.facts.1.within;
     top_is = eqb-true (world.memory (Top region)) top won;
     room = numbers.0;
-    some = (let least = can.least in let long = numbers.1 in omega (arith, least, long));
+    some = (let enough_words = can_take.least in let long_enough = numbers.1 in omega (arith, enough_words, long_enough));
   }
 
   -- each piece stays
@@ -57,21 +57,21 @@ module _ (config : Config) (world : World) (seat words : ℕ) (kind : Kind) (buf
 
   -- what may be used still may
   targets_stay : (address refs nums : ℕ) (name : Name) → Target config (world.memory Cset) (world.memory Evac) world.block address refs nums name → Target config (world.memory Cset) (world.memory Evac) carved_world.block address refs nums name
-  targets_stay address refs nums name has = record { piece = stays_there address (thing name refs nums) has.piece; safe = has.safe }
+  targets_stay address refs nums name has_target = record { piece = stays_there address (thing name refs nums) has_target.piece; safe = has_target.safe }
 
   -- machines share what they should
   shared_carved : Shared config carved_world
   shared_carved = record {
     parsable = parsable_more config tops world.block region top room seat grows;
     contents = contents_more config tops world.block region top room seat grows (λ address. world.memory (Heap address)) world.graph.object world.graph.count shared.contents;
-    owned = owned_more config tops world.block region top room seat grows (world.memory Share) (world.memory Free) (world.memory Cset) (λ seat. world.memory (Current seat)) world.ghost.owner can.seated can.facts.1.in_use shared.owned;
+    owned = owned_more config tops world.block region top room seat grows (world.memory Share) (world.memory Free) (world.memory Cset) (λ seat. world.memory (Current seat)) world.ghost.owner can_take.seated can_take.facts.1.in_use shared.owned;
     phased = shared.phased;
     unwritten = unwritten_more config tops world.block region top room seat grows (λ address. world.memory (Heap address)) shared.unwritten;
     marked = marking_more config tops world.block region top room seat grows (world.memory Phase) (λ number. world.memory (Grey number)) (λ number. world.memory (Black number)) (λ mutator. world.memory (Count mutator)) (λ mutator entry. world.memory (Buffer mutator entry))
         (λ region. world.memory (Tams region)) (λ address. world.memory (Heap address)) world.ghost.snapshot world.ghost.recording world.ghost.scanning shared.marked;
     evacuated = evacuating_more config tops world.block region top room seat grows (world.memory Phase) (world.memory Cset) (world.memory Evac) (world.memory Claim) (world.memory Free) (λ region. world.memory (Tams region)) (λ address. world.memory (Heap address)) (λ number. world.memory (Black number))
-        world.ghost.owner world.ghost.copying world.ghost.working can.facts.1.outside shared.evacuated;
-    updated = λ on. updating_more config tops world.block region top room seat grows (world.memory Cset) (world.memory Claim) (λ region. world.memory (Limit region)) (λ address. world.memory (Heap address)) world.ghost.scanning (shared.updated on);
+        world.ghost.owner world.ghost.copying world.ghost.working can_take.facts.1.outside shared.evacuated;
+    updated = λ updating. updating_more config tops world.block region top room seat grows (world.memory Cset) (world.memory Claim) (λ region. world.memory (Limit region)) (λ address. world.memory (Heap address)) world.ghost.scanning (shared.updated updating);
     pinned = pins_stay config (world.memory Cset) (world.memory Evac) (world.memory Cset) (world.memory Evac) world.block carved_world.block (λ mutator slot. world.memory (Pin mutator slot)) world.graph.pin targets_stay shared.pinned;
   }
 
@@ -80,20 +80,20 @@ module _ (config : Config) (world : World) (seat words : ℕ) (kind : Kind) (buf
   names = names_stay config tops world.block region top room seat grows
 
   -- marking goes on
-  marks_carved : (j : ℕ) → RelyMarks config j world carved_world
-  marks_carved j = rely_marks config world carved_world j refl (λ n. refl) (λ t. refl) (λ t k. refl) refl (λ t. refl) refl (markable_more config tops world.block region top room seat grows) (λ a is. refl)
+  marks_carved : (other_seat : ℕ) → RelyMarks config other_seat world carved_world
+  marks_carved other_seat = rely_marks config world carved_world other_seat refl (λ any_seat. refl) (λ thread. refl) (λ thread index. refl) refl (λ thread. refl) refl (markable_more config tops world.block region top room seat grows) (λ place stands. refl)
 
   -- the region is not set aside
   set_stays : CopiesStay config world carved_world
   set_stays = record {
     cset = refl;
     evac = refl;
-    things = λ address refs nums name is. stays_there address (thing name refs nums) is;
-    moveds = λ address refs nums to name is. stays_there address (moved name refs nums to) is;
-    spents = λ address more to is. stays_there address (spent more to) is;
-    pieces = λ address piece inside is. (piece, stays_there address piece is, refl, refl);
-    no_new = λ a refs nums name inside is. (same_but_loose config tops world.block region top room seat grows).came a (thing name refs nums) refl is;
-    tops = λ r is. updated_else tops region (top + room) r (λ same. can.facts.1.outside (subst (IsIn (world.memory Cset)) (sym same) is));
+    things = λ address refs nums name stands. stays_there address (thing name refs nums) stands;
+    moveds = λ address refs nums moved_to name stands. stays_there address (moved name refs nums moved_to) stands;
+    spents = λ address spent_words moved_to stands. stays_there address (spent spent_words moved_to) stands;
+    pieces = λ address piece inside stands. (piece, stays_there address piece stands, refl, refl);
+    no_new = λ place refs nums name inside stands. (same_but_loose config tops world.block region top room seat grows).came place (thing name refs nums) refl stands;
+    tops = λ any_region stands. updated_else tops region (top + room) any_region (λ same_region. can_take.facts.1.outside (subst (IsIn (world.memory Cset)) (sym same_region) stands));
   }
 
   -- the facts of the seat's machine stand
@@ -101,13 +101,13 @@ module _ (config : Config) (world : World) (seat words : ℕ) (kind : Kind) (buf
   keeps_carved = record {
     names = names;
     targets = targets_stay;
-    promises = λ address more is. stays_there address (promised seat more) is;
-    no_promises = λ address more is. old_promise config tops world.block region top room seat grows address seat more is;
-    promise_words = λ address more k is below. refl;
-    root_words = λ i. refl;
-    roots = λ i. refl;
+    promises = λ address promised_words stands. stays_there address (promised seat promised_words) stands;
+    no_promises = λ address promised_words stands. old_promise config tops world.block region top room seat grows address seat promised_words stands;
+    promise_words = λ address promised_words offset stands offset_below. refl;
+    root_words = λ number. refl;
+    roots = λ number. refl;
     pin_words = λ index. refl;
-    pins = λ i. refl;
+    pins = λ number. refl;
     count = refl;
     wait = refl;
     answer = refl;
@@ -116,37 +116,37 @@ module _ (config : Config) (world : World) (seat words : ℕ) (kind : Kind) (buf
   }
 
   -- others can rely on what they knew
-  others_carved : (j : ℕ) → j ≢ seat → Rely config j world carved_world
-  others_carved j differs = record {
+  others_carved : (other_seat : ℕ) → other_seat ≢ seat → Rely config other_seat world carved_world
+  others_carved other_seat seats_differ = record {
     names = names;
     targets = targets_stay;
-    rooms = λ address piece is of. stays_there address piece is;
-    no_rooms = λ a x is of. old_room config tops world.block region top room seat grows a j x differs is of;
-    room_words = λ a k x is of below. refl;
-    promises = λ address more is. stays_there address (promised j more) is;
-    no_promises = λ address more is. old_promise config tops world.block region top room seat grows address j more is;
-    promise_words = λ address more k is below. refl;
+    rooms = λ address piece stands owned. stays_there address piece stands;
+    no_rooms = λ place owned_piece stands owned. old_room config tops world.block region top room seat grows place other_seat owned_piece seats_differ stands owned;
+    room_words = λ place offset owned_piece stands owned offset_below. refl;
+    promises = λ address promised_words stands. stays_there address (promised other_seat promised_words) stands;
+    no_promises = λ address promised_words stands. old_promise config tops world.block region top room seat grows address other_seat promised_words stands;
+    promise_words = λ address promised_words offset stands offset_below. refl;
     current = refl;
-    opens = λ r is. record { within = is.within; in_use = is.in_use; nobodys = is.nobodys; outside = is.outside };
-    owners = λ region is. is;
-    tops = λ r is. updated_else tops region (top + room) r (λ same. none-some j (sym can.facts.1.nobodys ∙ ap world.ghost.owner same ∙ is));
-    root_words = λ i. refl;
-    roots = λ i. refl;
+    opens = λ any_region stands. record { within = stands.within; in_use = stands.in_use; nobodys = stands.nobodys; outside = stands.outside };
+    owners = λ region stands. stands;
+    tops = λ any_region stands. updated_else tops region (top + room) any_region (λ same_region. none-some other_seat (sym can_take.facts.1.nobodys ∙ ap world.ghost.owner same_region ∙ stands));
+    root_words = λ number. refl;
+    roots = λ number. refl;
     pin_words = λ index. refl;
-    pins = λ i. refl;
+    pins = λ number. refl;
     count = refl;
     wait = refl;
     answer = refl;
     state = refl;
-    asked = λ is. is;
-    marks = marks_carved j;
-    copies = rely_copies config world carved_world j set_stays refl refl (λ a k b seated counted inside is from below. refl);
-    fields = fields_stored config world carved_world (λ r. refl) (λ r. refl) refl (λ address more is. stays_there address (dead more) is) (λ address more is. stays_there address (filler more) is) (λ on a refs nums k n is below. inl refl);
+    asked = λ stands. stands;
+    marks = marks_carved other_seat;
+    copies = rely_copies config world carved_world other_seat set_stays refl refl (λ place offset body seated counted inside stands from offset_below. refl);
+    fields = fields_stored config world carved_world (λ any_region. refl) (λ any_region. refl) refl (λ address promised_words stands. stays_there address (dead promised_words) stands) (λ address promised_words stands. stays_there address (filler promised_words) stands) (λ updating place refs nums offset named stands offset_below. inl refl);
   }
 
   -- the new buffer is small enough to be stored
   ends_low : address + room < 2 ^ 32
-  ends_low = let high = numbers.0 in region_end_small config (λ r. config.region_words) region (address + room) can.facts.1.within (omega arith) (omega (arith, high))
+  ends_low = let room_inside = numbers.0 in region_end_small config (λ any_region. config.region_words) region (address + room) can_take.facts.1.within (omega arith) (omega (arith, room_inside))
 
   -- the words of the seat's buffer
   abbrev word : ℕ
@@ -154,56 +154,56 @@ module _ (config : Config) (world : World) (seat words : ℕ) (kind : Kind) (buf
 
   -- what the seat counts on then: the old buffer has free words, which are to be filled
   fills : next_in buffer < end_in buffer → CanTake config carved_world seat words (Fill buffer address room)
-  fills below =
-      let is = can.facts.0.is in
-      let more : next_in word < end_in word = subst (λ b. next_in b < end_in b) (sym is) below in
-      let left : world.block (next_in buffer) ≡ Some (spare seat (free_words buffer)) = subst (λ b. world.block (next_in b) ≡ Some (spare seat (free_words b))) is (left_of config world seat words kind shared can.rooms more) in
-      let low : end_in buffer < 2 ^ 32 = subst (λ b. end_in b < 2 ^ 32) is (buffer_small config world seat words kind shared (λ none. (let next : next_in word ≡ 0 = ap next_in none in let end : end_in word ≡ 0 = ap end_in none in omega (arith, next, end, more)))) in
-      let inside : is_word config (Heap (next_in buffer + 0)) ≡ true = piece_word config tops world.block shared.parsable.plotted (next_in buffer) 0 (spare seat (free_words buffer)) left (omega (arith, below)) in
-      can_at config world seat words kind (Carve buffer region top room) (Fill buffer address room) carved_world can refl refl
+  fills buffer_left =
+      let buffer_read = can_take.facts.0.is in
+      let word_left : next_in word < end_in word = subst (λ some_buffer. next_in some_buffer < end_in some_buffer) (sym buffer_read) buffer_left in
+      let spare_left : world.block (next_in buffer) ≡ Some (spare seat (free_words buffer)) = subst (λ some_buffer. world.block (next_in some_buffer) ≡ Some (spare seat (free_words some_buffer))) buffer_read (left_of config world seat words kind shared can_take.rooms word_left) in
+      let end_low : end_in buffer < 2 ^ 32 = subst (λ some_buffer. end_in some_buffer < 2 ^ 32) buffer_read (buffer_small config world seat words kind shared (λ no_buffer. (let next_zero : next_in word ≡ 0 = ap next_in no_buffer in let no_end : end_in word ≡ 0 = ap end_in no_buffer in omega (arith, next_zero, no_end, word_left)))) in
+      let next_inside : is_word config (Heap (next_in buffer + 0)) ≡ true = piece_word config tops world.block shared.parsable.plotted (next_in buffer) 0 (spare seat (free_words buffer)) spare_left (omega (arith, buffer_left)) in
+      can_at config world seat words kind (Carve buffer region top room) (Fill buffer address room) carved_world can_take refl refl
       (and_from _ _
-      (and_from _ _ (ap (λ address. is_word config (Heap address)) (omega arith) ∙ inside) (lt-ltb (filler_header (free_words buffer)) (2 ^ 64) (omega (arith, low))))
+      (and_from _ _ (ap (λ address. is_word config (Heap address)) (omega arith) ∙ next_inside) (lt-ltb (filler_header (free_words buffer)) (2 ^ 64) (omega (arith, end_low))))
       (and_from _ _
-      (and_from _ _ (lt-ltb (next_in buffer) (end_in buffer) below) (lt-ltb (end_in buffer) (2 ^ 32) (omega (arith, low))))
+      (and_from _ _ (lt-ltb (next_in buffer) (end_in buffer) buffer_left) (lt-ltb (end_in buffer) (2 ^ 32) (omega (arith, end_low))))
       (and_from _ _ (le-leb words room numbers.1) (lt-ltb (address + room) (2 ^ 32) (omega (arith, ends_low))))))
       (record {
-        is = is;
-        some = below;
-        left = stays_there (next_in buffer) (spare seat (free_words buffer)) left;
+        is = buffer_read;
+        some = buffer_left;
+        left = stays_there (next_in buffer) (spare seat (free_words buffer)) spare_left;
         here = updated_there world.block address (Some (carved seat room));
         long = numbers.1;
       })
-      (λ a x is_now of. ⊎_elim
-      (λ (new : (a ≡ address) × (carved seat room ≡ x)). inr (new.0, sym new.1))
-      (λ old. inl (can.rooms a x old of))
-      (own_room config tops world.block region top room seat grows a x is_now))
+      (λ room_address owned_piece is_now owned. ⊎_elim
+      (λ (new : (room_address ≡ address) × (carved seat room ≡ owned_piece)). inr (new.0, sym new.1))
+      (λ old. inl (can_take.rooms room_address owned_piece old owned))
+      (own_room config tops world.block region top room seat grows room_address owned_piece is_now))
 
   -- or it has none, and goes
   stores : end_in buffer ≤ next_in buffer → CanTake config carved_world seat words (StoreBuffer address room)
-  stores none =
-      can_at config world seat words kind (Carve buffer region top room) (StoreBuffer address room) carved_world can refl refl
-      (store_ready config seat words address room can.seated numbers.1 ends_low)
+  stores none_left =
+      can_at config world seat words kind (Carve buffer region top room) (StoreBuffer address room) carved_world can_take refl refl
+      (store_ready config seat words address room can_take.seated numbers.1 ends_low)
       (record { here = inr (updated_there world.block address (Some (carved seat room))); long = numbers.1 })
-      (λ other_address x is_now of. ⊎_elim
-      (λ (new : (other_address ≡ address) × (carved seat room ≡ x)). new.0)
+      (λ room_address owned_piece is_now owned. ⊎_elim
+      (λ (new : (room_address ≡ address) × (carved seat room ≡ owned_piece)). new.0)
       (λ old.
-      let free = can.rooms other_address x old of in
-      let piece : world.block other_address ≡ Some (spare seat free.0) = old ∙ ap (λ b. Some b) free.1 in
-      let told = shared.owned.buffers.spares other_address seat free.0 piece in
-      let some = shared.owned.rooms.spares other_address seat free.0 piece in
-      let is = can.facts.0.is in
-      let next : next_in buffer ≡ other_address = ap next_in (sym is) ∙ told.0 in
-      let end : end_in buffer ≡ other_address + free.0 = ap end_in (sym is) ∙ told.1 in
-      absurd (omega (arith, next, end, some, none)))
-      (own_room config tops world.block region top room seat grows other_address x is_now))
+      let spare_there = can_take.rooms room_address owned_piece old owned in
+      let spare_piece : world.block room_address ≡ Some (spare seat spare_there.0) = old ∙ ap (λ any_piece. Some any_piece) spare_there.1 in
+      let buffer_tells = shared.owned.buffers.spares room_address seat spare_there.0 spare_piece in
+      let some_spare = shared.owned.rooms.spares room_address seat spare_there.0 spare_piece in
+      let buffer_read = can_take.facts.0.is in
+      let same_next : next_in buffer ≡ room_address = ap next_in (sym buffer_read) ∙ buffer_tells.0 in
+      let end_known : end_in buffer ≡ room_address + spare_there.0 = ap end_in (sym buffer_read) ∙ buffer_tells.1 in
+      absurd (omega (arith, same_next, end_known, some_spare, none_left)))
+      (own_room config tops world.block region top room seat grows room_address owned_piece is_now))
 
   -- so it can go on in either case
   goes_on : CanTake config carved_world seat words (carved_at buffer address room)
   goes_on = ⊎_elim
-      (λ (some : nat_lt (next_in buffer) (end_in buffer) ≡ true).
-      subst (CanTake config carved_world seat words) (sym (cond-true (nat_lt (next_in buffer) (end_in buffer)) (Fill buffer address room) (StoreBuffer address room) some)) (fills (ltb-true _ _ some)))
-      (λ (none : nat_lt (next_in buffer) (end_in buffer) ≡ false).
-      subst (CanTake config carved_world seat words) (sym (cond-false (nat_lt (next_in buffer) (end_in buffer)) (Fill buffer address room) (StoreBuffer address room) none)) (stores (ltb-false _ _ none)))
+      (λ (words_left : nat_lt (next_in buffer) (end_in buffer) ≡ true).
+      subst (CanTake config carved_world seat words) (sym (cond-true (nat_lt (next_in buffer) (end_in buffer)) (Fill buffer address room) (StoreBuffer address room) words_left)) (fills (ltb-true _ _ words_left)))
+      (λ (none_left : nat_lt (next_in buffer) (end_in buffer) ≡ false).
+      subst (CanTake config carved_world seat words) (sym (cond-false (nat_lt (next_in buffer) (end_in buffer)) (Fill buffer address room) (StoreBuffer address room) none_left)) (stores (ltb-false _ _ none_left)))
       (cases_Bool (nat_lt (next_in buffer) (end_in buffer)))
 
   -- the exchange of the top carves the words
@@ -223,10 +223,10 @@ module _ (config : Config) (world : World) (seat words : ℕ) (kind : Kind) (buf
 
 -- the step that carves: where another machine was faster, it looks again
 pub at_carve : (config : Config) (world : World) (seat words : ℕ) (kind : Kind) (buffer region top room : ℕ) → Shared config world → CanTake config world seat words (Carve buffer region top room) → TakeStep config world seat words kind (Carve buffer region top room)
-at_carve config world seat words kind buffer region top room shared can = ⊎_elim
-    (carves config world seat words kind buffer region top room shared can)
+at_carve config world seat words kind buffer region top room shared can_take = ⊎_elim
+    (carves config world seat words kind buffer region top room shared can_take)
     (λ (lost : (world.memory (Top region) == top) ≡ false).
-    looked config world seat words kind (Carve buffer region top room) (LoadShared buffer) shared can (exchange_lost world.memory (Top region) top (top + room) lost)
+    looked config world seat words kind (Carve buffer region top room) (LoadShared buffer) shared can_take (exchange_lost world.memory (Top region) top (top + room) lost)
     (cond-false (world.memory (Top region) == top) (carved_at buffer (base_of config region + top) room) (LoadShared buffer) lost) refl
-    can.facts.0 can.rooms)
+    can_take.facts.0 can_take.rooms)
     (cases_Bool (world.memory (Top region) == top))

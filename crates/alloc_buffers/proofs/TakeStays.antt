@@ -10,17 +10,17 @@ use Rattle.alloc_buffers.specs.declared.spot.TakeSpot.TheVariants.{LoadBuffer, L
 use Rattle.alloc_buffers.specs.Rows.{free_words}
 use Rattle.alloc_buffers.specs.Facts.{IsSmall, IsTaken, TakeFacts, CanTake}
 
-module _ (config : Config) (world other_world : World) (seat : ℕ) (rely : Rely config seat world other_world) where
+module _ (config : Config) (world next_world : World) (seat : ℕ) (rely : Rely config seat world next_world) where
   -- a small buffer stays
-  small_stays : (words buffer : ℕ) → IsSmall world seat words buffer → IsSmall other_world seat words buffer
-  small_stays words buffer small = record { is = rely.current ∙ small.is; less = small.less }
+  small_stays : (words buffer : ℕ) → IsSmall world seat words buffer → IsSmall next_world seat words buffer
+  small_stays words buffer small_buffer = record { is = rely.current ∙ small_buffer.is; less = small_buffer.less }
 
   -- so does a region that the seat has taken
-  taken_stays : (region : ℕ) → IsTaken config world seat region → IsTaken config other_world seat region
-  taken_stays region taken = record { within = taken.within; own = rely.owners region taken.own; empty = rely.tops region taken.own ∙ taken.empty }
+  taken_stays : (region : ℕ) → IsTaken config world seat region → IsTaken config next_world seat region
+  taken_stays region region_taken = record { within = region_taken.within; own = rely.owners region region_taken.own; empty = rely.tops region region_taken.own ∙ region_taken.empty }
 
   -- what holds of the words stays
-  pub take_stays : (words : ℕ) (take : TakeSpot) → TakeFacts config world seat words take → TakeFacts config other_world seat words take
+  pub take_stays : (words : ℕ) (spot : TakeSpot) → TakeFacts config world seat words spot → TakeFacts config next_world seat words spot
   take_stays words LoadBuffer facts = tt
   take_stays words (LoadShared buffer) facts = small_stays words buffer facts
   take_stays words (LoadTop buffer region) facts = (small_stays words buffer facts.0, rely.opens region facts.1)
@@ -37,7 +37,7 @@ module _ (config : Config) (world other_world : World) (seat : ℕ) (rely : Rely
     long = facts.long;
   }
   take_stays words (StoreBuffer address room) facts = record {
-    here = ⊎_elim (λ is. inl (rely.rooms address (spare seat room) is refl)) (λ is. inr (rely.rooms address (carved seat room) is refl)) facts.here;
+    here = ⊎_elim (λ has_piece. inl (rely.rooms address (spare seat room) has_piece refl)) (λ has_piece. inr (rely.rooms address (carved seat room) has_piece refl)) facts.here;
     long = facts.long;
   }
   take_stays words (Ended (At address) end) facts = record {
@@ -50,14 +50,14 @@ module _ (config : Config) (world other_world : World) (seat : ℕ) (rely : Rely
   take_stays words (Ended NoRoom end) facts = subst (λ buffer. end_in buffer < next_in buffer + words) (sym rely.current) facts
 
 -- all that it counts on stays
-pub can_take_stays : (config : Config) (world next_world : World) (seat words : ℕ) (take : TakeSpot) → Rely config seat world next_world → CanTake config world seat words take → CanTake config next_world seat words take
-can_take_stays config world next_world seat words take rely can = record {
-  seated = can.seated;
-  least = can.least;
-  most = can.most;
-  ready = can.ready;
-  facts = take_stays config world next_world seat rely words take can.facts;
-  rooms = λ a x is room. can.rooms a x (rely.no_rooms a x is room) room;
-  records_none = rely.marks.recording ∙ can.records_none;
-  scans_none = rely.marks.scanning ∙ can.scans_none;
+pub can_take_stays : (config : Config) (world next_world : World) (seat words : ℕ) (spot : TakeSpot) → Rely config seat world next_world → CanTake config world seat words spot → CanTake config next_world seat words spot
+can_take_stays config world next_world seat words spot rely can_take = record {
+  seated = can_take.seated;
+  least = can_take.least;
+  most = can_take.most;
+  ready = can_take.ready;
+  facts = take_stays config world next_world seat rely words spot can_take.facts;
+  rooms = λ address piece has_piece room. can_take.rooms address piece (rely.no_rooms address piece has_piece room) room;
+  records_none = rely.marks.recording ∙ can_take.records_none;
+  scans_none = rely.marks.scanning ∙ can_take.scans_none;
 }

@@ -19,15 +19,15 @@ abbrev pub TakeStep : Config → World → ℕ → ℕ → Kind → TakeSpot →
 TakeStep = steps.TakeStep
 
 -- each step of a taking owes what a part owes
-pub each_take : (config : Config) (world : World) (seat words : ℕ) (kind : Kind) (take : TakeSpot) → is_ended take ≡ false → Shared config world → CanTake config world seat words take → TakeStep config world seat words kind take
-each_take config world seat words kind LoadBuffer going shared can = at_load_buffer config world seat words kind shared can
-each_take config world seat words kind (LoadShared buffer) going shared can = at_load_shared config world seat words kind buffer shared can
-each_take config world seat words kind (LoadTop buffer region) going shared can = at_load_top config world seat words kind buffer region shared can
-each_take config world seat words kind (Carve buffer region top room) going shared can = at_carve config world seat words kind buffer region top room shared can
-each_take config world seat words kind (LoadFree buffer known) going shared can = at_load_free config world seat words kind buffer known shared can
-each_take config world seat words kind (TakeRegion buffer known region) going shared can = at_take_region config world seat words kind buffer known region shared can
-each_take config world seat words kind (ShareRegion buffer known region) going shared can = at_share_region config world seat words kind buffer known region shared can
-each_take config world seat words kind (GiveBack buffer region) going shared can = at_give_back config world seat words kind buffer region shared can
-each_take config world seat words kind (Fill buffer address room) going shared can = at_fill config world seat words kind buffer address room shared can
-each_take config world seat words kind (StoreBuffer address room) going shared can = at_store_buffer config world seat words kind address room shared can
-each_take config world seat words kind (Ended taken end) going shared can = cc
+pub each_take : (config : Config) (world : World) (seat words : ℕ) (kind : Kind) (spot : TakeSpot) → is_ended spot ≡ false → Shared config world → CanTake config world seat words spot → TakeStep config world seat words kind spot
+each_take config world seat words kind LoadBuffer spot_going shared can_take = at_load_buffer config world seat words kind shared can_take
+each_take config world seat words kind (LoadShared buffer) spot_going shared can_take = at_load_shared config world seat words kind buffer shared can_take
+each_take config world seat words kind (LoadTop buffer region) spot_going shared can_take = at_load_top config world seat words kind buffer region shared can_take
+each_take config world seat words kind (Carve buffer region top room) spot_going shared can_take = at_carve config world seat words kind buffer region top room shared can_take
+each_take config world seat words kind (LoadFree buffer shared_word) spot_going shared can_take = at_load_free config world seat words kind buffer shared_word shared can_take
+each_take config world seat words kind (TakeRegion buffer shared_word region) spot_going shared can_take = at_take_region config world seat words kind buffer shared_word region shared can_take
+each_take config world seat words kind (ShareRegion buffer shared_word region) spot_going shared can_take = at_share_region config world seat words kind buffer shared_word region shared can_take
+each_take config world seat words kind (GiveBack buffer region) spot_going shared can_take = at_give_back config world seat words kind buffer region shared can_take
+each_take config world seat words kind (Fill buffer address room) spot_going shared can_take = at_fill config world seat words kind buffer address room shared can_take
+each_take config world seat words kind (StoreBuffer address room) spot_going shared can_take = at_store_buffer config world seat words kind address room shared can_take
+each_take config world seat words kind (Ended taken end) spot_going shared can_take = cc

@@ -65,7 +65,7 @@ TakeFacts config world seat words (Ended NoRoom end) = HasLess world.memory seat
 
 -- a piece is free words of a seat's buffer
 abbrev pub IsSpare : ℕ → Block → Type 0
-IsSpare seat piece = (more : ℕ) × (piece ≡ spare seat more)
+IsSpare seat piece = (words : ℕ) × (piece ≡ spare seat words)
 
 -- all room of a seat is free words of its buffer
 abbrev pub OnlySpares : World → ℕ → Type 0
@@ -74,10 +74,10 @@ OnlySpares world seat = (address : ℕ) (piece : Block) → world.block address 
 -- What room a seat has at a spot: free words of its buffer; besides, before its old buffer is filled, what it has carved, and at the end what
 -- it has taken; and before it stores its buffer, nothing but what that is made of.
 abbrev pub IsRoomAt : (seat words : ℕ) → TakeSpot → ℕ → Block → Type 0
-IsRoomAt seat words (Fill buffer address room) a piece = IsSpare seat piece ⊎ ((a ≡ address) × (piece ≡ carved seat room))
-IsRoomAt seat words (StoreBuffer address room) a piece = a ≡ address
-IsRoomAt seat words (Ended (At address) end) a piece = IsSpare seat piece ⊎ ((a ≡ address) × (piece ≡ hand seat words))
-IsRoomAt seat words _ a piece = IsSpare seat piece
+IsRoomAt seat words (Fill buffer address room) asked_address piece = IsSpare seat piece ⊎ ((asked_address ≡ address) × (piece ≡ carved seat room))
+IsRoomAt seat words (StoreBuffer address room) asked_address piece = asked_address ≡ address
+IsRoomAt seat words (Ended (At address) end) asked_address piece = IsSpare seat piece ⊎ ((asked_address ≡ address) × (piece ≡ hand seat words))
+IsRoomAt seat words _ asked_address piece = IsSpare seat piece
 
 -- What a machine of a seat that takes room for so many words counts on. All its room is what the spot says, and it neither records
 -- nor scans.

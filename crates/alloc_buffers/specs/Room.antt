@@ -13,7 +13,7 @@ use Rattle.alloc_buffers.specs.Rows.{next_at, is_ended}
 -- where it stands after it has found these words, one after the other
 abbrev pub after_found : Config → ℕ → Kind → TakeSpot → List ℕ → TakeSpot
 after_found config words kind spot [] = spot
-after_found config words kind spot (got ∷ more) = after_found config words kind (next_at config words kind spot got) more
+after_found config words kind spot (got ∷ rest) = after_found config words kind (next_at config words kind spot got) rest
 
 -- it has found these words, and ends without room at the next
 pub record FindsNoRoom (config : Config) (words : ℕ) (kind : Kind) (found : List ℕ) (free : ℕ) : Type 0 where
@@ -23,7 +23,7 @@ pub record FindsNoRoom (config : Config) (words : ℕ) (kind : Kind) (found : Li
 -- The word of the buffer is found first of these words, and tells fewer free words than are wanted; 0 tells none.
 abbrev pub IsBufferShort : ℕ → List ℕ → Type 0
 IsBufferShort words [] = ⊥
-IsBufferShort words (buffer ∷ more) = end_in buffer < next_in buffer + words
+IsBufferShort words (buffer ∷ rest) = end_in buffer < next_in buffer + words
 
 -- the word of the shared region, or its top where there is one, says at a spot that there is too little room to carve
 abbrev pub IsFullAt : Config → ℕ → TakeSpot → ℕ → Type 0
@@ -46,8 +46,8 @@ pub data HasFull (config : Config) (words : ℕ) (kind : Kind) : TakeSpot → Li
 
 -- Of the free regions that are found none may be taken: a new object leaves those of the reserve to copies, and a copy may take each.
 abbrev pub MayTakeNone : Config → Kind → ℕ → Type 0
-MayTakeNone config Fresh free = members_below free 64 ≤ config.reserve
-MayTakeNone config Evacuated free = members_below free 64 ≤ 0
+MayTakeNone config Fresh free_regions = members_below free_regions 64 ≤ config.reserve
+MayTakeNone config Evacuated free_regions = members_below free_regions 64 ≤ 0
 
 -- the buffer and the shared region have too little room, and of the free regions none may be taken
 pub record IsLackOfRoom (config : Config) (words : ℕ) (kind : Kind) (found : List ℕ) (free : ℕ) : Type 0 where

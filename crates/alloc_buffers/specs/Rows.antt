@@ -73,7 +73,7 @@ kept_back config Evacuated = 0
 
 -- whether no free region may be taken
 abbrev pub has_none : Config → Kind → ℕ → Bool
-has_none config kind free = nat_le (members_below free 64) (kept_back config kind)
+has_none config kind free_regions = nat_le (members_below free_regions 64) (kept_back config kind)
 
 -- what follows the load of the buffer: it has room, or the machine looks at the shared region
 abbrev pub after_buffer : ℕ → ℕ → TakeSpot
@@ -111,11 +111,11 @@ next_at config words kind (Ended taken end) got = Ended taken end
 
 -- what a step that leads from one spot to another says: another machine was faster, the taking has ended, or neither
 abbrev pub says_at : TakeSpot → TakeSpot → Took
-says_at (Carve buffer region top room) (LoadShared same) = Again
-says_at (TakeRegion buffer shared region) (LoadFree same again) = Again
-says_at (ShareRegion buffer shared region) (GiveBack same again) = Again
+says_at (Carve buffer region top room) (LoadShared same_buffer) = Again
+says_at (TakeRegion buffer shared region) (LoadFree same_buffer same_shared) = Again
+says_at (ShareRegion buffer shared region) (GiveBack same_buffer same_region) = Again
 says_at spot (Ended taken end) = Done
-says_at spot next = More
+says_at spot next_spot = More
 
 -- whether the machine has its answer
 abbrev pub is_ended : TakeSpot → Bool

@@ -16,11 +16,11 @@ pub record Wanted : Type 0 where
   pub kind : Kind
 
 abbrev pub wanted : Take → Wanted
-wanted t = record { config = t.config; seat = t.seat; words = t.words; kind = t.kind }
+wanted taking = record { config = taking.config; seat = taking.seat; words = taking.words; kind = taking.kind }
 
 -- where it stands
 abbrev pub spot_of : Take → TakeSpot
-spot_of t = t.spot
+spot_of taking = taking.spot
 
 -- what a taking has come to, once it has its answer
 abbrev pub taken_in : TakeSpot → Option Taken

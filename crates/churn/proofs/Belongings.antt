@@ -8,11 +8,11 @@ use Rattle.shen_graph.specs.Reach.{size}
 use Rattle.churn.specs.Script.{own_box}
 
 abbrev pub IsThread : ℕ → Type 0
-IsThread t = (1 ≤ t) × (t ≤ 3)
+IsThread thread = (1 ≤ thread) × (thread ≤ 3)
 
 -- the n-th object of a thread
 abbrev pub own : ℕ → ℕ → Name
-own t n = record { thread = t; count = n }
+own thread count = record { thread = thread; count = count }
 
 abbrev pub fields_of : Graph → Name → List Reference
 fields_of graph name = (named graph (Some name)).refs
@@ -23,23 +23,23 @@ field_of graph name index = get_or (fields_of graph name) index None
 
 -- null or an object of the thread
 abbrev pub IsOf : ℕ → Reference → Type 0
-IsOf t None = Unit {0}
-IsOf t (Some m) = m.thread ≡ t
+IsOf thread None = Unit {0}
+IsOf thread (Some name) = name.thread ≡ thread
 
 -- null or the thread's box
 abbrev pub IsBox : ℕ → Reference → Type 0
-IsBox t None = Unit {0}
-IsBox t (Some m) = (m.thread ≡ t) × (m.count ≡ 1)
+IsBox thread None = Unit {0}
+IsBox thread (Some name) = (name.thread ≡ thread) × (name.count ≡ 1)
 
 -- null or a leaf of the thread
 abbrev pub IsLeaf : ℕ → Reference → Type 0
-IsLeaf t None = Unit {0}
-IsLeaf t (Some m) = (m.thread ≡ t) × (2 ≤ m.count)
+IsLeaf thread None = Unit {0}
+IsLeaf thread (Some name) = (name.thread ≡ thread) × (2 ≤ name.count)
 
 -- what that field of the hub may hold
 abbrev pub IsLink : ℕ → Reference → Type 0
-IsLink f None = Unit {0}
-IsLink f (Some m) = (m.thread ≡ f) × (m.count ≡ 1) × IsThread f
+IsLink field None = Unit {0}
+IsLink field (Some name) = (name.thread ≡ field) × (name.count ≡ 1) × IsThread field
 
 -- what belongs to a thread is the same in two graphs
 pub record Same (thread : ℕ) (graph other_graph : Graph) : Type 0 where
@@ -79,28 +79,28 @@ pub record Fits (t n : ℕ) (object : Object) : Type 0 where
   pub small : size object ≤ 19
 
 pub Same-itself : (thread : ℕ) (graph : Graph) → Same thread graph graph
-Same-itself thread graph = record { root = λ r. refl; count = refl; object = λ n. refl; link = refl }
+Same-itself thread graph = record { root = λ root_number. refl; count = refl; object = λ name. refl; link = refl }
 
 pub Same-flip : {t : ℕ} {g h : Graph} → Same t g h → Same t h g
-Same-flip same = record { root = λ thread. sym (same.root thread); count = sym same.count; object = λ name. sym (same.object name); link = sym same.link }
+Same-flip same_thread = record { root = λ thread. sym (same_thread.root thread); count = sym same_thread.count; object = λ name. sym (same_thread.object name); link = sym same_thread.link }
 
 pub Same-join : {t : ℕ} {g h k : Graph} → Same t g h → Same t h k → Same t g k
-Same-join same u = record { root = λ thread. same.root thread ∙ u.root thread; count = same.count ∙ u.count; object = λ name. same.object name ∙ u.object name; link = same.link ∙ u.link }
+Same-join first_same second_same = record { root = λ thread. first_same.root thread ∙ second_same.root thread; count = first_same.count ∙ second_same.count; object = λ name. first_same.object name ∙ second_same.object name; link = first_same.link ∙ second_same.link }
 
-pub box_of : (t : ℕ) (reference : Reference) → IsBox t reference → IsOf t reference
-box_of t None is_box = tt
-box_of t (Some m) is_box = is_box.0
+pub box_of : (thread : ℕ) (reference : Reference) → IsBox thread reference → IsOf thread reference
+box_of thread None is_box = tt
+box_of thread (Some name) is_box = is_box.0
 
-pub leaf_of : (t : ℕ) (reference : Reference) → IsLeaf t reference → IsOf t reference
-leaf_of t None leaf = tt
-leaf_of t (Some m) leaf = leaf.0
+pub leaf_of : (thread : ℕ) (reference : Reference) → IsLeaf thread reference → IsOf thread reference
+leaf_of thread None leaf = tt
+leaf_of thread (Some name) leaf = leaf.0
 
-pub name_of : (name : Name) (t n : ℕ) → name.thread ≡ t → name.count ≡ n → name ≡ own t n
-name_of name t n thread count = λ other_thread. record { thread = thread other_thread; count = count other_thread }
+pub name_of : (name : Name) (given_thread given_count : ℕ) → name.thread ≡ given_thread → name.count ≡ given_count → name ≡ own given_thread given_count
+name_of name given_thread given_count same_thread count = λ point. record { thread = same_thread point; count = count point }
 
 -- what a thread's references name is the same
 pub named_same : (thread : ℕ) (graph other_graph : Graph) → Same thread graph other_graph → (reference : Reference) → IsOf thread reference → named graph reference ≡ named other_graph reference
-named_same thread graph other_graph same None is_of = refl
-named_same thread graph other_graph s (Some name) is_of =
-    let same : graph.object name ≡ other_graph.object name = subst (λ (u : ℕ). graph.object (own u name.count) ≡ other_graph.object (own u name.count)) (sym is_of) (s.object name.count) in
-    ap (λ o. unwrap_or o (record { refs = []; nums = [] })) same
+named_same thread graph other_graph same_object None is_of = refl
+named_same thread graph other_graph same_thread (Some name) is_of =
+    let same_object : graph.object name ≡ other_graph.object name = subst (λ (number : ℕ). graph.object (own number name.count) ≡ other_graph.object (own number name.count)) (sym is_of) (same_thread.object name.count) in
+    ap (λ found. unwrap_or found (record { refs = []; nums = [] })) same_object

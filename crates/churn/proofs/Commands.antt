@@ -29,122 +29,122 @@ pub record Stepped (thread : ℕ) (graph next_graph : Graph) (a b : Outcome) : T
   pub reply : a.reply ≡ b.reply
   pub moved : Moved thread graph next_graph a.graph b.graph
 
-on-step : {A : Type 0} (thread : ℕ) (graph next_graph : Graph) (found other_found : Option A) (f k : A → Outcome) → Tidy graph → Tidy next_graph → Same thread graph next_graph → found ≡ other_found
-    → ((v : A) → found ≡ Some v → Stepped thread graph next_graph (f v) (k v)) → Stepped thread graph next_graph (on found graph f) (on other_found next_graph k)
-on-step {A} graph next_graph other_found x y f k tidy other same is steps =
-    subst (λ (found : Option A). Stepped graph next_graph other_found (on x next_graph f) (on found other_found k)) is (at x steps)
+on-step : {A : Type 0} (thread : ℕ) (graph next_graph : Graph) (found other_found : Option A) (answer next_answer : A → Outcome) → Tidy graph → Tidy next_graph → Same thread graph next_graph → found ≡ other_found
+    → ((value : A) → found ≡ Some value → Stepped thread graph next_graph (answer value) (next_answer value)) → Stepped thread graph next_graph (on found graph answer) (on other_found next_graph next_answer)
+on-step {A} graph next_graph other_found first_found second_found answer next_answer tidy next_tidy same_graphs same_found steps =
+    subst (λ (found : Option A). Stepped graph next_graph other_found (on first_found next_graph answer) (on found other_found next_answer)) same_found (at first_found steps)
   where
-    at : (x : Option A) → ((v : A) → x ≡ Some v → Stepped graph next_graph other_found (f v) (k v)) → Stepped graph next_graph other_found (on x next_graph f) (on x other_found k)
-    at None steps = record { reply = refl; moved = stays graph next_graph other_found tidy other same }
-    at (Some v) steps = steps v refl
+    at : (option : Option A) → ((value : A) → option ≡ Some value → Stepped graph next_graph other_found (answer value) (next_answer value)) → Stepped graph next_graph other_found (on option next_graph answer) (on option other_found next_answer)
+    at None steps = record { reply = refl; moved = stays graph next_graph other_found tidy next_tidy same_graphs }
+    at (Some value) steps = steps value refl
 
 -- what a thread's root names is the same
-root_named : (thread : ℕ) (graph other_graph : Graph) (index : ℕ) → Same thread graph other_graph → IsOf thread (graph.root thread index) → named graph (graph.root thread index) ≡ named other_graph (other_graph.root thread index)
-root_named thread graph other_graph index same is_of = named_same thread graph other_graph same (graph.root thread index) is_of ∙ ap (named other_graph) (same.root index)
+root_named : (thread : ℕ) (graph next_graph : Graph) (index : ℕ) → Same thread graph next_graph → IsOf thread (graph.root thread index) → named graph (graph.root thread index) ≡ named next_graph (next_graph.root thread index)
+root_named thread graph next_graph index same_graphs is_of = named_same thread graph next_graph same_graphs (graph.root thread index) is_of ∙ ap (named next_graph) (same_graphs.root index)
 
-field_same : (thread : ℕ) (graph other_graph : Graph) (index k : ℕ) → Same thread graph other_graph → IsOf thread (graph.root thread index) → field_at graph thread index k ≡ field_at other_graph thread index k
-field_same thread graph other_graph index k same is_of = ap (λ (object : Object). slice_get object.refs k) (root_named thread graph other_graph index same is_of)
+field_same : (thread : ℕ) (graph next_graph : Graph) (index field : ℕ) → Same thread graph next_graph → IsOf thread (graph.root thread index) → field_at graph thread index field ≡ field_at next_graph thread index field
+field_same thread graph next_graph index field same_graphs is_of = ap (λ (object : Object). slice_get object.refs field) (root_named thread graph next_graph index same_graphs is_of)
 
-number_same : (thread : ℕ) (graph other_graph : Graph) (index i : ℕ) → Same thread graph other_graph → IsOf thread (graph.root thread index) → number_at graph thread index i ≡ number_at other_graph thread index i
-number_same thread graph other_graph index i same is_of = ap (λ (object : Object). slice_get object.nums i) (root_named thread graph other_graph index same is_of)
+number_same : (thread : ℕ) (graph next_graph : Graph) (index position : ℕ) → Same thread graph next_graph → IsOf thread (graph.root thread index) → number_at graph thread index position ≡ number_at next_graph thread index position
+number_same thread graph next_graph index position same_graphs is_of = ap (λ (object : Object). slice_get object.nums position) (root_named thread graph next_graph index same_graphs is_of)
 
 -- what the box holds is a leaf
 loaded : (thread : ℕ) (graph : Graph) (index : ℕ) (reference : Reference) → Tidy graph → IsThread thread → field_at graph thread own_box index ≡ Some reference → IsLeaf thread reference
-loaded t graph index reference tidy thread is = at (graph.root t own_box) (tidy.threads t thread).box_root is
+loaded thread_number graph index reference tidy thread field_holds = at (graph.root thread_number own_box) (tidy.threads thread_number thread).box_root field_holds
   where
-    at : (other_reference : Reference) → IsBox t other_reference → slice_get (named graph other_reference).refs index ≡ Some reference → IsLeaf t reference
-    at None box is = cc
-    at (Some m) box is =
-        let here : slice_get (fields_of graph (own t 1)) index ≡ Some reference = subst (λ (name : Name). slice_get (fields_of graph name) index ≡ Some reference) (name_of m t 1 box.0 box.1) is in
-        subst (IsLeaf t) (get_or_from_slice_get (fields_of graph (own t 1)) index reference None here) ((tidy.threads t thread).slots index)
+    at : (box_reference : Reference) → IsBox thread_number box_reference → slice_get (named graph box_reference).refs index ≡ Some reference → IsLeaf thread_number reference
+    at None box field_holds = cc
+    at (Some box_name) box field_holds =
+        let slot_holds : slice_get (fields_of graph (own thread_number 1)) index ≡ Some reference = subst (λ (name : Name). slice_get (fields_of graph name) index ≡ Some reference) (name_of box_name thread_number 1 box.0 box.1) field_holds in
+        subst (IsLeaf thread_number) (get_or_from_slice_get (fields_of graph (own thread_number 1)) index reference None slot_holds) ((tidy.threads thread_number thread).slots index)
 
-moved_slot : (thread : ℕ) (graph next_graph : Graph) (k index : ℕ) → IsThread thread → Tidy graph → Tidy next_graph → Same thread graph next_graph → 2 ≤ index → Moved thread graph next_graph (with_field graph thread own_box k (graph.root thread index)) (with_field next_graph thread own_box k (next_graph.root thread index))
-moved_slot t graph next_graph k index thread tidy other same above =
-    subst (λ (reference : Reference). Moved t graph next_graph (with_field graph t own_box k (graph.root t index)) (with_field next_graph t own_box k reference)) (same.root index)
-    (subst (λ (reference : Reference). Moved t graph next_graph (with_field graph t own_box k (graph.root t index)) (with_named next_graph reference (with_slot (named next_graph reference) k (graph.root t index)))) (same.root own_box)
-    (moved_box t graph next_graph (graph.root t own_box) k (graph.root t index) thread tidy other same (tidy.threads t thread).box_root ((tidy.threads t thread).leaf_root index above)))
+moved_slot : (thread : ℕ) (graph next_graph : Graph) (field index : ℕ) → IsThread thread → Tidy graph → Tidy next_graph → Same thread graph next_graph → 2 ≤ index → Moved thread graph next_graph (with_field graph thread own_box field (graph.root thread index)) (with_field next_graph thread own_box field (next_graph.root thread index))
+moved_slot thread_number graph next_graph field index thread tidy next_tidy same_graphs index_above =
+    subst (λ (reference : Reference). Moved thread_number graph next_graph (with_field graph thread_number own_box field (graph.root thread_number index)) (with_field next_graph thread_number own_box field reference)) (same_graphs.root index)
+    (subst (λ (reference : Reference). Moved thread_number graph next_graph (with_field graph thread_number own_box field (graph.root thread_number index)) (with_named next_graph reference (with_slot (named next_graph reference) field (graph.root thread_number index)))) (same_graphs.root own_box)
+    (moved_box thread_number graph next_graph (graph.root thread_number own_box) field (graph.root thread_number index) thread tidy next_tidy same_graphs (tidy.threads thread_number thread).box_root ((tidy.threads thread_number thread).leaf_root index index_above)))
 
-moved_number : (thread : ℕ) (graph next_graph : Graph) (i x : ℕ) → IsThread thread → Tidy graph → Tidy next_graph → Same thread graph next_graph → Moved thread graph next_graph (with_number graph thread 2 i x) (with_number next_graph thread 2 i x)
-moved_number t graph next_graph i x thread tidy other same =
-    subst (λ (reference : Reference). Moved t graph next_graph (with_number graph t 2 i x) (with_named next_graph reference (with_value (named next_graph reference) i x))) (same.root new_leaf)
-    (moved_leaf t graph next_graph (graph.root t new_leaf) i x thread tidy other same ((tidy.threads t thread).leaf_root 2 (omega arith)))
+moved_number : (thread : ℕ) (graph next_graph : Graph) (position value : ℕ) → IsThread thread → Tidy graph → Tidy next_graph → Same thread graph next_graph → Moved thread graph next_graph (with_number graph thread 2 position value) (with_number next_graph thread 2 position value)
+moved_number thread_number graph next_graph position value thread tidy next_tidy same_graphs =
+    subst (λ (reference : Reference). Moved thread_number graph next_graph (with_number graph thread_number 2 position value) (with_named next_graph reference (with_value (named next_graph reference) position value))) (same_graphs.root new_leaf)
+    (moved_leaf thread_number graph next_graph (graph.root thread_number new_leaf) position value thread tidy next_tidy same_graphs ((tidy.threads thread_number thread).leaf_root 2 (omega arith)))
 
 moved_link : (thread : ℕ) (graph next_graph : Graph) → IsThread thread → Tidy graph → Tidy next_graph → Same thread graph next_graph → Moved thread graph next_graph (with_field graph thread shared_hub thread (graph.root thread own_box)) (with_field next_graph thread shared_hub thread (next_graph.root thread own_box))
-moved_link t graph next_graph thread tidy other same =
-    subst (λ (reference : Reference). Moved t graph next_graph (with_named graph reference (with_slot (named graph reference) t (graph.root t own_box))) (with_field next_graph t shared_hub t (next_graph.root t own_box))) (sym (tidy.threads t thread).hub_root)
-    (subst (λ (reference : Reference). Moved t graph next_graph (with_named graph (Some hub) (with_slot (named graph (Some hub)) t (graph.root t own_box))) (with_named next_graph reference (with_slot (named next_graph reference) t (next_graph.root t own_box)))) (sym (other.threads t thread).hub_root)
-    (moved_hub t graph next_graph (graph.root t own_box) (next_graph.root t own_box) thread tidy other same (same.root own_box) (tidy.threads t thread).box_root))
+moved_link thread_number graph next_graph thread tidy next_tidy same_graphs =
+    subst (λ (reference : Reference). Moved thread_number graph next_graph (with_named graph reference (with_slot (named graph reference) thread_number (graph.root thread_number own_box))) (with_field next_graph thread_number shared_hub thread_number (next_graph.root thread_number own_box))) (sym (tidy.threads thread_number thread).hub_root)
+    (subst (λ (reference : Reference). Moved thread_number graph next_graph (with_named graph (Some hub) (with_slot (named graph (Some hub)) thread_number (graph.root thread_number own_box))) (with_named next_graph reference (with_slot (named next_graph reference) thread_number (next_graph.root thread_number own_box)))) (sym (next_tidy.threads thread_number thread).hub_root)
+    (moved_hub thread_number graph next_graph (graph.root thread_number own_box) (next_graph.root thread_number own_box) thread tidy next_tidy same_graphs (same_graphs.root own_box) (tidy.threads thread_number thread).box_root))
 
-link_same : (index : ℕ) (graph other_graph : Graph) → IsThread index → Tidy graph → Tidy other_graph → Same index graph other_graph → field_at graph index shared_hub index ≡ field_at other_graph index shared_hub index
-link_same index graph other_graph thread tidy other same =
-    at graph tidy ∙ ap Some same.link ∙ sym (at other_graph other)
+link_same : (index : ℕ) (graph next_graph : Graph) → IsThread index → Tidy graph → Tidy next_graph → Same index graph next_graph → field_at graph index shared_hub index ≡ field_at next_graph index shared_hub index
+link_same index graph next_graph is_thread tidy next_tidy same_graphs =
+    at graph tidy ∙ ap Some same_graphs.link ∙ sym (at next_graph next_tidy)
   where
     at : (graph : Graph) → Tidy graph → field_at graph index shared_hub index ≡ Some (field_of graph hub index)
     at graph tidy =
         let size = tidy.hub_size in
-        subst (λ (reference : Reference). slice_get (named graph reference).refs index ≡ Some (field_of graph hub index)) (sym (tidy.threads index thread).hub_root)
+        subst (λ (reference : Reference). slice_get (named graph reference).refs index ≡ Some (field_of graph hub index)) (sym (tidy.threads index is_thread).hub_root)
         (slice_get-get_or (fields_of graph hub) index None (omega arith))
 
 moved_new : (thread : ℕ) (graph next_graph : Graph) (dst refs nums : ℕ) → IsThread thread → Tidy graph → Tidy next_graph → Same thread graph next_graph → 1 ≤ dst → dst < 5
     → Fits thread (graph.count thread + 1) (blank refs nums) → (dst ≡ 1 → graph.count thread + 1 ≡ 1) → (2 ≤ dst → 2 ≤ graph.count thread + 1)
     → Stepped thread graph next_graph (outcome graph thread (New dst refs nums)) (outcome next_graph thread (New dst refs nums))
-moved_new t graph next_graph dst refs nums thread tidy other same low high fits box leaf =
-    let name : fresh graph t ≡ fresh next_graph t = ap (λ k. own t (k + 1)) same.count in
+moved_new thread_number graph next_graph dst refs nums thread tidy next_tidy same_graphs root_above root_below fits box leaf =
+    let same_name : fresh graph thread_number ≡ fresh next_graph thread_number = ap (λ count. own thread_number (count + 1)) same_graphs.count in
     record {
-      reply = ap (λ n. reply.Ref n) name;
-      moved = moved_root t graph next_graph (with_fresh graph t (blank refs nums)) (with_fresh next_graph t (blank refs nums)) dst (Some (fresh graph t)) (Some (fresh next_graph t)) thread
-          (moved_fresh t graph next_graph (blank refs nums) thread tidy other same fits) (ap Some name) low high (λ is. (refl, box is)) (λ is. (refl, leaf is));
+      reply = ap (λ new_name. reply.Ref new_name) same_name;
+      moved = moved_root thread_number graph next_graph (with_fresh graph thread_number (blank refs nums)) (with_fresh next_graph thread_number (blank refs nums)) dst (Some (fresh graph thread_number)) (Some (fresh next_graph thread_number)) thread
+          (moved_fresh thread_number graph next_graph (blank refs nums) thread tidy next_tidy same_graphs fits) (ap Some same_name) root_above root_below (λ this_root. (refl, box this_root)) (λ this_root. (refl, leaf this_root));
     }
 
 -- the first command
 pub first-step : (thread : ℕ) (graph next_graph : Graph) → IsThread thread → Tidy graph → Tidy next_graph → Same thread graph next_graph → graph.count thread ≡ 0 → Stepped thread graph next_graph (outcome graph thread (New own_box 16 0)) (outcome next_graph thread (New own_box 16 0))
-first-step t graph next_graph thread tidy other same none =
-    moved_new t graph next_graph 1 16 0 thread tidy other same (omega arith) (omega arith) (subst (λ (k : ℕ). Fits t (k + 1) (blank 16 0)) (sym none) (first-fits t))
-    (λ _. omega arith) (λ is. absurd (omega arith))
+first-step thread_number graph next_graph thread tidy next_tidy same_graphs no_count =
+    moved_new thread_number graph next_graph 1 16 0 thread tidy next_tidy same_graphs (omega arith) (omega arith) (subst (λ (count : ℕ). Fits thread_number (count + 1) (blank 16 0)) (sym no_count) (first-fits thread_number))
+    (λ _. omega arith) (λ impossible. absurd (omega arith))
 
 -- and each later one
 pub later-step : (thread : ℕ) (graph next_graph : Graph) (command : Command) → IsThread thread → Tidy graph → Tidy next_graph → Same thread graph next_graph → 1 ≤ graph.count thread → IsLater thread command → Stepped thread graph next_graph (outcome graph thread command) (outcome next_graph thread command)
-later-step t graph next_graph _ thread tidy other same positive (makes refs nums few) =
-    moved_new t graph next_graph 2 refs nums thread tidy other same (omega arith) (omega arith) (later-fits t (graph.count t + 1) refs nums (omega arith) few)
-    (λ is. absurd (omega arith)) (λ _. omega arith)
-later-step t graph next_graph _ thread tidy other same positive (writes value) =
-    on-step t graph next_graph (number_at graph t 2 0) (number_at next_graph t 2 0) (λ _. answers reply.Ok (with_number graph t 2 0 value)) (λ _. answers reply.Ok (with_number next_graph t 2 0 value)) tidy other same
-    (number_same t graph next_graph new_leaf 0 same (leaf_of t (graph.root t new_leaf) ((tidy.threads t thread).leaf_root 2 (omega arith))))
-    (λ v is. record { reply = refl; moved = moved_number t graph next_graph 0 value thread tidy other same })
-later-step t graph next_graph _ thread tidy other same positive links =
-    on-step t graph next_graph (field_at graph t shared_hub t) (field_at next_graph t shared_hub t) (λ _. answers reply.Ok (with_field graph t shared_hub t (graph.root t own_box))) (λ _. answers reply.Ok (with_field next_graph t shared_hub t (next_graph.root t own_box))) tidy other same
-    (link_same t graph next_graph thread tidy other same)
-    (λ v is. record { reply = refl; moved = moved_link t graph next_graph thread tidy other same })
-later-step t graph next_graph _ thread tidy other same positive (stores k) =
-    on-step t graph next_graph (field_at graph t own_box k) (field_at next_graph t own_box k) (λ _. answers reply.Ok (with_field graph t own_box k (graph.root t new_leaf))) (λ _. answers reply.Ok (with_field next_graph t own_box k (next_graph.root t new_leaf))) tidy other same
-    (field_same t graph next_graph own_box k same (box_of t (graph.root t own_box) (tidy.threads t thread).box_root))
-    (λ v is. record { reply = refl; moved = moved_slot t graph next_graph k new_leaf thread tidy other same (omega arith) })
-later-step t graph next_graph _ thread tidy other same positive drops =
-    record { reply = refl; moved = moved_root t graph next_graph graph next_graph 2 None None thread (stays t graph next_graph tidy other same) refl (omega arith) (omega arith) (λ _. tt) (λ _. tt) }
-later-step t graph next_graph _ thread tidy other same positive (loads index) =
-    on-step t graph next_graph (field_at graph t own_box index) (field_at next_graph t own_box index) (λ v. answers (shown v) (with_root graph t old_leaf v)) (λ v. answers (shown v) (with_root next_graph t old_leaf v)) tidy other same
-    (field_same t graph next_graph own_box index same (box_of t (graph.root t own_box) (tidy.threads t thread).box_root))
-    (λ reference is. record { reply = refl; moved = moved_root t graph next_graph graph next_graph 3 reference reference thread (stays t graph next_graph tidy other same) refl (omega arith) (omega arith) (λ e. absurd (omega arith)) (λ _. loaded t graph index reference tidy thread is) })
-later-step t graph next_graph _ thread tidy other same positive reads =
-    on-step t graph next_graph (number_at graph t 3 0) (number_at next_graph t 3 0) (λ n. answers (reply.Number n) graph) (λ n. answers (reply.Number n) next_graph) tidy other same
-    (number_same t graph next_graph old_leaf 0 same (leaf_of t (graph.root t old_leaf) ((tidy.threads t thread).leaf_root 3 (omega arith))))
-    (λ v is. record { reply = refl; moved = stays t graph next_graph tidy other same })
-later-step t graph next_graph _ thread tidy other same positive (swaps k) =
-    on-step t graph next_graph (field_at graph t own_box k) (field_at next_graph t own_box k)
-    (λ v. if same_reference v (graph.root t old_leaf) then answers reply.Yes (with_field graph t own_box k (graph.root t old_leaf)) else answers reply.No graph)
-    (λ v. if same_reference v (next_graph.root t old_leaf) then answers reply.Yes (with_field next_graph t own_box k (next_graph.root t old_leaf)) else answers reply.No next_graph) tidy other same
-    (field_same t graph next_graph own_box k same (box_of t (graph.root t own_box) (tidy.threads t thread).box_root))
-    (λ v is. subst (λ (reference : Reference). Stepped t graph next_graph (if same_reference v (graph.root t old_leaf) then answers reply.Yes (with_field graph t own_box k (graph.root t old_leaf)) else answers reply.No graph)
-    (if same_reference v reference then answers reply.Yes (with_field next_graph t own_box k (next_graph.root t old_leaf)) else answers reply.No next_graph)) (same.root old_leaf)
-    (elim (same_reference v (graph.root t old_leaf)) as (λ b. Stepped t graph next_graph (if b then answers reply.Yes (with_field graph t own_box k (graph.root t old_leaf)) else answers reply.No graph)
-    (if b then answers reply.Yes (with_field next_graph t own_box k (next_graph.root t old_leaf)) else answers reply.No next_graph))
-    [ true ↦ record { reply = refl; moved = moved_slot t graph next_graph k old_leaf thread tidy other same (omega arith) } | false ↦ record { reply = refl; moved = stays t graph next_graph tidy other same } ]))
-later-step t graph next_graph _ thread tidy other same positive (exchanges index) =
-    on-step t graph next_graph (field_at graph t own_box index) (field_at next_graph t own_box index)
-    (λ v. answers (shown v) (with_root (with_field graph t own_box index (graph.root t old_leaf)) t last_leaf v)) (λ v. answers (shown v) (with_root (with_field next_graph t own_box index (next_graph.root t old_leaf)) t last_leaf v)) tidy other same
-    (field_same t graph next_graph own_box index same (box_of t (graph.root t own_box) (tidy.threads t thread).box_root))
-    (λ reference is. record {
+later-step thread_number graph next_graph _ thread tidy next_tidy same_graphs some_counted (makes refs nums few_refs) =
+    moved_new thread_number graph next_graph 2 refs nums thread tidy next_tidy same_graphs (omega arith) (omega arith) (later-fits thread_number (graph.count thread_number + 1) refs nums (omega arith) few_refs)
+    (λ holds. absurd (omega arith)) (λ _. omega arith)
+later-step thread_number graph next_graph _ thread tidy next_tidy same_graphs some_counted (writes value) =
+    on-step thread_number graph next_graph (number_at graph thread_number 2 0) (number_at next_graph thread_number 2 0) (λ _. answers reply.Ok (with_number graph thread_number 2 0 value)) (λ _. answers reply.Ok (with_number next_graph thread_number 2 0 value)) tidy next_tidy same_graphs
+    (number_same thread_number graph next_graph new_leaf 0 same_graphs (leaf_of thread_number (graph.root thread_number new_leaf) ((tidy.threads thread_number thread).leaf_root 2 (omega arith))))
+    (λ got holds. record { reply = refl; moved = moved_number thread_number graph next_graph 0 value thread tidy next_tidy same_graphs })
+later-step thread_number graph next_graph _ thread tidy next_tidy same_graphs some_counted links =
+    on-step thread_number graph next_graph (field_at graph thread_number shared_hub thread_number) (field_at next_graph thread_number shared_hub thread_number) (λ _. answers reply.Ok (with_field graph thread_number shared_hub thread_number (graph.root thread_number own_box))) (λ _. answers reply.Ok (with_field next_graph thread_number shared_hub thread_number (next_graph.root thread_number own_box))) tidy next_tidy same_graphs
+    (link_same thread_number graph next_graph thread tidy next_tidy same_graphs)
+    (λ got holds. record { reply = refl; moved = moved_link thread_number graph next_graph thread tidy next_tidy same_graphs })
+later-step thread_number graph next_graph _ thread tidy next_tidy same_graphs some_counted (stores field) =
+    on-step thread_number graph next_graph (field_at graph thread_number own_box field) (field_at next_graph thread_number own_box field) (λ _. answers reply.Ok (with_field graph thread_number own_box field (graph.root thread_number new_leaf))) (λ _. answers reply.Ok (with_field next_graph thread_number own_box field (next_graph.root thread_number new_leaf))) tidy next_tidy same_graphs
+    (field_same thread_number graph next_graph own_box field same_graphs (box_of thread_number (graph.root thread_number own_box) (tidy.threads thread_number thread).box_root))
+    (λ got holds. record { reply = refl; moved = moved_slot thread_number graph next_graph field new_leaf thread tidy next_tidy same_graphs (omega arith) })
+later-step thread_number graph next_graph _ thread tidy next_tidy same_graphs some_counted drops =
+    record { reply = refl; moved = moved_root thread_number graph next_graph graph next_graph 2 None None thread (stays thread_number graph next_graph tidy next_tidy same_graphs) refl (omega arith) (omega arith) (λ _. tt) (λ _. tt) }
+later-step thread_number graph next_graph _ thread tidy next_tidy same_graphs some_counted (loads index) =
+    on-step thread_number graph next_graph (field_at graph thread_number own_box index) (field_at next_graph thread_number own_box index) (λ got. answers (shown got) (with_root graph thread_number old_leaf got)) (λ got. answers (shown got) (with_root next_graph thread_number old_leaf got)) tidy next_tidy same_graphs
+    (field_same thread_number graph next_graph own_box index same_graphs (box_of thread_number (graph.root thread_number own_box) (tidy.threads thread_number thread).box_root))
+    (λ reference holds. record { reply = refl; moved = moved_root thread_number graph next_graph graph next_graph 3 reference reference thread (stays thread_number graph next_graph tidy next_tidy same_graphs) refl (omega arith) (omega arith) (λ holds_root. absurd (omega arith)) (λ _. loaded thread_number graph index reference tidy thread holds) })
+later-step thread_number graph next_graph _ thread tidy next_tidy same_graphs some_counted reads =
+    on-step thread_number graph next_graph (number_at graph thread_number 3 0) (number_at next_graph thread_number 3 0) (λ number. answers (reply.Number number) graph) (λ number. answers (reply.Number number) next_graph) tidy next_tidy same_graphs
+    (number_same thread_number graph next_graph old_leaf 0 same_graphs (leaf_of thread_number (graph.root thread_number old_leaf) ((tidy.threads thread_number thread).leaf_root 3 (omega arith))))
+    (λ got holds. record { reply = refl; moved = stays thread_number graph next_graph tidy next_tidy same_graphs })
+later-step thread_number graph next_graph _ thread tidy next_tidy same_graphs some_counted (swaps field) =
+    on-step thread_number graph next_graph (field_at graph thread_number own_box field) (field_at next_graph thread_number own_box field)
+    (λ got. if same_reference got (graph.root thread_number old_leaf) then answers reply.Yes (with_field graph thread_number own_box field (graph.root thread_number old_leaf)) else answers reply.No graph)
+    (λ got. if same_reference got (next_graph.root thread_number old_leaf) then answers reply.Yes (with_field next_graph thread_number own_box field (next_graph.root thread_number old_leaf)) else answers reply.No next_graph) tidy next_tidy same_graphs
+    (field_same thread_number graph next_graph own_box field same_graphs (box_of thread_number (graph.root thread_number own_box) (tidy.threads thread_number thread).box_root))
+    (λ got holds. subst (λ (reference : Reference). Stepped thread_number graph next_graph (if same_reference got (graph.root thread_number old_leaf) then answers reply.Yes (with_field graph thread_number own_box field (graph.root thread_number old_leaf)) else answers reply.No graph)
+    (if same_reference got reference then answers reply.Yes (with_field next_graph thread_number own_box field (next_graph.root thread_number old_leaf)) else answers reply.No next_graph)) (same_graphs.root old_leaf)
+    (elim (same_reference got (graph.root thread_number old_leaf)) as (λ same_leaf. Stepped thread_number graph next_graph (if same_leaf then answers reply.Yes (with_field graph thread_number own_box field (graph.root thread_number old_leaf)) else answers reply.No graph)
+    (if same_leaf then answers reply.Yes (with_field next_graph thread_number own_box field (next_graph.root thread_number old_leaf)) else answers reply.No next_graph))
+    [ true ↦ record { reply = refl; moved = moved_slot thread_number graph next_graph field old_leaf thread tidy next_tidy same_graphs (omega arith) } | false ↦ record { reply = refl; moved = stays thread_number graph next_graph tidy next_tidy same_graphs } ]))
+later-step thread_number graph next_graph _ thread tidy next_tidy same_graphs some_counted (exchanges index) =
+    on-step thread_number graph next_graph (field_at graph thread_number own_box index) (field_at next_graph thread_number own_box index)
+    (λ got. answers (shown got) (with_root (with_field graph thread_number own_box index (graph.root thread_number old_leaf)) thread_number last_leaf got)) (λ got. answers (shown got) (with_root (with_field next_graph thread_number own_box index (next_graph.root thread_number old_leaf)) thread_number last_leaf got)) tidy next_tidy same_graphs
+    (field_same thread_number graph next_graph own_box index same_graphs (box_of thread_number (graph.root thread_number own_box) (tidy.threads thread_number thread).box_root))
+    (λ reference holds. record {
       reply = refl;
-      moved = moved_root t graph next_graph (with_field graph t own_box index (graph.root t old_leaf)) (with_field next_graph t own_box index (next_graph.root t old_leaf)) 4 reference reference thread (moved_slot t graph next_graph index old_leaf thread tidy other same (omega arith))
-          refl (omega arith) (omega arith) (λ e. absurd (omega arith)) (λ _. loaded t graph index reference tidy thread is);
+      moved = moved_root thread_number graph next_graph (with_field graph thread_number own_box index (graph.root thread_number old_leaf)) (with_field next_graph thread_number own_box index (next_graph.root thread_number old_leaf)) 4 reference reference thread (moved_slot thread_number graph next_graph index old_leaf thread tidy next_tidy same_graphs (omega arith))
+          refl (omega arith) (omega arith) (λ holds_root. absurd (omega arith)) (λ _. loaded thread_number graph index reference tidy thread holds);
     })

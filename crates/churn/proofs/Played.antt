@@ -20,39 +20,39 @@ use Rattle.churn.proofs.OneAfterAnother.{AreOf, all_of, none_of, given_append, g
 
 -- the commands of a thread, each with its outcome
 abbrev pub played : Graph → ℕ → List Command → List Entry
-played graph t [] = []
-played graph t (command ∷ script) = record { thread = t; command = command; reply = (outcome graph t command).reply } ∷ played (outcome graph t command).graph t script
+played graph thread [] = []
+played graph thread (command ∷ script) = record { thread = thread; command = command; reply = (outcome graph thread command).reply } ∷ played (outcome graph thread command).graph thread script
 
 -- none of them is to pin an object
 abbrev PinNone : List Command → Type 0
-PinNone script = AllByRecursion (λ c. IsPin c → ⊥) script
+PinNone script = AllByRecursion (λ command. IsPin command → ⊥) script
 
 played_after : (graph : Graph) (thread : ℕ) (command : Command) → (IsPin command → ⊥) → after_entry graph (record { thread = thread; command = command; reply = (outcome graph thread command).reply }) ≡ (outcome graph thread command).graph
 played_after graph thread command never = rw (outcome_given graph thread command) (leaves_outcome graph thread command (outcome graph thread command).reply never)
 
 played_legal : (graph : Graph) (thread : ℕ) (script : List Command) → PinNone script → EachIsLegal 16 256 graph (played graph thread script)
-played_legal graph thread [] none = tt
-played_legal graph thread (command ∷ script) none =
-    let left = played_after graph thread command none.0 in (
-      subst (λ (other_graph : Graph). IsLegal 16 256 graph thread command (outcome graph thread command).reply other_graph) (sym left) (inl (pins_none graph thread command none.0, refl)),
-      subst (λ (other_graph : Graph). EachIsLegal 16 256 other_graph (played (outcome graph thread command).graph thread script)) (sym left) (played_legal (outcome graph thread command).graph thread script none.1),
+played_legal graph thread [] no_pins = tt
+played_legal graph thread (command ∷ script) no_pins =
+    let graph_left = played_after graph thread command no_pins.0 in (
+      subst (λ (next_graph : Graph). IsLegal 16 256 graph thread command (outcome graph thread command).reply next_graph) (sym graph_left) (inl (pins_none graph thread command no_pins.0, refl)),
+      subst (λ (next_graph : Graph). EachIsLegal 16 256 next_graph (played (outcome graph thread command).graph thread script)) (sym graph_left) (played_legal (outcome graph thread command).graph thread script no_pins.1),
     )
 
 played_given : (graph : Graph) (thread : ℕ) (script : List Command) → PinNone script → AllByRecursion IsGiven (played graph thread script)
-played_given graph thread [] none = tt
-played_given graph thread (command ∷ script) none =
-    ((λ full. let same : true ≡ false = ap is_full (sym full) ∙ outcome_given graph thread command in cc, none.0), played_given (outcome graph thread command).graph thread script none.1)
+played_given graph thread [] no_pins = tt
+played_given graph thread (command ∷ script) no_pins =
+    ((λ answer_full. let contradiction : true ≡ false = ap is_full (sym answer_full) ∙ outcome_given graph thread command in cc, no_pins.0), played_given (outcome graph thread command).graph thread script no_pins.1)
 
 script_pins_none : (seed count thread : ℕ) → PinNone (churn_script seed count thread)
-script_pins_none seed count thread = (λ is. is, all_pin_none thread (Set shared_hub thread own_box ∷ flat_map (round seed) (range_with_len 0 count)) (script_later seed count thread))
+script_pins_none seed count thread = (λ is_pin. is_pin, all_pin_none thread (Set shared_hub thread own_box ∷ flat_map (round seed) (range_with_len 0 count)) (script_later seed count thread))
 
-played_of : (graph : Graph) (t : ℕ) (script : List Command) → AreOf t (played graph t script)
-played_of graph t [] = tt
-played_of graph t (command ∷ script) = (refl, played_of (outcome graph t command).graph t script)
+played_of : (graph : Graph) (thread : ℕ) (script : List Command) → AreOf thread (played graph thread script)
+played_of graph thread [] = tt
+played_of graph thread (command ∷ script) = (refl, played_of (outcome graph thread command).graph thread script)
 
-played_commands : (graph : Graph) (t : ℕ) (script : List Command) → commands_of (played graph t script) ≡ script
-played_commands graph t [] = refl
-played_commands graph t (command ∷ script) = ap (λ l. command ∷ l) (played_commands (outcome graph t command).graph t script)
+played_commands : (graph : Graph) (thread : ℕ) (script : List Command) → commands_of (played graph thread script) ≡ script
+played_commands graph thread [] = refl
+played_commands graph thread (command ∷ script) = ap (λ later_commands. command ∷ later_commands) (played_commands (outcome graph thread command).graph thread script)
 
 -- three threads, one after the other
 abbrev pub first_part : ℕ → ℕ → List Entry
@@ -75,47 +75,47 @@ whole seed count = first_part seed count ++ (second_part seed count ++ third_par
 
 -- which of three parts a thread has
 
-pick : (a b c : List Entry) (thread : ℕ) → AreOf 1 a → AreOf 2 b → AreOf 3 c → of_thread (a ++ (b ++ c)) thread ≡ of_thread a thread ++ (of_thread b thread ++ of_thread c thread)
-pick entries other_entries c thread are_of two three =
-    filter-append (λ (entry : Entry). entry.thread == thread) entries (other_entries ++ c) ∙ ap (λ l. of_thread entries thread ++ l) (filter-append (λ (entry : Entry). entry.thread == thread) other_entries c)
+pick : (first_entries second_entries third_entries : List Entry) (thread : ℕ) → AreOf 1 first_entries → AreOf 2 second_entries → AreOf 3 third_entries → of_thread (first_entries ++ (second_entries ++ third_entries)) thread ≡ of_thread first_entries thread ++ (of_thread second_entries thread ++ of_thread third_entries thread)
+pick first_list second_list third_entries thread are_of second_of third_of =
+    filter-append (λ (entry : Entry). entry.thread == thread) first_list (second_list ++ third_entries) ∙ ap (λ later_parts. of_thread first_list thread ++ later_parts) (filter-append (λ (entry : Entry). entry.thread == thread) second_list third_entries)
 
-picked_first : (a b c : List Entry) → AreOf 1 a → AreOf 2 b → AreOf 3 c → of_thread (a ++ (b ++ c)) 1 ≡ a
-picked_first entries other_entries c are_of two three =
-    pick entries other_entries c 1 are_of two three ∙ rw (all_of 1 entries are_of, none_of 2 1 other_entries (λ e. omega arith) two, none_of 3 1 c (λ e. omega arith) three) (append-nil entries)
+picked_first : (first_entries second_entries third_entries : List Entry) → AreOf 1 first_entries → AreOf 2 second_entries → AreOf 3 third_entries → of_thread (first_entries ++ (second_entries ++ third_entries)) 1 ≡ first_entries
+picked_first first_list second_list third_entries are_of second_of third_of =
+    pick first_list second_list third_entries 1 are_of second_of third_of ∙ rw (all_of 1 first_list are_of, none_of 2 1 second_list (λ same_thread. omega arith) second_of, none_of 3 1 third_entries (λ same_thread. omega arith) third_of) (append-nil first_list)
 
-picked_second : (a b c : List Entry) → AreOf 1 a → AreOf 2 b → AreOf 3 c → of_thread (a ++ (b ++ c)) 2 ≡ b
-picked_second entries other_entries c are_of two three =
-    pick entries other_entries c 2 are_of two three ∙ rw (none_of 1 2 entries (λ e. omega arith) are_of, all_of 2 other_entries two, none_of 3 2 c (λ e. omega arith) three) (append-nil other_entries)
+picked_second : (first_entries second_entries third_entries : List Entry) → AreOf 1 first_entries → AreOf 2 second_entries → AreOf 3 third_entries → of_thread (first_entries ++ (second_entries ++ third_entries)) 2 ≡ second_entries
+picked_second first_list second_list third_entries are_of second_of third_of =
+    pick first_list second_list third_entries 2 are_of second_of third_of ∙ rw (none_of 1 2 first_list (λ same_thread. omega arith) are_of, all_of 2 second_list second_of, none_of 3 2 third_entries (λ same_thread. omega arith) third_of) (append-nil second_list)
 
-picked_third : (a b c : List Entry) → AreOf 1 a → AreOf 2 b → AreOf 3 c → of_thread (a ++ (b ++ c)) 3 ≡ c
-picked_third entries other_entries c are_of two three =
-    pick entries other_entries c 3 are_of two three ∙ rw (none_of 1 3 entries (λ e. omega arith) are_of, none_of 2 3 other_entries (λ e. omega arith) two, all_of 3 c three) refl
+picked_third : (first_entries second_entries third_entries : List Entry) → AreOf 1 first_entries → AreOf 2 second_entries → AreOf 3 third_entries → of_thread (first_entries ++ (second_entries ++ third_entries)) 3 ≡ third_entries
+picked_third first_list second_list third_entries are_of second_of third_of =
+    pick first_list second_list third_entries 3 are_of second_of third_of ∙ rw (none_of 1 3 first_list (λ same_thread. omega arith) are_of, none_of 2 3 second_list (λ same_thread. omega arith) second_of, all_of 3 third_entries third_of) refl
 
-picked_none : (a b c : List Entry) (thread : ℕ) → (IsThread thread → ⊥) → AreOf 1 a → AreOf 2 b → AreOf 3 c → of_thread (a ++ (b ++ c)) thread ≡ []
-picked_none entries other_entries c thread out are_of two three =
-    pick entries other_entries c thread are_of two three
-    ∙ rw (none_of 1 thread entries (λ e. out (omega arith, omega arith)) are_of, none_of 2 thread other_entries (λ e. out (omega arith, omega arith)) two, none_of 3 thread c (λ e. out (omega arith, omega arith)) three) refl
+picked_none : (first_entries second_entries third_entries : List Entry) (thread : ℕ) → (IsThread thread → ⊥) → AreOf 1 first_entries → AreOf 2 second_entries → AreOf 3 third_entries → of_thread (first_entries ++ (second_entries ++ third_entries)) thread ≡ []
+picked_none first_list second_list third_entries thread no_thread are_of second_of third_of =
+    pick first_list second_list third_entries thread are_of second_of third_of
+    ∙ rw (none_of 1 thread first_list (λ same_thread. no_thread (omega arith, omega arith)) are_of, none_of 2 thread second_list (λ same_thread. no_thread (omega arith, omega arith)) second_of, none_of 3 thread third_entries (λ same_thread. no_thread (omega arith, omega arith)) third_of) refl
 
 whole_follows : (seed count : ℕ) → Follows (churn_scripts seed count) (whole seed count)
-whole_follows seed count t =
-    let a = first_part seed count in
-    let b = second_part seed count in
-    let c = third_part seed count in
-    let one = played_of (opening 3) 1 (churn_script seed count 1) in
-    let two = played_of (after_first seed count) 2 (churn_script seed count 2) in
-    let three = played_of (after_second seed count) 3 (churn_script seed count 3) in
-    elim (thread_or_not t) as (λ _. commands_of (of_thread (whole seed count) t) ≡ script_of (churn_scripts seed count) t) [
-      | inl is ↦ elim (thread_cases t is) as (λ _. commands_of (of_thread (whole seed count) t) ≡ script_of (churn_scripts seed count) t) [
-        | inl at ↦ subst (λ (u : ℕ). commands_of (of_thread (whole seed count) u) ≡ script_of (churn_scripts seed count) u) (sym at)
-            (ap commands_of (picked_first a b c one two three) ∙ played_commands (opening 3) 1 (churn_script seed count 1))
-        | inr more ↦ elim more as (λ _. commands_of (of_thread (whole seed count) t) ≡ script_of (churn_scripts seed count) t) [
-          | inl at ↦ subst (λ (u : ℕ). commands_of (of_thread (whole seed count) u) ≡ script_of (churn_scripts seed count) u) (sym at)
-              (ap commands_of (picked_second a b c one two three) ∙ played_commands (after_first seed count) 2 (churn_script seed count 2))
-          | inr at ↦ subst (λ (u : ℕ). commands_of (of_thread (whole seed count) u) ≡ script_of (churn_scripts seed count) u) (sym at)
-              (ap commands_of (picked_third a b c one two three) ∙ played_commands (after_second seed count) 3 (churn_script seed count 3))
+whole_follows seed count thread =
+    let first_entries = first_part seed count in
+    let second_entries = second_part seed count in
+    let third_entries = third_part seed count in
+    let first_played = played_of (opening 3) 1 (churn_script seed count 1) in
+    let second_played = played_of (after_first seed count) 2 (churn_script seed count 2) in
+    let third_played = played_of (after_second seed count) 3 (churn_script seed count 3) in
+    elim (thread_or_not thread) as (λ _. commands_of (of_thread (whole seed count) thread) ≡ script_of (churn_scripts seed count) thread) [
+      | inl is_thread ↦ elim (thread_cases thread is_thread) as (λ _. commands_of (of_thread (whole seed count) thread) ≡ script_of (churn_scripts seed count) thread) [
+        | inl thread_number ↦ subst (λ (some_thread : ℕ). commands_of (of_thread (whole seed count) some_thread) ≡ script_of (churn_scripts seed count) some_thread) (sym thread_number)
+            (ap commands_of (picked_first first_entries second_entries third_entries first_played second_played third_played) ∙ played_commands (opening 3) 1 (churn_script seed count 1))
+        | inr later_thread ↦ elim later_thread as (λ _. commands_of (of_thread (whole seed count) thread) ≡ script_of (churn_scripts seed count) thread) [
+          | inl thread_number ↦ subst (λ (some_thread : ℕ). commands_of (of_thread (whole seed count) some_thread) ≡ script_of (churn_scripts seed count) some_thread) (sym thread_number)
+              (ap commands_of (picked_second first_entries second_entries third_entries first_played second_played third_played) ∙ played_commands (after_first seed count) 2 (churn_script seed count 2))
+          | inr thread_number ↦ subst (λ (some_thread : ℕ). commands_of (of_thread (whole seed count) some_thread) ≡ script_of (churn_scripts seed count) some_thread) (sym thread_number)
+              (ap commands_of (picked_third first_entries second_entries third_entries first_played second_played third_played) ∙ played_commands (after_second seed count) 3 (churn_script seed count 3))
         ]
       ]
-      | inr out ↦ ap commands_of (picked_none a b c t out one two three) ∙ sym (script_none seed count t out)
+      | inr no_thread ↦ ap commands_of (picked_none first_entries second_entries third_entries thread no_thread first_played second_played third_played) ∙ sym (script_none seed count thread no_thread)
     ]
 
 whole_given : (seed count : ℕ) → AllByRecursion IsGiven (whole seed count)
@@ -129,7 +129,7 @@ whole_run seed count = record {
   legal = record {
     each = legal-append (opening 3) (first_part seed count) (second_part seed count ++ third_part seed count) (played_legal (opening 3) 1 (churn_script seed count 1) (script_pins_none seed count 1))
         (legal-append (after_first seed count) (second_part seed count) (third_part seed count) (played_legal (after_first seed count) 2 (churn_script seed count 2) (script_pins_none seed count 2)) (played_legal (after_second seed count) 3 (churn_script seed count 3) (script_pins_none seed count 3)));
-    crowded = λ k e at full. absurd ((given_at (whole seed count) k e (whole_given seed count) at).0 full);
+    crowded = λ index entry entry_there answer_full. absurd ((given_at (whole seed count) index entry (whole_given seed count) entry_there).0 answer_full);
   };
 }
 

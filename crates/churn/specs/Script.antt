@@ -21,16 +21,16 @@ abbrev pub last_leaf : ℕ
 last_leaf = 4
 
 -- A new object with a number goes into a slot of the thread's box, and is forgotten.
-abbrev pub making : (seed i : ℕ) → List Command
-making seed i = New new_leaf ((seed + i) % 4) (1 + i % 8) ∷ Wr new_leaf 0 (seed + i + 1) ∷ Set own_box (i % 16) new_leaf ∷ Drop new_leaf ∷ []
+abbrev pub making : (seed round_number : ℕ) → List Command
+making seed round_number = New new_leaf ((seed + round_number) % 4) (1 + round_number % 8) ∷ Wr new_leaf 0 (seed + round_number + 1) ∷ Set own_box (round_number % 16) new_leaf ∷ Drop new_leaf ∷ []
 
 -- It is loaded from there, its number read, and the slot exchanged with itself in two ways.
-abbrev pub loading : (i : ℕ) → List Command
-loading i = Get old_leaf own_box (i % 16) ∷ Rd old_leaf 0 ∷ Cas own_box (i % 16) old_leaf old_leaf ∷ Xchg last_leaf own_box (i % 16) old_leaf ∷ []
+abbrev pub loading : (round_number : ℕ) → List Command
+loading round_number = Get old_leaf own_box (round_number % 16) ∷ Rd old_leaf 0 ∷ Cas own_box (round_number % 16) old_leaf old_leaf ∷ Xchg last_leaf own_box (round_number % 16) old_leaf ∷ []
 
 -- a round, counted from 0
-abbrev pub round : (seed i : ℕ) → List Command
-round seed i = making seed i ++ loading i
+abbrev pub round : (seed round_number : ℕ) → List Command
+round seed round_number = making seed round_number ++ loading round_number
 
 -- The script of a thread: it makes its box, 16 references, puts it into its field of the hub, and goes through its rounds.
 abbrev pub churn_script : (seed count thread : ℕ) → List Command

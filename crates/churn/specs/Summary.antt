@@ -17,7 +17,7 @@ is_bad _ = false
 
 -- the number that a reply tells. The others tell none, and add nothing
 abbrev pub number_summed : Reply → ℕ
-number_summed (Number n) = n
+number_summed (Number number) = number
 number_summed _ = 0
 
 -- the words of a row's object: header, shape, name, and one for each field and each number

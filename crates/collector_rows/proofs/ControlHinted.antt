@@ -9,30 +9,30 @@ use Rattle.collector_rows.specs.ControlReady.{is_ready}
 
 module _ (config : Config) where
   -- by where it stands: what holds of each spot but one in a unit, and of those behind a hint
-  pub by_unit : (P : ControlSpot → ControlSpot → Type 0) (hint : Option ℕ) → ((spot : ControlSpot) → P spot spot) → ((at : _) → P (Working at) (hinted_by config hint (Working at))) → (spot : ControlSpot) → P spot (hinted_by config hint spot)
-  by_unit P hint same unit_case (Working spot) = unit_case spot
-  by_unit P hint same unit_case LookLeft = same LookLeft
-  by_unit P hint same unit_case StoreEnd = same StoreEnd
-  by_unit P hint same unit_case LookAsked = same LookAsked
-  by_unit P hint same unit_case LookFree = same LookFree
-  by_unit P hint same unit_case (Stopping spot) = same (Stopping spot)
-  by_unit P hint same unit_case (LoadWord index extent) = same (LoadWord index extent)
-  by_unit P hint same unit_case (StoreWord index extent) = same (StoreWord index extent)
-  by_unit P hint same unit_case Go = same Go
-  by_unit P hint same unit_case Gone = same Gone
+  pub by_unit : (P : ControlSpot → ControlSpot → Type 0) (hint : Option ℕ) → ((spot : ControlSpot) → P spot spot) → ((unit_spot : _) → P (Working unit_spot) (hinted_by config hint (Working unit_spot))) → (spot : ControlSpot) → P spot (hinted_by config hint spot)
+  by_unit P hint same_spot unit_case (Working spot) = unit_case spot
+  by_unit P hint same_spot unit_case LookLeft = same_spot LookLeft
+  by_unit P hint same_spot unit_case StoreEnd = same_spot StoreEnd
+  by_unit P hint same_spot unit_case LookAsked = same_spot LookAsked
+  by_unit P hint same_spot unit_case LookFree = same_spot LookFree
+  by_unit P hint same_spot unit_case (Stopping spot) = same_spot (Stopping spot)
+  by_unit P hint same_spot unit_case (LoadWord index extent) = same_spot (LoadWord index extent)
+  by_unit P hint same_spot unit_case (StoreWord index extent) = same_spot (StoreWord index extent)
+  by_unit P hint same_spot unit_case Go = same_spot Go
+  by_unit P hint same_spot unit_case Gone = same_spot Gone
 
   pub hinted_ready : (hint : Option ℕ) (spot : ControlSpot) → is_ready config spot ≡ true → is_ready config (hinted_by config hint spot) ≡ true
-  hinted_ready hint = by_unit (λ spot next. is_ready config spot ≡ true → is_ready config next ≡ true) hint (λ spot ready. ready) (λ at ready. unit.working config hint (control_seat config) at ready)
+  hinted_ready hint = by_unit (λ spot hinted_spot. is_ready config spot ≡ true → is_ready config hinted_spot ≡ true) hint (λ spot ready. ready) (λ unit_spot ready. unit.working config hint (control_seat config) unit_spot ready)
 
   pub hinted_gone : (hint : Option ℕ) (spot : ControlSpot) → is_gone (hinted_by config hint spot) ≡ is_gone spot
-  hinted_gone hint = by_unit (λ spot next. is_gone next ≡ is_gone spot) hint (λ spot. refl) (λ at. refl)
+  hinted_gone hint = by_unit (λ spot hinted_spot. is_gone hinted_spot ≡ is_gone spot) hint (λ spot. refl) (λ unit_spot. refl)
 
   pub hinted_not : (hint : Option ℕ) (spot : ControlSpot) → takes_hint spot ≡ false → hinted_by config hint spot ≡ spot
-  hinted_not hint = by_unit (λ spot next. takes_hint spot ≡ false → next ≡ spot) hint (λ spot none. refl) (λ at none. ap Working (unit.hinted_not config hint at none))
+  hinted_not hint = by_unit (λ spot hinted_spot. takes_hint spot ≡ false → hinted_spot ≡ spot) hint (λ spot takes_none. refl) (λ unit_spot takes_none. ap Working (unit.hinted_not config hint unit_spot takes_none))
 
   -- its spot is that behind the hint
   pub control_hinted_spot : (hint : Option ℕ) (control : Controlling) → (control_hinted config hint control).spot ≡ hinted_by config hint control.spot
-  control_hinted_spot None control = by_unit (λ spot next. spot ≡ next) None (λ spot. refl) (λ at. refl) control.spot
+  control_hinted_spot None control = by_unit (λ spot hinted_spot. spot ≡ hinted_spot) None (λ spot. refl) (λ unit_spot. refl) control.spot
   control_hinted_spot (Some address) control = refl
 
   pub control_hinted_ready : (hint : Option ℕ) (control : Controlling) → is_ready config control.spot ≡ true → is_ready config (control_hinted config hint control).spot ≡ true

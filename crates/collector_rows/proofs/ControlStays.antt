@@ -1,4 +1,5 @@
 -- The control can make its next access wherever it goes on.
+use Rattle.heap_words.specs.Phases.{idle_phase}
 use Rattle.std.proofs.Common.{◌≡◌, ℕ, ◌+◌, ◌<◌, Bool, true, false, refl, sym, subst, arith}
 use Rattle.std.specs.Prelude.{◌==◌, nat_lt, if◌then◌else◌}
 use Rattle.std.proofs.lemmas.Bool.{and_parts, and_from, lt-ltb, ltb-true}
@@ -30,8 +31,8 @@ use Rattle.collector_rows.specs.ControlReady.{is_ready, UnitGoesOn, AccessesAreI
 
 -- of two spots
 of_two : (config : Config) (holds : Bool) (spot other_spot : ControlSpot) → (holds ≡ true → is_ready config spot ≡ true) → (holds ≡ false → is_ready config other_spot ≡ true) → is_ready config (if holds then spot else other_spot) ≡ true
-of_two config true spot other_spot one other = one refl
-of_two config false spot other_spot one other = other refl
+of_two config true spot other_spot if_true if_false = if_true refl
+of_two config false spot other_spot if_true if_false = if_false refl
 
 -- an image has words
 some_words : (config : Config) → 0 < image_words config
@@ -40,12 +41,12 @@ some_words config = omega arith
 -- where the words of the image are loaded one after the other
 loads_ready : (config : Config) (extent : Extent) (index : ℕ) → is_ready config (after_load config extent index) ≡ true
 loads_ready config extent index =
-    of_two config (nat_lt (next_loaded config extent index) (image_words config)) (LoadWord (next_loaded config extent index) extent) (StoreWord 0 extent) (λ more. more) (λ all. lt-ltb _ _ (some_words config))
+    of_two config (nat_lt (next_loaded config extent index) (image_words config)) (LoadWord (next_loaded config extent index) extent) (StoreWord 0 extent) (λ more_words. more_words) (λ all_loaded. lt-ltb _ _ (some_words config))
 
 -- where the seats are checked one after the other
 checks_on : (config : Config) (phase : ℕ) (holds : Bool) (spot other_spot : StopSpot) → (holds ≡ true → is_ready config (stopping config phase spot) ≡ true) → (holds ≡ false → is_ready config (stopping config phase other_spot) ≡ true) → is_ready config (stopping config phase (if holds then spot else other_spot)) ≡ true
-checks_on config phase true spot other_spot one other = one refl
-checks_on config phase false spot other_spot one other = other refl
+checks_on config phase true spot other_spot if_true if_false = if_true refl
+checks_on config phase false spot other_spot if_true if_false = if_false refl
 
 -- where it goes on with its unit
 works_on : (config : Config) (spot : UnitSpot) → unit.is_ready config (control_seat config) spot ≡ true → is_ready config (after_unit spot) ≡ true
@@ -55,46 +56,46 @@ works_on config _ ready = and_from _ _ ready refl
 
 -- where it begins with a unit
 begins_ready : (config : Config) (phase cset : ℕ) → is_ready config (Working (units.begins phase cset)) ≡ true
-begins_ready config phase cset = by_phase (λ at. is_ready config (Working at) ≡ true) phase cset (λ one. refl) (λ no two. refl) (λ no other. refl)
+begins_ready config phase cset = by_phase (λ begun_spot. is_ready config (Working begun_spot) ≡ true) phase cset (λ phase_one. refl) (λ not_first phase_two. refl) (λ not_first not_second. refl)
 
 -- what is known of a spot is known of it under its own name
 pub ready_at : (config : Config) (spot other_spot : ControlSpot) → spot ≡ other_spot → is_ready config spot ≡ true → is_ready config other_spot ≡ true
-ready_at config spot other_spot is ready = subst (λ s. is_ready config s ≡ true) is ready
+ready_at config spot other_spot same_spot ready = subst (λ any_spot. is_ready config any_spot ≡ true) same_spot ready
 
 pub goes_at : (config : Config) (spot other_spot : ControlSpot) (got : ℕ) → spot ≡ other_spot → UnitGoesOn config spot got → UnitGoesOn config other_spot got
-goes_at config spot other_spot got is goes = subst (λ s. UnitGoesOn config s got) is goes
+goes_at config spot other_spot got same_spot goes_on = subst (λ any_spot. UnitGoesOn config any_spot got) same_spot goes_on
 
 pub stays_ready : StaysReady
-stays_ready c phase cset seen next LookLeft got ready goes = of_two c (got == 0) StoreEnd LookAsked (λ e. refl) (λ e. refl)
-stays_ready c phase cset seen next StoreEnd got ready goes = refl
-stays_ready c phase cset seen next LookAsked got ready goes = of_two c (begins_pause phase got) (Stopping stop.Raise) (unasked phase cset) (λ e. refl)
-    (λ e. of_two c (phase == 0) LookFree (Working (units.begins phase cset)) (λ e. refl) (λ e. begins_ready c phase cset))
-stays_ready c phase cset seen next LookFree got ready goes = of_two c (wants_pause c seen got) (Stopping stop.Raise) LookLeft (λ e. refl) (λ e. refl)
-stays_ready c phase cset seen next (Working spot) got ready goes = works_on c (units.next_at c spot got) (inside.stays_ready c (control_seat c) spot got (and_parts _ _ ready).0 goes)
-stays_ready c phase cset seen next (Stopping stop.Raise) got ready goes = (let some = c.in_range.least_mutators in grind (arith, nat_tests))
-stays_ready c phase cset seen next (Stopping (stop.Check seat)) got ready goes =
-    checks_on c phase (got == 0) (after_seat c seat) (stop.Check seat)
-    (λ e. checks_on c phase (nat_lt (seat + 1) (c.mutators + c.helpers)) (stop.Check (seat + 1)) stop.Stopped (λ more. grind (arith, nat_tests)) (λ all. lt-ltb _ _ (some_words c)))
-    (λ e. ready)
-stays_ready c phase cset seen next (Stopping stop.Stopped) got ready goes = lt-ltb _ _ (some_words c)
-stays_ready c phase cset seen next (LoadWord index extent) got ready goes = loads_ready c (extent_after phase index extent got) index
-stays_ready c phase cset seen next (StoreWord index extent) got ready goes = of_two c (nat_lt next (image_words c)) (StoreWord next extent) Go (λ more. more) (λ all. refl)
-stays_ready c phase cset seen next Go got ready goes = refl
-stays_ready c phase cset seen next Gone got ready goes = refl
+stays_ready config phase cset seen next LookLeft got ready goes_on = of_two config (got == 0) StoreEnd LookAsked (λ tested. refl) (λ tested. refl)
+stays_ready config phase cset seen next StoreEnd got ready goes_on = refl
+stays_ready config phase cset seen next LookAsked got ready goes_on = of_two config (begins_pause phase got) (Stopping stop.Raise) (unasked phase cset) (λ tested. refl)
+    (λ tested. of_two config (phase == idle_phase) LookFree (Working (units.begins phase cset)) (λ tested. refl) (λ tested. begins_ready config phase cset))
+stays_ready config phase cset seen next LookFree got ready goes_on = of_two config (wants_pause config seen got) (Stopping stop.Raise) LookLeft (λ tested. refl) (λ tested. refl)
+stays_ready config phase cset seen next (Working spot) got ready goes_on = works_on config (units.next_at config spot got) (inside.stays_ready config (control_seat config) spot got (and_parts _ _ ready).0 goes_on)
+stays_ready config phase cset seen next (Stopping stop.Raise) got ready goes_on = (let some_mutators = config.in_range.least_mutators in grind (arith, nat_tests))
+stays_ready config phase cset seen next (Stopping (stop.Check seat)) got ready goes_on =
+    checks_on config phase (got == 0) (after_seat config seat) (stop.Check seat)
+    (λ tested. checks_on config phase (nat_lt (seat + 1) (config.mutators + config.helpers)) (stop.Check (seat + 1)) stop.Stopped (λ more_left. grind (arith, nat_tests)) (λ all_done. lt-ltb _ _ (some_words config)))
+    (λ tested. ready)
+stays_ready config phase cset seen next (Stopping stop.Stopped) got ready goes_on = lt-ltb _ _ (some_words config)
+stays_ready config phase cset seen next (LoadWord index extent) got ready goes_on = loads_ready config (extent_after phase index extent got) index
+stays_ready config phase cset seen next (StoreWord index extent) got ready goes_on = of_two config (nat_lt next (image_words config)) (StoreWord next extent) Go (λ more_left. more_left) (λ all_done. refl)
+stays_ready config phase cset seen next Go got ready goes_on = refl
+stays_ready config phase cset seen next Gone got ready goes_on = refl
 
 -- an access of a word of the table is inside it
 placed_inside : (config : Config) (touch : Touch) → IsWord config touch.word → table_index (placed config touch) < table_words config
-placed_inside config touch is = subst (λ k. k < table_words config) (sym (table_index-access_at (word_at config touch.word) touch.form)) (word_inside config touch.word is)
+placed_inside config touch word_there = subst (λ index. index < table_words config) (sym (table_index-access_at (word_at config touch.word) touch.form)) (word_inside config touch.word word_there)
 
 -- the control's are
 pub accesses_inside : AccessesAreInside
-accesses_inside c LookLeft value ready = placed_inside c (control_touch c LookLeft) tt
-accesses_inside c StoreEnd value ready = placed_inside c (control_touch c StoreEnd) tt
-accesses_inside c LookAsked value ready = placed_inside c (control_touch c LookAsked) tt
-accesses_inside c LookFree value ready = placed_inside c (control_touch c LookFree) tt
-accesses_inside c (Working spot) value ready = inside.accesses_inside c (control_seat c) spot (omega arith) (and_parts _ _ ready).0
-accesses_inside c (Stopping spot) value ready = placed_inside c (stop_touch spot) (is_word_true c (stop_touch spot).word (and_parts _ _ (and_parts _ _ ready).0).0)
-accesses_inside c (LoadWord index extent) value ready = (let below = ltb-true _ _ ready in omega (arith, below))
-accesses_inside c (StoreWord index extent) value ready = (let below = ltb-true _ _ ready in omega (arith, below))
-accesses_inside c Go value ready = placed_inside c (control_touch c Go) tt
-accesses_inside c Gone value ready = placed_inside c (control_touch c Gone) tt
+accesses_inside config LookLeft value ready = placed_inside config (control_touch config LookLeft) tt
+accesses_inside config StoreEnd value ready = placed_inside config (control_touch config StoreEnd) tt
+accesses_inside config LookAsked value ready = placed_inside config (control_touch config LookAsked) tt
+accesses_inside config LookFree value ready = placed_inside config (control_touch config LookFree) tt
+accesses_inside config (Working spot) value ready = inside.accesses_inside config (control_seat config) spot (omega arith) (and_parts _ _ ready).0
+accesses_inside config (Stopping spot) value ready = placed_inside config (stop_touch spot) (is_word_true config (stop_touch spot).word (and_parts _ _ (and_parts _ _ ready).0).0)
+accesses_inside config (LoadWord index extent) value ready = (let index_below = ltb-true _ _ ready in omega (arith, index_below))
+accesses_inside config (StoreWord index extent) value ready = (let index_below = ltb-true _ _ ready in omega (arith, index_below))
+accesses_inside config Go value ready = placed_inside config (control_touch config Go) tt
+accesses_inside config Gone value ready = placed_inside config (control_touch config Gone) tt

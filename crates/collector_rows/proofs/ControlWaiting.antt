@@ -13,11 +13,11 @@ use Rattle.collector_rows.specs.ControlWaits.{waits_at}
 
 -- it says again where a test fails
 by_test : (holds : Bool) (P : Type 0) → (holds ≡ false → P) → (P → holds ≡ false) → ((if holds then More else Again) ≡ Again) ↔ P
-by_test true P to back = ((λ e. absurd (cc)), (λ p. absurd (let no = back p in cc)))
-by_test false P to back = ((λ e. to refl), (λ p. refl))
+by_test true P from_false to_false = ((λ says_again. absurd (cc)), (λ condition_holds. absurd (let test_false = to_false condition_holds in cc)))
+by_test false P from_false to_false = ((λ says_again. from_false refl), (λ condition_holds. refl))
 
 pub never : (More ≡ Again) ↔ ⊥
-never = ((λ e. cc), (λ no. absurd no))
+never = ((λ says_again. cc), (λ impossible. absurd impossible))
 
 pub stopping_waits : (config : Config) (seen : ℕ) (spot : StopSpot) (got : ℕ) → (stopping_says spot got ≡ Again) ↔ waits_at config seen (Stopping spot) got
 stopping_waits config seen (stop.Check seat) got = by_test (got == 0) _ (eqb-false got 0) (ne_eqb _ _)
@@ -25,6 +25,6 @@ stopping_waits config seen spot got = never
 
 -- a step of a unit says so where the work on the unit does
 pub working_waits : (said : Took) → (working_says said ≡ Again) ↔ (said ≡ Again)
-working_waits Done = (λ e. absurd (cc (e)), λ e. absurd (cc (e)))
-working_waits More = (λ e. e, λ e. e)
-working_waits Again = (λ e. e, λ e. e)
+working_waits Done = (λ same_answer. absurd (cc (same_answer)), λ same_answer. absurd (cc (same_answer)))
+working_waits More = (λ same_answer. same_answer, λ same_answer. same_answer)
+working_waits Again = (λ same_answer. same_answer, λ same_answer. same_answer)

@@ -28,26 +28,26 @@ module _ (config : Config) where
   hinted_gone hint Gone = refl
 
   pub hinted_not : (hint : Option ℕ) (spot : HelpSpot) → takes_hint spot ≡ false → hinted_by config hint spot ≡ spot
-  hinted_not hint (Working spot) none = ap Working (unit.hinted_not config hint spot none)
-  hinted_not hint LoadEnd none = refl
-  hinted_not hint (Entering spot) none = refl
-  hinted_not hint LoadPhase none = refl
-  hinted_not hint (LoadSet phase) none = refl
-  hinted_not hint Leave none = refl
-  hinted_not hint Gone none = refl
+  hinted_not hint (Working spot) takes_none = ap Working (unit.hinted_not config hint spot takes_none)
+  hinted_not hint LoadEnd takes_none = refl
+  hinted_not hint (Entering spot) takes_none = refl
+  hinted_not hint LoadPhase takes_none = refl
+  hinted_not hint (LoadSet phase) takes_none = refl
+  hinted_not hint Leave takes_none = refl
+  hinted_not hint Gone takes_none = refl
 
   pub help_hinted_ready : (hint : Option ℕ) (helper : Helping) → help_ready config helper ≡ true → help_ready config (help_hinted config hint helper) ≡ true
   help_hinted_ready None helper ready = ready
-  help_hinted_ready (Some address) helper ready = let both = and_parts _ _ ready in and_from _ _ both.0 (hinted_fits (Some address) helper.seat helper.spot both.1)
+  help_hinted_ready (Some address) helper ready = let both_ready = and_parts _ _ ready in and_from _ _ both_ready.0 (hinted_fits (Some address) helper.seat helper.spot both_ready.1)
 
   -- its spot is that behind the hint
   pub help_hinted_spot : (hint : Option ℕ) (helper : Helping) → (help_hinted config hint helper).spot ≡ hinted_by config hint helper.spot
   help_hinted_spot None helper = hinted_none helper.spot
     where
       hinted_none : (spot : HelpSpot) → spot ≡ hinted_by config None spot
-      hinted_none (Working at) = refl
+      hinted_none (Working inner_spot) = refl
       hinted_none LoadEnd = refl
-      hinted_none (Entering at) = refl
+      hinted_none (Entering inner_spot) = refl
       hinted_none LoadPhase = refl
       hinted_none (LoadSet phase) = refl
       hinted_none Leave = refl

@@ -37,4 +37,4 @@ UnitGoesOn config _ got = Unit {0}
 
 -- and they are in range at the next spot, whatever word is found; in a unit, where the unit can go on from it
 abbrev pub StaysReady : Type 0
-StaysReady = (config : Config) (phase cset seen next : ℕ) (spot : ControlSpot) (got : ℕ) → is_ready config spot ≡ true → UnitGoesOn config spot got → is_ready config (next_spot config phase cset seen next spot got) ≡ true
+StaysReady = (config : Config) (phase cset seen next_index : ℕ) (spot : ControlSpot) (got : ℕ) → is_ready config spot ≡ true → UnitGoesOn config spot got → is_ready config (next_spot config phase cset seen next_index spot got) ≡ true

@@ -132,28 +132,28 @@ unasked phase cset = if phase == idle_phase then LookFree else Working (units.be
 
 -- whether the free word calls for a pause: fewer than half of the regions are free, and it is not the word seen
 abbrev pub wants_pause : Config → ℕ → ℕ → Bool
-wants_pause config seen free = nat_lt (2 * members_below free 64) config.regions && (if free == seen then false else true)
+wants_pause config seen free_word = nat_lt (2 * members_below free_word 64) config.regions && (if free_word == seen then false else true)
 
 -- where it stands once a word of the image was loaded, and once one of the new image was stored, by the index of the next one
 abbrev pub after_load : Config → Extent → ℕ → ControlSpot
 after_load config extent index = if nat_lt (next_loaded config extent index) (image_words config) then LoadWord (next_loaded config extent index) extent else StoreWord 0 extent
 
 abbrev pub after_store : Config → Extent → ℕ → ControlSpot
-after_store config extent next = if nat_lt next (image_words config) then StoreWord next extent else Go
+after_store config extent next_index = if nat_lt next_index (image_words config) then StoreWord next_index extent else Go
 
 -- where it stands next, by the phase, the collection set, the free word that it has seen, the index of the word of the new image that is
 -- stored next, and the word that was found
-abbrev pub next_spot : Config → (phase cset seen next : ℕ) → ControlSpot → ℕ → ControlSpot
-next_spot config phase cset seen next LookLeft got = if got == 0 then StoreEnd else LookAsked
-next_spot config phase cset seen next StoreEnd got = Gone
-next_spot config phase cset seen next LookAsked got = if begins_pause phase got then Stopping stop.Raise else unasked phase cset
-next_spot config phase cset seen next LookFree got = if wants_pause config seen got then Stopping stop.Raise else LookLeft
-next_spot config phase cset seen next (Working spot) got = after_unit (units.next_at config spot got)
-next_spot config phase cset seen next (Stopping spot) got = stopping config phase (stop_next config spot got)
-next_spot config phase cset seen next (LoadWord index extent) got = after_load config (extent_after phase index extent got) index
-next_spot config phase cset seen next (StoreWord index extent) got = after_store config extent next
-next_spot config phase cset seen next Go got = LookLeft
-next_spot config phase cset seen next Gone got = Gone
+abbrev pub next_spot : Config → (phase cset seen next_index : ℕ) → ControlSpot → ℕ → ControlSpot
+next_spot config phase cset seen next_index LookLeft got = if got == 0 then StoreEnd else LookAsked
+next_spot config phase cset seen next_index StoreEnd got = Gone
+next_spot config phase cset seen next_index LookAsked got = if begins_pause phase got then Stopping stop.Raise else unasked phase cset
+next_spot config phase cset seen next_index LookFree got = if wants_pause config seen got then Stopping stop.Raise else LookLeft
+next_spot config phase cset seen next_index (Working spot) got = after_unit (units.next_at config spot got)
+next_spot config phase cset seen next_index (Stopping spot) got = stopping config phase (stop_next config spot got)
+next_spot config phase cset seen next_index (LoadWord index extent) got = after_load config (extent_after phase index extent got) index
+next_spot config phase cset seen next_index (StoreWord index extent) got = after_store config extent next_index
+next_spot config phase cset seen next_index Go got = LookLeft
+next_spot config phase cset seen next_index Gone got = Gone
 
 -- the index of the word of the new image that is stored behind that of a spot
 abbrev pub stored_next : Config → ControlSpot → List ℕ → ℕ
@@ -161,8 +161,8 @@ stored_next config (StoreWord index extent) image = next_stored config extent im
 stored_next config _ image = 0
 
 -- the words of the image once this one was loaded: with 0 for those that are left out before the next one
-abbrev pub loaded_on : (next : ℕ) → List ℕ → ℕ → List ℕ
-loaded_on next image got = padded next (image ++ got ∷ [])
+abbrev pub loaded_on : (next_index : ℕ) → List ℕ → ℕ → List ℕ
+loaded_on next_index image got = padded next_index (image ++ got ∷ [])
 
 -- and once the last one was, of all of the image
 abbrev pub loaded_all : Config → List ℕ → ℕ → List ℕ

@@ -23,15 +23,15 @@ heap_index config = heap_start config - image_start config
 
 -- whether the word at an index of the image is of the extent
 abbrev pub is_of_extent : Config → Extent → ℕ → Bool
-is_of_extent config Whole k = true
-is_of_extent config OffHeap k = nat_lt k (heap_index config) || nat_le (heap_index config + heap_size config) k
-is_of_extent config Ahead k = nat_lt k (roots_index config)
+is_of_extent config Whole index = true
+is_of_extent config OffHeap index = nat_lt index (heap_index config) || nat_le (heap_index config + heap_size config) index
+is_of_extent config Ahead index = nat_lt index (roots_index config)
 
 -- the index of the next word of the extent behind another index; behind the last one that of the image's end
 abbrev pub next_loaded : Config → Extent → ℕ → ℕ
-next_loaded config Whole k = k + 1
-next_loaded config OffHeap k = if nat_le (heap_index config) (k + 1) && nat_lt (k + 1) (heap_index config + heap_size config) then heap_index config + heap_size config else k + 1
-next_loaded config Ahead k = if nat_lt (k + 1) (roots_index config) then k + 1 else image_words config
+next_loaded config Whole index = index + 1
+next_loaded config OffHeap index = if nat_le (heap_index config) (index + 1) && nat_lt (index + 1) (heap_index config + heap_size config) then heap_index config + heap_size config else index + 1
+next_loaded config Ahead index = if nat_lt (index + 1) (roots_index config) then index + 1 else image_words config
 
 -- the extent with which a pause begins, by the phase before it
 abbrev pub first_extent : Config → ℕ → Extent
@@ -52,7 +52,7 @@ extent_by config phase image = extent_after phase 5 (extent_after phase 3 (first
 
 -- the words that were loaded, with 0 for each that was left out before an index
 abbrev pub padded : ℕ → List ℕ → List ℕ
-padded n image = image ++ replicate (n - length image) 0
+padded index image = image ++ replicate (index - length image) 0
 
 -- A word of the new image counts: it is of the extent, or it is not 0, as is the header of free words that only fill from then on.
 abbrev pub counts : Config → Extent → List ℕ → ℕ → Bool
@@ -60,12 +60,12 @@ counts config extent image index = is_of_extent config extent index || not (slic
 
 -- the first index from one on, among so many, whose word counts; where there is none the one behind them
 unfoldable pub first_counting : Config → Extent → List ℕ → (left : ℕ) → ℕ → ℕ
-first_counting config extent image zero k = k
-first_counting config extent image (suc left) k = if counts config extent image k then k else first_counting config extent image left (k + 1)
+first_counting config extent image zero index = index
+first_counting config extent image (suc left) index = if counts config extent image index then index else first_counting config extent image left (index + 1)
 
 -- the index of the word that is stored after another; behind the last one that of the image's end
 abbrev pub next_stored : Config → Extent → List ℕ → ℕ → ℕ
-next_stored config extent image k = first_counting config extent image (image_words config - (k + 1)) (k + 1)
+next_stored config extent image index = first_counting config extent image (image_words config - (index + 1)) (index + 1)
 
 -- a new image while it is stored, with the extent of its pause
 pub record Counting : Type 0 where

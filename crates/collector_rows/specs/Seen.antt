@@ -6,12 +6,12 @@ use Rattle.collector_rows.specs.HelperRows.{Helping}
 
 -- all but its configuration
 abbrev pub seen_helper : Helper → Helping
-seen_helper h = record { seat = h.seat; spot = h.spot; hints = h.hints }
+seen_helper helper = record { seat = helper.seat; spot = helper.spot; hints = helper.hints }
 
 -- the hint that it was given, if it was given one
 abbrev pub hint_of : Helper → Option ℕ
-hint_of h = h.hint
+hint_of helper = helper.hint
 
 -- the heap that it works on
 abbrev pub config_of : Helper → Config
-config_of h = h.config
+config_of helper = helper.config

@@ -28,38 +28,38 @@ use Rattle.control.specs.Fit.{CanCollectPart}
 use Rattle.control.proofs.Collecting.{can_hold, can_inside}
 
 roots_in_part : (config : Config) (memory part : Word → ℕ) → IsPartOf is_off_heap memory part → HasRootsInside config memory → HasRootsInside config part
-roots_in_part config memory part of inside = record {
-  roots = λ mutator index below few. subst (IsNullOrInside config) (of.same (Root mutator index) refl) (inside.roots mutator index below few);
-  pins = λ mutator slot below few. subst (IsNullOrInside config) (of.same (Pin mutator slot) refl) (inside.pins mutator slot below few);
-  answers = λ mutator below some. subst (IsNullOrInside config) (of.same (Answer mutator) refl) (inside.answers mutator below (subst (λ n. 1 < n) (sym (of.same (Answer mutator) refl)) some));
+roots_in_part config memory part is_part inside = record {
+  roots = λ mutator index mutator_below few. subst (IsNullOrInside config) (is_part.same (Root mutator index) refl) (inside.roots mutator index mutator_below few);
+  pins = λ mutator slot mutator_below few. subst (IsNullOrInside config) (is_part.same (Pin mutator slot) refl) (inside.pins mutator slot mutator_below few);
+  answers = λ mutator mutator_below some_answer. subst (IsNullOrInside config) (is_part.same (Answer mutator) refl) (inside.answers mutator mutator_below (subst (λ answer_word. 1 < answer_word) (sym (is_part.same (Answer mutator) refl)) some_answer));
 }
 
 buffers_in_part : (config : Config) (memory part : Word → ℕ) → ((seat : ℕ) → memory (Current seat) ≡ part (Current seat)) → AreInside config memory → AreInside config part
-buffers_in_part config memory part same inside = λ seat below some. subst (IsInside config) (same seat) (inside seat below (λ none. some (sym (same seat) ∙ none)))
+buffers_in_part config memory part same_current inside = λ seat seat_below some_buffer. subst (IsInside config) (same_current seat) (inside seat seat_below (λ no_buffer. some_buffer (sym (same_current seat) ∙ no_buffer)))
 
 part_can : (config : Config) (extent : Extent) (whole part : List ℕ) → IsImagePart config extent whole part → extent ≡ extent_by config (slice_index part 0) part → CanPauseSome config (image_view config whole)
     → CanCollectPart config extent (image_view config part)
-part_can config Whole whole part is_part extent_is can =
-    let of : IsPartOf (λ w. true) (image_view config whole) (image_view config part) = part_of config Whole (λ w. true) (λ w is image. refl) (λ w out. refl) whole part is_part in
-    subst (CanPauseSome config) (fun_ext (λ w. of.same w refl)) can
-part_can config OffHeap whole part is_part extent_is can =
-    let of : IsPartOf is_off_heap (image_view config whole) (image_view config part) = part_of config OffHeap is_off_heap (off_heap_at config) off_heap_others whole part is_part in
-    let other : extent_by config (slice_index part 0) part ≡ Whole → ⊥ = λ e. let both = extent_is ∙ e in cc in
+part_can config Whole whole part is_part extent_is can_pause =
+    let memory_part : IsPartOf (λ word. true) (image_view config whole) (image_view config part) = part_of config Whole (λ word. true) (λ word word_is image. refl) (λ word out. refl) whole part is_part in
+    subst (CanPauseSome config) (fun_ext (λ word. memory_part.same word refl)) can_pause
+part_can config OffHeap whole part is_part extent_is can_pause =
+    let memory_part : IsPartOf is_off_heap (image_view config whole) (image_view config part) = part_of config OffHeap is_off_heap (off_heap_at config) off_heap_others whole part is_part in
+    let not_whole : extent_by config (slice_index part 0) part ≡ Whole → ⊥ = λ whole_read. let same_extent = extent_is ∙ whole_read in cc in
     record {
-      calm = calm_part config part other;
-      idle = idle_by config part other (sym extent_is);
-      roots = roots_in_part config (image_view config whole) (image_view config part) of (held_inside_some config (image_view config whole) (can_hold config (image_view config whole) can));
-      buffers = buffers_in_part config (image_view config whole) (image_view config part) (λ seat. of.same (Current seat) refl) (can_inside config (image_view config whole) can);
+      calm = calm_part config part not_whole;
+      idle = idle_by config part not_whole (sym extent_is);
+      roots = roots_in_part config (image_view config whole) (image_view config part) memory_part (held_inside_some config (image_view config whole) (can_hold config (image_view config whole) can_pause));
+      buffers = buffers_in_part config (image_view config whole) (image_view config part) (λ seat. memory_part.same (Current seat) refl) (can_inside config (image_view config whole) can_pause);
     }
-part_can config Ahead whole part is_part extent_is can =
-    let of : IsPartOf is_ahead (image_view config whole) (image_view config part) = part_of config Ahead is_ahead (ahead_at config) ahead_others whole part is_part in
-    let other : extent_by config (slice_index part 0) part ≡ Whole → ⊥ = λ e. let both = extent_is ∙ e in cc in
-    let late = late_by config part other (sym extent_is) in
+part_can config Ahead whole part is_part extent_is can_pause =
+    let memory_part : IsPartOf is_ahead (image_view config whole) (image_view config part) = part_of config Ahead is_ahead (ahead_at config) ahead_others whole part is_part in
+    let not_whole : extent_by config (slice_index part 0) part ≡ Whole → ⊥ = λ whole_read. let same_extent = extent_is ∙ whole_read in cc in
+    let late = late_by config part not_whole (sym extent_is) in
     record {
-      calm = calm_part config part other;
+      calm = calm_part config part not_whole;
       runs = late.0;
       unmarked = late.1;
-      buffers = buffers_in_part config (image_view config whole) (image_view config part) (λ seat. of.same (Current seat) refl) (can_inside config (image_view config whole) can);
+      buffers = buffers_in_part config (image_view config whole) (image_view config part) (λ seat. memory_part.same (Current seat) refl) (can_inside config (image_view config whole) can_pause);
     }
 
 -- so it is of an image that stands for a graph

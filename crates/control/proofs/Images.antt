@@ -24,12 +24,12 @@ pub length-image_in : (image : Image) → length (image_in image) ≡ image_word
 length-image_in image = omega (arith, length-drop (image_start (config_of image)) (words_of image), image.all_words)
 
 -- a list behind so many numbers that are 0
-pub drop-zeros : (n : ℕ) (xs : List ℕ) → drop n (replicate n 0 ++ xs) ≡ xs
-drop-zeros n xs = ap (λ k. drop k (replicate n 0 ++ xs)) (sym (length-replicate n 0)) ∙ drop-append_seam (replicate n 0) xs
+pub drop-zeros : (count : ℕ) (xs : List ℕ) → drop count (replicate count 0 ++ xs) ≡ xs
+drop-zeros count xs = ap (λ dropped_count. drop dropped_count (replicate count 0 ++ xs)) (sym (length-replicate count 0)) ∙ drop-append_seam (replicate count 0) xs
 
-pub get_or-zeros : (n : ℕ) (xs : List ℕ) (index : ℕ) → index < n → get_or (replicate n 0 ++ xs) index 0 ≡ 0
-get_or-zeros n xs index below =
-    get_or-append (replicate n 0) xs 0 index (omega (arith, below, length-replicate {A = ℕ} n 0)) ∙ get_or-replicate n index 0 0 below
+pub get_or-zeros : (count : ℕ) (xs : List ℕ) (index : ℕ) → index < count → get_or (replicate count 0 ++ xs) index 0 ≡ 0
+get_or-zeros count xs index index_below =
+    get_or-append (replicate count 0) xs 0 index (omega (arith, index_below, length-replicate {A = ℕ} count 0)) ∙ get_or-replicate count index 0 0 index_below
 
 -- What a pause makes of the words it makes of the image, and the words before that stay 0.
 module _ (old new : Image) (clear : IsClear old) (config : config_of new ≡ config_of old) (words : memory_of new ≡ collected (config_of old) (memory_of old)) where
@@ -39,24 +39,24 @@ module _ (old new : Image) (clear : IsClear old) (config : config_of new ≡ con
   -- all words after a pause
   words-collected : words_of new ≡ replicate (image_start c) 0 ++ collect_image c (image_in old)
   words-collected = collected_table c (image_in old) (words_of new) (new.all_words ∙ ap table_words config)
-      (λ w is. ap (λ (memory : Word → ℕ). memory w) (ap (λ d. view d (words_of new)) (sym config) ∙ words ∙ ap (collected c) (memory-image_in old clear)))
+      (λ word given_word. ap (λ (memory : Word → ℕ). memory word) (ap (λ asked_config. view asked_config (words_of new)) (sym config) ∙ words ∙ ap (collected c) (memory-image_in old clear)))
 
   -- the image is the collected one
   pub image-collected : image_in new ≡ collect_image c (image_in old)
   image-collected =
-      ap (λ d. drop (image_start d) (words_of new)) config ∙ ap (drop (image_start c)) words-collected ∙ drop-zeros (image_start c) (collect_image c (image_in old))
+      ap (λ asked_config. drop (image_start asked_config) (words_of new)) config ∙ ap (drop (image_start c)) words-collected ∙ drop-zeros (image_start c) (collect_image c (image_in old))
 
   -- with 0 before it again
   pub clear-collected : IsClear new
-  clear-collected at below =
-      ap (λ some. get_or some at 0) words-collected ∙ get_or-zeros (image_start c) (collect_image c (image_in old)) at (subst (λ d. at < image_start d) config below)
+  clear-collected index index_below =
+      ap (λ word_list. get_or word_list index 0) words-collected ∙ get_or-zeros (image_start c) (collect_image c (image_in old)) index (subst (λ asked_config. index < image_start asked_config) config index_below)
 
 -- an image into which all words of a table were put
 pub image-loaded : (config : Config) (image : Image) (table : List ℕ) → config_of image ≡ config → length table ≡ table_words config
     → ((index : ℕ) → index < image_words config → get_or (image_in image) index 0 ≡ get_or table (image_start config + index) 0) → image_in image ≡ image_from config table
-image-loaded c image table config long same =
-    let all : length (image_in image) ≡ image_words c = length-image_in image ∙ ap image_words config in
-    let rest : length (image_from c table) ≡ image_words c = omega (arith, length-drop (image_start c) table, long) in
-    same_number_lists (image_in image) (image_from c table) (all ∙ sym rest) (λ index below.
-    let inside : index < image_words c = omega (arith, below, all) in
-    same index inside ∙ sym (get_or-drop (image_start c) table index 0))
+image-loaded given_config image table config table_long same_words =
+    let image_length : length (image_in image) ≡ image_words given_config = length-image_in image ∙ ap image_words config in
+    let rest : length (image_from given_config table) ≡ image_words given_config = omega (arith, length-drop (image_start given_config) table, table_long) in
+    same_number_lists (image_in image) (image_from given_config table) (image_length ∙ sym rest) (λ index index_below.
+    let inside : index < image_words given_config = omega (arith, index_below, image_length) in
+    same_words index inside ∙ sym (get_or-drop (image_start given_config) table index 0))

@@ -25,88 +25,88 @@ module _ (config : Config) (extent : Extent) (starts image : List ℕ) (index : 
     pub above : index < next
     pub most : next ≤ next_loaded config extent index
     pub here : next < image_words config → counts config extent made next ≡ true
-    pub passed : (k : ℕ) → has (take number starts) k ≡ true → index < k → k < next → slice_index image k ≡ 0
+    pub passed : (passed_index : ℕ) → has (take number starts) passed_index ≡ true → index < passed_index → passed_index < next → slice_index image passed_index ≡ 0
 
   pub least_first : index < image_words config → IsLeast 0 (next_loaded config extent index)
-  least_first less =
-      let is = next_is config extent index less in
+  least_first index_below =
+      let next_facts = next_is config extent index index_below in
       record {
-        above = is.above;
+        above = next_facts.above;
         most = omega arith;
-        here = λ there. or_left (is_of_extent config extent (next_loaded config extent index)) (not (slice_index made (next_loaded config extent index) == 0)) (is.here there);
-        passed = λ k among more below. absurd (false≢true among);
+        here = λ in_extent. or_left (is_of_extent config extent (next_loaded config extent index)) (not (slice_index made (next_loaded config extent index) == 0)) (next_facts.here in_extent);
+        passed = λ other_index among index_passed below_next. absurd (false≢true among);
       }
 
-  module _ (number next : ℕ) (some : number < length starts) (least : IsLeast number next) where
+  module _ (number next_index : ℕ) (number_below : number < length starts) (next_least : IsLeast number next_index) where
     abbrev start : ℕ
     start = slice_index starts number
 
     -- an index looked at was looked at before, or is this one
-    looked : (k : ℕ) → has (take (number + 1) starts) k ≡ true → (has (take number starts) k ≡ true) ⊎ (k ≡ start)
-    looked k among = ⊎_elim
-        (λ (before : has (take number starts) k ≡ true). inl before)
-        (λ (same : nat_eq k start ≡ true). inr (eqb-true k start same))
-        (or_cases (has (take number starts) k) (nat_eq k start) (sym (has_more starts number k some) ∙ among))
+    looked : (other_index : ℕ) → has (take (number + 1) starts) other_index ≡ true → (has (take number starts) other_index ≡ true) ⊎ (other_index ≡ start)
+    looked other_index among = ⊎_elim
+        (λ (before : has (take number starts) other_index ≡ true). inl before)
+        (λ (same_start : nat_eq other_index start ≡ true). inr (eqb-true other_index start same_start))
+        (or_cases (has (take number starts) other_index) (nat_eq other_index start) (sym (has_more starts number other_index number_below) ∙ among))
 
-    kept : (index < start → start < next → slice_index image start ≡ 0) → IsLeast (number + 1) next
-    kept none = record {
-      above = least.above;
-      most = least.most;
-      here = least.here;
-      passed = λ k among more below. ⊎_elim
-          (λ (before : has (take number starts) k ≡ true). least.passed k before more below)
-          (λ (same : k ≡ start). ap (slice_index image) same ∙ none (omega (arith, more, same)) (omega (arith, below, same)))
-          (looked k among);
+    kept : (index < start → start < next_index → slice_index image start ≡ 0) → IsLeast (number + 1) next_index
+    kept nothing_between = record {
+      above = next_least.above;
+      most = next_least.most;
+      here = next_least.here;
+      passed = λ other_index among index_passed below_next. ⊎_elim
+          (λ (before : has (take number starts) other_index ≡ true). next_least.passed other_index before index_passed below_next)
+          (λ (is_start : other_index ≡ start). ap (slice_index image) is_start ∙ nothing_between (omega (arith, index_passed, is_start)) (omega (arith, below_next, is_start)))
+          (looked other_index among);
     }
 
-    taken : index < start → start < next → slice_index image start ≢ 0 → IsLeast (number + 1) start
-    taken behind ahead counted =
-        let seen : is_seen config extent starts start ≡ true = or_right (is_of_extent config extent start) (has starts start) (list_any_at (nat_eq start) starts number 0 some (eq-eqb start start refl)) in
-        let differs : (slice_index made start == 0) ≡ false = ne_eqb (slice_index made start) 0 (λ none. counted (sym (seen_reads config extent starts image start seen) ∙ none)) in
+    taken : index < start → start < next_index → slice_index image start ≢ 0 → IsLeast (number + 1) start
+    taken start_behind ahead counted =
+        let start_seen : is_seen config extent starts start ≡ true = or_right (is_of_extent config extent start) (has starts start) (list_any_at (nat_eq start) starts number 0 number_below (eq-eqb start start refl)) in
+        let differs : (slice_index made start == 0) ≡ false = ne_eqb (slice_index made start) 0 (λ no_word. counted (sym (seen_reads config extent starts image start start_seen) ∙ no_word)) in
         record {
-          above = behind;
-          most = (let most = least.most in omega (arith, most, ahead));
-          here = λ there. or_right (is_of_extent config extent start) (not (slice_index made start == 0)) (not_from_false (slice_index made start == 0) differs);
-          passed = λ k among more below. ⊎_elim
-              (λ (before : has (take number starts) k ≡ true). least.passed k before more (omega (arith, below, ahead)))
-              (λ (same : k ≡ start). absurd (omega (arith, below, same)))
-              (looked k among);
+          above = start_behind;
+          most = (let next_low = next_least.most in omega (arith, next_low, ahead));
+          here = λ in_extent. or_right (is_of_extent config extent start) (not (slice_index made start == 0)) (not_from_false (slice_index made start == 0) differs);
+          passed = λ other_index among index_passed below_next. ⊎_elim
+              (λ (before : has (take number starts) other_index ≡ true). next_least.passed other_index before index_passed (omega (arith, below_next, ahead)))
+              (λ (is_start : other_index ≡ start). absurd (omega (arith, below_next, is_start)))
+              (looked other_index among);
         }
 
     -- one more is looked at
-    pub least_more : (then_next : ℕ) → (index < start → start < next → slice_index image start ≢ 0 → then_next ≡ start) → ((index < start → start < next → slice_index image start ≡ 0) → then_next ≡ next)
+    pub least_more : (then_next : ℕ) → (index < start → start < next_index → slice_index image start ≢ 0 → then_next ≡ start) → ((index < start → start < next_index → slice_index image start ≡ 0) → then_next ≡ next_index)
         → IsLeast (number + 1) then_next
     least_more then_next takes keeps = ⊎_elim
-        (λ (behind : index < start). ⊎_elim
-        (λ (ahead : start < next). ⊎_elim
-        (λ (none : slice_index image start ≡ 0). stays (λ more below. none))
-        (λ (counted : slice_index image start ≢ 0). subst (IsLeast (number + 1)) (sym (takes behind ahead counted)) (taken behind ahead counted))
+        (λ (start_behind : index < start). ⊎_elim
+        (λ (ahead : start < next_index). ⊎_elim
+        (λ (no_word : slice_index image start ≡ 0). stays (λ index_passed below_next. no_word))
+        (λ (counted : slice_index image start ≢ 0). subst (IsLeast (number + 1)) (sym (takes start_behind ahead counted)) (taken start_behind ahead counted))
         (cases_eq (slice_index image start) 0))
-        (λ (past : next ≤ start). stays (λ more below. absurd (omega (arith, past, below))))
-        (cases_lt start next))
-        (λ (before : start ≤ index). stays (λ more below. absurd (omega (arith, before, more))))
+        (λ (past_next : next_index ≤ start). stays (λ index_passed below_next. absurd (omega (arith, past_next, below_next))))
+        (cases_lt start next_index))
+        (λ (before : start ≤ index). stays (λ index_passed below_next. absurd (omega (arith, before, index_passed))))
         (cases_lt index start)
       where
-        stays : (index < start → start < next → slice_index image start ≡ 0) → IsLeast (number + 1) then_next
-        stays none = subst (IsLeast (number + 1)) (sym (keeps none)) (kept none)
+        stays : (index < start → start < next_index → slice_index image start ≡ 0) → IsLeast (number + 1) then_next
+        stays nothing_between = subst (IsLeast (number + 1)) (sym (keeps nothing_between)) (kept nothing_between)
 
   -- so it is the one that is stored next, once all were looked at
-  pub least_is_next : (number next : ℕ) → length starts ≤ number → index < image_words config → IsLeast number next → next ≡ next_stored config extent made index
-  least_is_next number next all less least =
-      let first = next_is config extent index less in
-      stored_next_one config extent made index next (next_stored config extent made index)
+  pub least_is_next : (number next_index : ℕ) → length starts ≤ number → index < image_words config → IsLeast number next_index → next_index ≡ next_stored config extent made index
+  least_is_next number next_index all_looked index_below next_least =
+      let next_facts = next_is config extent index index_below in
+      stored_next_one config extent made index next_index (next_stored config extent made index)
       (record {
-        above = least.above;
-        most = (let most = least.most in let to = first.most in omega (arith, most, to));
-        between = λ k more below.
-            let out : is_of_extent config extent k ≡ false = first.between k more (let most = least.most in omega (arith, most, below)) in
-            or_from (is_of_extent config extent k) (not (slice_index made k == 0)) out (not_from_true (slice_index made k == 0) (eq-eqb (slice_index made k) 0 (made_reads config extent starts image k ∙ unseen k more below out)));
-        here = least.here;
+        above = next_least.above;
+        most = (let next_low = next_least.most in let loaded_low = next_facts.most in omega (arith, next_low, loaded_low));
+        between = λ asked_index behind_index before_next.
+            let outside_extent : is_of_extent config extent asked_index ≡ false = next_facts.between asked_index behind_index (let next_low = next_least.most in omega (arith, next_low, before_next)) in
+            or_from (is_of_extent config extent asked_index) (not (slice_index made asked_index == 0)) outside_extent (not_from_true (slice_index made asked_index == 0) (eq-eqb (slice_index made asked_index) 0 (made_reads config extent starts image asked_index ∙ unseen asked_index behind_index before_next outside_extent)));
+        here = next_least.here;
       })
-      (stored_next_is config extent made index less)
+      (stored_next_is config extent made index index_below)
     where
-      unseen : (k : ℕ) → index < k → k < next → is_of_extent config extent k ≡ false → (if is_seen config extent starts k then slice_index image k else 0) ≡ 0
-      unseen k more below out = ⊎_elim
-          (λ (among : has starts k ≡ true). either_zero (is_seen config extent starts k) (slice_index image k) (least.passed k (ap (λ ys. has ys k) (take_all number starts all) ∙ among) more below))
-          (λ (none : has starts k ≡ false). cond-false (is_seen config extent starts k) (slice_index image k) 0 (or_from (is_of_extent config extent k) (has starts k) out none))
-          (cases_Bool (has starts k))
+      unseen : (other_index : ℕ) → index < other_index → other_index < next_index → is_of_extent config extent other_index ≡ false → (if is_seen config extent starts other_index then slice_index image other_index else 0) ≡ 0
+      unseen other_index index_passed below_next out_of_extent = ⊎_elim
+          (λ (among : has starts other_index ≡ true). either_zero (is_seen config extent starts other_index) (slice_index image other_index) (next_least.passed other_index (ap (λ ys. has ys other_index) (take_all number starts all_looked) ∙ among) index_passed below_next))
+          (λ (not_start : has starts other_index ≡ false). cond-false (is_seen config extent starts other_index) (slice_index image other_index) 0 (or_from (is_of_extent config extent other_index) (has starts other_index) out_of_extent not_start))
+          (cases_Bool (has starts other_index))

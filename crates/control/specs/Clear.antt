@@ -6,4 +6,4 @@ use Rattle.image_graph.specs.State.{config_of, words_of}
 
 -- the words before the image are 0
 abbrev pub IsClear : Image → Type 0
-IsClear image = (at : ℕ) → at < image_start (config_of image) → slice_index (words_of image) at ≡ 0
+IsClear image = (index : ℕ) → index < image_start (config_of image) → slice_index (words_of image) index ≡ 0

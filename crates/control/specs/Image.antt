@@ -28,7 +28,7 @@ part_in config extent image = shown_by (is_of_extent config extent) image
 
 -- a word of the new image is seen: it is of the extent, or the free words of a buffer began there
 abbrev pub is_seen : Config → Extent → (starts : List ℕ) → ℕ → Bool
-is_seen config extent starts k = is_of_extent config extent k || has starts k
+is_seen config extent starts index = is_of_extent config extent index || has starts index
 
 -- the words of the new image
 abbrev pub image_shown : Config → Extent → (starts image : List ℕ) → List ℕ

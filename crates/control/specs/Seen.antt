@@ -10,24 +10,24 @@ use Rattle.control.specs.declared.machine.Control.{Control}
 
 -- whose control it is
 abbrev pub config_in : Control → Config
-config_in k = config_of k.image
+config_in control = config_of control.image
 
 -- what it is
 abbrev pub seen_control : Control → Controlling
-seen_control k = record { spot = k.spot; seen = k.last.seen; phase = k.last.phase; cset = k.last.cset; image = words_seen (config_of k.image) k.spot k.starts (image_in k.image); hints = k.hints }
+seen_control control = record { spot = control.spot; seen = control.last.seen; phase = control.last.phase; cset = control.last.cset; image = words_seen (config_of control.image) control.spot control.starts (image_in control.image); hints = control.hints }
 
 -- the hint that it was given, if it was given one
 abbrev pub hint_of : Control → Option ℕ
-hint_of k = k.hint
+hint_of control = control.hint
 
 -- it, as it goes on with that hint
 abbrev pub past_hint : Control → Controlling
-past_hint k = control_hinted (config_in k) (hint_of k) (seen_control k)
+past_hint control = control_hinted (config_in control) (hint_of control) (seen_control control)
 
 -- its next access
 abbrev pub access_of : Control → Access
-access_of k = control_access (config_in k) (past_hint k)
+access_of control = control_access (config_in control) (past_hint control)
 
 -- the word that this finds in a table
 abbrev pub word_found : Control → List ℕ → ℕ
-word_found k words = slice_index words (table_index (access_of k))
+word_found control words = slice_index words (table_index (access_of control))

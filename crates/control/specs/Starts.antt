@@ -17,7 +17,7 @@ pub record AreStarts (config : Config) (memory : Word → ℕ) (starts : List �
 
 -- an index is one of a word of the heap
 abbrev pub IsHeapIndex : Config → ℕ → Type 0
-IsHeapIndex config k = (heap_index config ≤ k) × (k < heap_index config + heap_size config)
+IsHeapIndex config index = (heap_index config ≤ index) × (index < heap_index config + heap_size config)
 
 -- each of them is
 abbrev pub AreHeapIndices : Config → List ℕ → Type 0

@@ -42,62 +42,62 @@ abbrev pub Handled : Slot 0
 Handled = plain (λ _. handle.the_row)
 
 abbrev pub triple : Val → Val → Val → Val
-triple p t h = vstruct (vcons p (vcons t (vcons h vnil)))
+triple pointer flag heap_value = vstruct (vcons pointer (vcons flag (vcons heap_value vnil)))
 
-pub ptr_typed : (p : Ptr) → T (has_ty ty_ptr (ptr_val p)) × WT (ptr_val p)
-ptr_typed (block_ptr b o) = (tt, tt)
+pub ptr_typed : (pointer : Ptr) → T (has_ty ty_ptr (ptr_val pointer)) × WT (ptr_val pointer)
+ptr_typed (block_ptr block offset) = (tt, tt)
 ptr_typed null_ptr = (tt, record { fits = lit< tt })
 
-pub triple_typed : (p : Ptr) (holds : Bool) (h : Val) → Fits seat_box.al h → T (has_ty ty_ptr (ptr_val p) && (has_ty (α seat_box.al) h && true)) × WT (triple (ptr_val p) (vbool holds) h)
-triple_typed (block_ptr b o) holds h fits = (and_tt (has_ty (α seat_box.al) h) fits.0, (tt, (tt, (fits.1, tt))))
-triple_typed null_ptr holds h fits = (and_tt (has_ty (α seat_box.al) h) fits.0, (record { fits = lit< tt }, (tt, (fits.1, tt))))
+pub triple_typed : (pointer : Ptr) (holds : Bool) (heap_value : Val) → Fits seat_box.al heap_value → T (has_ty ty_ptr (ptr_val pointer) && (has_ty (α seat_box.al) heap_value && true)) × WT (triple (ptr_val pointer) (vbool holds) heap_value)
+triple_typed (block_ptr block offset) holds heap_value fits = (and_tt (has_ty (α seat_box.al) heap_value) fits.0, (tt, (tt, (fits.1, tt))))
+triple_typed null_ptr holds heap_value fits = (and_tt (has_ty (α seat_box.al) heap_value) fits.0, (record { fits = lit< tt }, (tt, (fits.1, tt))))
 
 -- the parts of a seat's box
 abbrev pub pair : Val → Val → Val
-pair p h = vstruct (vcons p (vcons h vnil))
+pair pointer heap_value = vstruct (vcons pointer (vcons heap_value vnil))
 
 abbrev pub SeatParts : RattleType
 SeatParts = parts.the_row seat.the_row heap.the_row ghosts
 
-pub pair_typed : (p : Ptr) (h : Val) → Fits seat_box.al h → T (has_ty ty_ptr (ptr_val p) && (has_ty (α seat_box.al) h && true)) × WT (pair (ptr_val p) h)
-pair_typed (block_ptr b o) h fits = (and_tt (has_ty (α seat_box.al) h) fits.0, (tt, (fits.1, tt)))
-pair_typed null_ptr h fits = (and_tt (has_ty (α seat_box.al) h) fits.0, (record { fits = lit< tt }, (fits.1, tt)))
+pub pair_typed : (pointer : Ptr) (heap_value : Val) → Fits seat_box.al heap_value → T (has_ty ty_ptr (ptr_val pointer) && (has_ty (α seat_box.al) heap_value && true)) × WT (pair (ptr_val pointer) heap_value)
+pair_typed (block_ptr block offset) heap_value fits = (and_tt (has_ty (α seat_box.al) heap_value) fits.0, (tt, (fits.1, tt)))
+pair_typed null_ptr heap_value fits = (and_tt (has_ty (α seat_box.al) heap_value) fits.0, (record { fits = lit< tt }, (fits.1, tt)))
 
 -- what an open handle holds
-pub held_is : {X : Type 0} (found : Option X) (holds : Bool) → holds ≡ is_some found → T holds → (x : X) × (found ≡ Some x)
-held_is None false told is = absurd is
-held_is None true told is = absurd cc
-held_is (Some x) holds told is = (x, refl)
+pub held_is : {X : Type 0} (found : Option X) (holds : Bool) → holds ≡ is_some found → T holds → (value : X) × (found ≡ Some value)
+held_is None false told_by holds_so = absurd holds_so
+held_is None true told_by holds_so = absurd cc
+held_is (Some value) holds told_by holds_so = (value, refl)
 
 -- what an empty one does
 pub none_is : {X : Type 0} (found : Option X) (holds : Bool) → holds ≡ is_some found → T (not holds) → found ≡ None
-none_is None holds told empty = refl
-none_is (Some x) true told empty = absurd empty
-none_is (Some x) false told empty = absurd cc
+none_is None holds told_by empty = refl
+none_is (Some value) true told_by empty = absurd empty
+none_is (Some value) false told_by empty = absurd cc
 
 module _ {M : Type 1} {𝓤 : Ura M} {𝓛 : Logic 𝓤} {K : Type 0} {Γ : List (Item 𝓤)} {G : Goal 𝓤 𝓛.H} where
   -- a handle by value
-  pub handle_out : K → (d : handle.the_row.Denot) (vs : List Val)
-      → ((h : Val) → vs ≡ triple (ptr_val d.at) (vbool d.is_open) h ∷ [] → Fits seat_box.al h → Seq K 𝓛 (‵ (held_owns d.at d.alloc d.held) ∷ ‵ (heap.the_row.own_val d.alloc (h ∷ [])) ∷ Γ) G)
-      → Seq K 𝓛 (‵ (handle.the_row.own_val d vs) ∷ Γ) G
-  handle_out t d vs k =
-      fsplit t $ fpick t (λ vss. fsplit t $ feq_l t (λ ev. fsplit t $ feq_l t (λ ep. fsplit t $ feq_l t (λ eb. fsplit t $ handle_tells seat_box.al t d.alloc vss.1.1.0 (λ h ea fits. move t (1 ∷ []) $ drop t $ move t (1 ∷ []) $
-      k h
-      (subst (λ (ws : List Val). vs ≡ vstruct (of_list (ptr_val d.at ∷ vbool d.is_open ∷ (ws ++ []))) ∷ []) ea
-      (subst (λ (bs : List Val). vs ≡ vstruct (of_list (ptr_val d.at ∷ (bs ++ (vss.1.1.0 ++ [])))) ∷ []) eb
-      (subst (λ (ps : List Val). vs ≡ vstruct (of_list (ps ++ (vss.1.0 ++ (vss.1.1.0 ++ [])))) ∷ []) ep ev))) fits)))))
+  pub handle_out : K → (handle_shown : handle.the_row.Denot) (values : List Val)
+      → ((heap_value : Val) → values ≡ triple (ptr_val handle_shown.at) (vbool handle_shown.is_open) heap_value ∷ [] → Fits seat_box.al heap_value → Seq K 𝓛 (‵ (held_owns handle_shown.at handle_shown.alloc handle_shown.held) ∷ ‵ (heap.the_row.own_val handle_shown.alloc (heap_value ∷ [])) ∷ Γ) G)
+      → Seq K 𝓛 (‵ (handle.the_row.own_val handle_shown values) ∷ Γ) G
+  handle_out t handle_shown values go_on =
+      fsplit t $ fpick t (λ vss. fsplit t $ feq_l t (λ values_equal. fsplit t $ feq_l t (λ pointer_equal. fsplit t $ feq_l t (λ flag_equal. fsplit t $ handle_tells seat_box.al t handle_shown.alloc vss.1.1.0 (λ heap_value heap_equal fits. move t (1 ∷ []) $ drop t $ move t (1 ∷ []) $
+      go_on heap_value
+      (subst (λ (heap_values : List Val). values ≡ vstruct (of_list (ptr_val handle_shown.at ∷ vbool handle_shown.is_open ∷ (heap_values ++ []))) ∷ []) heap_equal
+      (subst (λ (flag_values : List Val). values ≡ vstruct (of_list (ptr_val handle_shown.at ∷ (flag_values ++ (vss.1.1.0 ++ [])))) ∷ []) flag_equal
+      (subst (λ (pointer_values : List Val). values ≡ vstruct (of_list (pointer_values ++ (vss.1.0 ++ (vss.1.1.0 ++ [])))) ∷ []) pointer_equal values_equal))) fits)))))
 
   -- and put together
-  pub handle_in : K → (d : handle.the_row.Denot) (h : Val)
-      → Step K 𝓛 (‵ (handle.the_row.own_val d (triple (ptr_val d.at) (vbool d.is_open) h ∷ [])) ∷ Γ) G (‵ (held_owns d.at d.alloc d.held) ∷ ‵ (heap.the_row.own_val d.alloc (h ∷ [])) ∷ Γ) G
-  handle_in t d h = step (λ s. let v : Val = triple (ptr_val d.at) (vbool d.is_open) h in
-      nothing t $ move t (2 ∷ 0 ∷ []) $ fjoin t $ feq_i t (List Val) (vbool d.is_open ∷ []) (vbool d.is_open ∷ []) refl $ fjoin t $ feq_i t (List Val) (ptr_val d.at ∷ []) (ptr_val d.at ∷ []) refl $ fjoin t $
-      feq_i t (List Val) (v ∷ []) (v ∷ []) refl $ fjoin t $
-      fpack t (Valss (RawPtr ∷ bool ∷ heap.the_row ∷ [])) (within (shape handle.the_type) (to handle.the_type d) (v ∷ [])) (ptr_val d.at ∷ [], (vbool d.is_open ∷ [], (h ∷ [], tt))) $ fjoin t $ s)
+  pub handle_in : K → (handle_shown : handle.the_row.Denot) (heap_value : Val)
+      → Step K 𝓛 (‵ (handle.the_row.own_val handle_shown (triple (ptr_val handle_shown.at) (vbool handle_shown.is_open) heap_value ∷ [])) ∷ Γ) G (‵ (held_owns handle_shown.at handle_shown.alloc handle_shown.held) ∷ ‵ (heap.the_row.own_val handle_shown.alloc (heap_value ∷ [])) ∷ Γ) G
+  handle_in t handle_shown heap_value = step (λ go_on. let whole_value : Val = triple (ptr_val handle_shown.at) (vbool handle_shown.is_open) heap_value in
+      nothing t $ move t (2 ∷ 0 ∷ []) $ fjoin t $ feq_i t (List Val) (vbool handle_shown.is_open ∷ []) (vbool handle_shown.is_open ∷ []) refl $ fjoin t $ feq_i t (List Val) (ptr_val handle_shown.at ∷ []) (ptr_val handle_shown.at ∷ []) refl $ fjoin t $
+      feq_i t (List Val) (whole_value ∷ []) (whole_value ∷ []) refl $ fjoin t $
+      fpack t (Valss (RawPtr ∷ bool ∷ heap.the_row ∷ [])) (within (shape handle.the_type) (to handle.the_type handle_shown) (whole_value ∷ [])) (ptr_val handle_shown.at ∷ [], (vbool handle_shown.is_open ∷ [], (heap_value ∷ [], tt))) $ fjoin t $ go_on)
 
   -- the parts of a box
-  pub parts_in : K → (d : SeatParts.Denot) (h : Val)
-      → Step K 𝓛 (‵ (SeatParts.own_val d (pair (ptr_val d.address) h ∷ [])) ∷ Γ) G (‵ (box_owns (ghosts.dealloc_token d.allocator) seat.the_row d.address d.inside) ∷ ‵ (heap.the_row.own_val d.allocator (h ∷ [])) ∷ Γ) G
-  parts_in t d h = step (λ s. let v : Val = pair (ptr_val d.address) h in
-      nothing t $ move t (2 ∷ 0 ∷ []) $ fjoin t $ feq_i t (List Val) (ptr_val d.address ∷ []) (ptr_val d.address ∷ []) refl $ fjoin t $ feq_i t (List Val) (v ∷ []) (v ∷ []) refl $ fjoin t $
-      fpack t (Valss (RawPtr ∷ heap.the_row ∷ [])) (within (shape (parts.the_type seat.the_row heap.the_row ghosts)) (to (parts.the_type seat.the_row heap.the_row ghosts) d) (v ∷ [])) (ptr_val d.address ∷ [], (h ∷ [], tt)) $ fjoin t $ s)
+  pub parts_in : K → (parts_shown : SeatParts.Denot) (heap_value : Val)
+      → Step K 𝓛 (‵ (SeatParts.own_val parts_shown (pair (ptr_val parts_shown.address) heap_value ∷ [])) ∷ Γ) G (‵ (box_owns (ghosts.dealloc_token parts_shown.allocator) seat.the_row parts_shown.address parts_shown.inside) ∷ ‵ (heap.the_row.own_val parts_shown.allocator (heap_value ∷ [])) ∷ Γ) G
+  parts_in t parts_shown heap_value = step (λ go_on. let whole_value : Val = pair (ptr_val parts_shown.address) heap_value in
+      nothing t $ move t (2 ∷ 0 ∷ []) $ fjoin t $ feq_i t (List Val) (ptr_val parts_shown.address ∷ []) (ptr_val parts_shown.address ∷ []) refl $ fjoin t $ feq_i t (List Val) (whole_value ∷ []) (whole_value ∷ []) refl $ fjoin t $
+      fpack t (Valss (RawPtr ∷ heap.the_row ∷ [])) (within (shape (parts.the_type seat.the_row heap.the_row ghosts)) (to (parts.the_type seat.the_row heap.the_row ghosts) parts_shown) (whole_value ∷ [])) (ptr_val parts_shown.address ∷ [], (heap_value ∷ [], tt)) $ fjoin t $ go_on)

@@ -15,26 +15,26 @@ use Rattle.covremuj.specs.StatusNumbers.{number_of_order, number_of_refused}
 use Rattle.covremuj.specs.Border.{TakesOrder, no_command, BeginsBy, EndsBy}
 
 -- what a seat answers to an order
-takes : (seat new : Seat) (order : Order) (r : Result (Unit {0}) Refused) (answer : ℕ) → OnErr r (new ≡ seat) → OnOk r (HasOrder seat new order) → answer ≡ number_of_order (result_err r) → TakesOrder seat (Some new) order (result_err r) answer
-takes seat new order (Ok u) answer same ordered is = (new, refl, ordered, is)
-takes seat new order (Err why) answer same ordered is = (ap (λ (seat : Seat). Some seat) same, is)
+takes : (seat new : Seat) (order : Order) (result : Result (Unit {0}) Refused) (answer : ℕ) → OnErr result (new ≡ seat) → OnOk result (HasOrder seat new order) → answer ≡ number_of_order (result_err result) → TakesOrder seat (Some new) order (result_err result) answer
+takes seat new order (Ok unit) answer same_if_refused ordered answer_is = (new, refl, ordered, answer_is)
+takes seat new order (Err refusal) answer same_if_refused ordered answer_is = (ap (λ (seat : Seat). Some seat) same_if_refused, answer_is)
 
-pub begins_refused : (seat : Seat) (command : Option Command) (why : Refused) → is_mutator seat ≡ true → Some why ≡ refused_in (state_in seat) → BeginsBy (is_mutator seat) seat (Some seat) command (number_of_refused why)
-begins_refused seat command why role is = subst (λ (holds : Bool). BeginsBy holds seat (Some seat) command (number_of_refused why)) (sym role) (by_command command)
+pub begins_refused : (seat : Seat) (command : Option Command) (refusal : Refused) → is_mutator seat ≡ true → Some refusal ≡ refused_in (state_in seat) → BeginsBy (is_mutator seat) seat (Some seat) command (number_of_refused refusal)
+begins_refused seat command refusal role refused_why = subst (λ (holds : Bool). BeginsBy holds seat (Some seat) command (number_of_refused refusal)) (sym role) (by_command command)
   where
-    by_command : (o : Option Command) → BeginsBy true seat (Some seat) o (number_of_refused why)
-    by_command None = (refl, ap no_command is)
-    by_command (Some k) =
-        subst (λ (found : Option Refused). TakesOrder seat (Some seat) (Begin k) found (number_of_refused why)) (refused_first (is_valid k) (objects_made_by seat) (state_in seat) why is) (refl, refl)
+    by_command : (asked_command : Option Command) → BeginsBy true seat (Some seat) asked_command (number_of_refused refusal)
+    by_command None = (refl, ap no_command refused_why)
+    by_command (Some given_command) =
+        subst (λ (found : Option Refused). TakesOrder seat (Some seat) (Begin given_command) found (number_of_refused refusal)) (refused_first (is_valid given_command) (objects_made_by seat) (state_in seat) refusal refused_why) (refl, refl)
 
-pub begins_command : (seat new : Seat) (command : Command) (r : Result (Unit {0}) Refused) (answer : ℕ) → is_mutator seat ≡ true → result_err r ≡ refused_command (is_valid command) (objects_made_by seat) (state_in seat) → OnErr r (new ≡ seat) → OnOk r (HasOrder seat new (Begin command))
-    → answer ≡ number_of_order (result_err r) → BeginsBy (is_mutator seat) seat (Some new) (Some command) answer
-begins_command seat new command r answer role refused same ordered is =
+pub begins_command : (seat new : Seat) (command : Command) (result : Result (Unit {0}) Refused) (answer : ℕ) → is_mutator seat ≡ true → result_err result ≡ refused_command (is_valid command) (objects_made_by seat) (state_in seat) → OnErr result (new ≡ seat) → OnOk result (HasOrder seat new (Begin command))
+    → answer ≡ number_of_order (result_err result) → BeginsBy (is_mutator seat) seat (Some new) (Some command) answer
+begins_command seat new command result answer role refused same_if_refused ordered answer_is =
     subst (λ (holds : Bool). BeginsBy holds seat (Some new) (Some command) answer) (sym role)
-    (subst (λ (found : Option Refused). TakesOrder seat (Some new) (Begin command) found answer) refused (takes seat new (Begin command) r answer same ordered is))
+    (subst (λ (found : Option Refused). TakesOrder seat (Some new) (Begin command) found answer) refused (takes seat new (Begin command) result answer same_if_refused ordered answer_is))
 
-pub ends_taken : (seat new : Seat) (r : Result (Unit {0}) Refused) (answer : ℕ) → is_mutator seat ≡ true → result_err r ≡ refused_in (state_in seat) → OnErr r (new ≡ seat) → OnOk r (HasOrder seat new End)
-    → answer ≡ number_of_order (result_err r) → EndsBy (is_mutator seat) seat (Some new) answer
-ends_taken seat new r answer role refused same ordered is =
+pub ends_taken : (seat new : Seat) (result : Result (Unit {0}) Refused) (answer : ℕ) → is_mutator seat ≡ true → result_err result ≡ refused_in (state_in seat) → OnErr result (new ≡ seat) → OnOk result (HasOrder seat new End)
+    → answer ≡ number_of_order (result_err result) → EndsBy (is_mutator seat) seat (Some new) answer
+ends_taken seat new result answer role refused same_if_refused ordered answer_is =
     subst (λ (holds : Bool). EndsBy holds seat (Some new) answer) (sym role)
-    (subst (λ (found : Option Refused). TakesOrder seat (Some new) End found answer) refused (takes seat new End r answer same ordered is))
+    (subst (λ (found : Option Refused). TakesOrder seat (Some new) End found answer) refused (takes seat new End result answer same_if_refused ordered answer_is))

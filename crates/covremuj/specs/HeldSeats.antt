@@ -8,5 +8,5 @@ use Rattle.std.specs.contracts.impls.GlobalAllocator.TheImpl.{ghosts}
 use Rattle.heap_seats.specs.contracts.seat.Seat.{the_row}
 
 abbrev pub held_owns : Ptr → Global → Option the_row.Denot → Fml
-held_owns p alloc None = ftrue
-held_owns p alloc (Some seat) = box_owns (ghosts.dealloc_token alloc) the_row p seat
+held_owns pointer alloc None = ftrue
+held_owns pointer alloc (Some seat) = box_owns (ghosts.dealloc_token alloc) the_row pointer seat

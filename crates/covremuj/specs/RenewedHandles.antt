@@ -16,7 +16,7 @@ use Rattle.covremuj.specs.StatusNumbers.{number_of_renewal}
 
 -- The answer is why nothing has changed; or that nothing is left of the heap; or what came of the renewal.
 abbrev pub AnswersGoing : ℕ → Type 0
-AnswersGoing answer = (answer ≡ 55) ⊎ ((answer ≡ 27) ⊎ ((said : Renewal) × (answer ≡ number_of_renewal said)))
+AnswersGoing answer = (answer ≡ 55) ⊎ ((answer ≡ 27) ⊎ ((renewal : Renewal) × (answer ≡ number_of_renewal renewal)))
 
 -- Where each seat has ended, one of these is answered, and else that one is busy.
 abbrev pub AnswersEnded : Bool → ℕ → Type 0

@@ -56,19 +56,19 @@ number_of_renewal renewal.TooSmall = 25
 number_of_renewal renewal.NoMemory = 26
 
 -- the command of a number, with its arguments
-abbrev pub command_numbered : (op a b c d value : ℕ) → Option Command
-command_numbered op a b c d value =
-    if op == 0 then Some (command.New a b c)
-    else if op == 1 then Some (command.Get a b c)
-    else if op == 2 then Some (command.Set a b c)
-    else if op == 3 then Some (command.Cas a b c d)
-    else if op == 4 then Some (command.Xchg a b c d)
-    else if op == 5 then Some (command.Rd a b)
-    else if op == 6 then Some (command.Wr a b value)
-    else if op == 7 then Some (command.Copy a b)
-    else if op == 8 then Some (command.Drop a)
-    else if op == 9 then Some (command.Same a b)
-    else if op == 10 then Some command.Gc
-    else if op == 11 then Some (command.Pin a b)
-    else if op == 12 then Some (command.Unpin a)
+abbrev pub command_numbered : (number first second third fourth value : ℕ) → Option Command
+command_numbered number first second third fourth value =
+    if number == 0 then Some (command.New first second third)
+    else if number == 1 then Some (command.Get first second third)
+    else if number == 2 then Some (command.Set first second third)
+    else if number == 3 then Some (command.Cas first second third fourth)
+    else if number == 4 then Some (command.Xchg first second third fourth)
+    else if number == 5 then Some (command.Rd first second)
+    else if number == 6 then Some (command.Wr first second value)
+    else if number == 7 then Some (command.Copy first second)
+    else if number == 8 then Some (command.Drop first)
+    else if number == 9 then Some (command.Same first second)
+    else if number == 10 then Some command.Gc
+    else if number == 11 then Some (command.Pin first second)
+    else if number == 12 then Some (command.Unpin first)
     else None

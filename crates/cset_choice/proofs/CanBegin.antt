@@ -19,11 +19,11 @@ begin_prop config memory = hlevel (le_prop, ℕ_set, Bool-set)
 
 pub can_begin_some : (config : Config) (words : List ℕ) → MarksSome config (view config words) → CanBegin config (final_marked config (view config words))
 can_begin_some config words marks = ∥∥₁_elim marks (begin_prop config (final_marked config (view config words)))
-    (λ h. evacuation_can_begin config (view config words) h.1 h.2 h.3 h.0 h.4 h.5 (no_more_seats config words))
+    (λ known_marks. evacuation_can_begin config (view config words) known_marks.1 known_marks.2 known_marks.3 known_marks.0 known_marks.4 known_marks.5 (no_more_seats config words))
 
 -- by the images before marking was ended and after
-pub begins_after : (one two : Image) → MarksSome (config_of one) (memory_of one) → config_of two ≡ config_of one → memory_of two ≡ final_marked (config_of one) (memory_of one)
-    → CanBegin (config_of two) (memory_of two)
-begins_after one two marks config words =
-    subst (λ (config : Config). CanBegin config (memory_of two)) (sym config)
-    (subst (CanBegin (config_of one)) (sym words) (can_begin_some (config_of one) (words_of one) marks))
+pub begins_after : (first_image last_image : Image) → MarksSome (config_of first_image) (memory_of first_image) → config_of last_image ≡ config_of first_image → memory_of last_image ≡ final_marked (config_of first_image) (memory_of first_image)
+    → CanBegin (config_of last_image) (memory_of last_image)
+begins_after first_image last_image marks config words =
+    subst (λ (config : Config). CanBegin config (memory_of last_image)) (sym config)
+    (subst (CanBegin (config_of first_image)) (sym words) (can_begin_some (config_of first_image) (words_of first_image) marks))

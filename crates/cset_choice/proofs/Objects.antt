@@ -19,60 +19,60 @@ use Rattle.cycle_words.specs.Evacuation.Begun.{is_collected}
 use Rattle.cycle_words.proofs.Evacuation.RegionAddresses.{some_words, from_base}
 
 -- one term more of a sum
-pub sum_more : (f : ℕ → ℕ) (i words x : ℕ) → words ≡ sum_below f i → x ≡ f i → words + x ≡ sum_below f (i + 1)
-sum_more f i words x before is =
-    let next : suc i ≡ i + 1 = omega arith in
-    let step : sum_below f (i + 1) ≡ sum_below f i + f i = ap (sum_below f) (sym next) ∙ sum_next f i in
-    omega (arith, before, is, step)
+pub sum_more : (f : ℕ → ℕ) (index words term : ℕ) → words ≡ sum_below f index → term ≡ f index → words + term ≡ sum_below f (index + 1)
+sum_more f index words term sum_before term_is =
+    let next_number : suc index ≡ index + 1 = omega arith in
+    let step : sum_below f (index + 1) ≡ sum_below f index + f index = ap (sum_below f) (sym next_number) ∙ sum_next f index in
+    omega (arith, sum_before, term_is, step)
 
 -- terms that are 0
-pub sum_pass : (f : ℕ → ℕ) (i n : ℕ) → ((k : ℕ) → i ≤ k → k < i + n → f k ≡ 0) → sum_below f i ≡ sum_below f (i + n)
-sum_pass f i zero none = let same : i ≡ i + 0 = omega arith in ap (sum_below f) same
-sum_pass f i (suc n) none =
-    let next : i + suc n ≡ suc (i + n) = omega arith in
-    let step : sum_below f (i + suc n) ≡ sum_below f (i + n) + f (i + n) = ap (sum_below f) next ∙ sum_next f (i + n) in
-    let before = sum_pass f i n (λ k from below. none k from (omega (arith, below))) in
-    omega (arith, before, step, none (i + n) (omega arith) (omega arith))
+pub sum_pass : (f : ℕ → ℕ) (index count : ℕ) → ((passed_index : ℕ) → index ≤ passed_index → passed_index < index + count → f passed_index ≡ 0) → sum_below f index ≡ sum_below f (index + count)
+sum_pass f index zero all_zero = let same_index : index ≡ index + 0 = omega arith in ap (sum_below f) same_index
+sum_pass f index (suc count) all_zero =
+    let next_number : index + suc count ≡ suc (index + count) = omega arith in
+    let step : sum_below f (index + suc count) ≡ sum_below f (index + count) + f (index + count) = ap (sum_below f) next_number ∙ sum_next f (index + count) in
+    let earlier_sum = sum_pass f index count (λ passed_index from index_below. all_zero passed_index from (omega (arith, index_below))) in
+    omega (arith, earlier_sum, step, all_zero (index + count) (omega arith) (omega arith))
 
 module _ (config : Config) where
   -- so many words from an address on that end within its region are of the heap
   pub object_in_heap : (address words : ℕ) → config.region_words ≤ address → region_with config address < config.regions → address % config.region_words + words ≤ config.region_words → AreInHeap config address words
-  object_in_heap address words above below fits =
-      subst (λ address. AreInHeap config address words) (from_base config.region_words address (some_words config) above) (room_in_heap config (region_with config address) (address % config.region_words) words below fits)
+  object_in_heap address words address_above region_below words_fit =
+      subst (λ address. AreInHeap config address words) (from_base config.region_words address (some_words config) address_above) (room_in_heap config (region_with config address) (address % config.region_words) words region_below words_fit)
 
   -- each of them is a word
-  pub word_of_heap : (address words k : ℕ) → AreInHeap config address words → k < words → IsWord config (Heap (address + k))
-  word_of_heap address words k are below = (omega (arith, are.from), omega (arith, are.to, below))
+  pub word_of_heap : (address words offset : ℕ) → AreInHeap config address words → offset < words → IsWord config (Heap (address + offset))
+  word_of_heap address words offset are_in_heap offset_below = (omega (arith, are_in_heap.from), omega (arith, are_in_heap.to, offset_below))
 
   -- the shape of a marked object is one
   pub shape_in_heap : (memory : Word → ℕ) (address : ℕ) → LieApart config.region_words (marked_words config memory) → IsWord config (Heap address) → is_black config memory address ≡ true → IsWord config (Heap (address + 1))
-  shape_in_heap memory address lie inside black =
-      let all : marked_words config memory address ≡ words_at memory address = cond-true (is_black config memory address) (words_at memory address) 0 black in
-      let within = lie.within address (omega (arith, all)) in
-      word_of_heap address (words_at memory address) 1 (object_in_heap address (words_at memory address) inside.0 (regions_tile.in_range config address inside) (omega (arith, within, all))) (omega arith)
+  shape_in_heap memory address lie_apart address_inside object_black =
+      let same_words : marked_words config memory address ≡ words_at memory address = cond-true (is_black config memory address) (words_at memory address) 0 object_black in
+      let within_region = lie_apart.within address (omega (arith, same_words)) in
+      word_of_heap address (words_at memory address) 1 (object_in_heap address (words_at memory address) address_inside.0 (regions_tile.in_range config address address_inside) (omega (arith, within_region, same_words))) (omega arith)
 
   -- what is of the collection set is an address of the heap
-  module _ (memory : Word → ℕ) (address : ℕ) (small : memory Cset < 2 ^ config.regions) where
+  module _ (memory : Word → ℕ) (address : ℕ) (set_small : memory Cset < 2 ^ config.regions) where
     member_of_heap : config.region_words ≤ address → bit_at (memory Cset) (region_with config address) ≡ 1 → IsWord config (Heap address)
-    member_of_heap above member =
-        let below : region_with config address < config.regions = ⊎_elim
-        (λ (less : region_with config address < config.regions). less)
-        (λ (more : config.regions ≤ region_with config address).
-        absurd (let none = bit_at_above (memory Cset) config.regions (region_with config address) small more in omega (arith, member, none)))
+    member_of_heap address_above region_chosen =
+        let region_below : region_with config address < config.regions = ⊎_elim
+        (λ (region_less : region_with config address < config.regions). region_less)
+        (λ (region_past : config.regions ≤ region_with config address).
+        absurd (let no_bit = bit_at_above (memory Cset) config.regions (region_with config address) set_small region_past in omega (arith, region_chosen, no_bit)))
         (cases_lt (region_with config address) config.regions) in
-        let least = some_words config in
-        let are = object_in_heap address 1 above below (omega (arith, mod_below address config.region_words least)) in
-        (are.from, omega (arith, are.to))
+        let least_words = some_words config in
+        let are_in_heap = object_in_heap address 1 address_above region_below (omega (arith, mod_below address config.region_words least_words)) in
+        (are_in_heap.from, omega (arith, are_in_heap.to))
 
     pub collected_of_heap : is_collected config memory address ≡ true → IsWord config (Heap address)
-    collected_of_heap collected =
-        let parts = and_parts (nat_le config.region_words address) (bit_at (memory Cset) (region_with config address) == 1) collected in
-        member_of_heap (leb-true config.region_words address parts.0) (eqb-true (bit_at (memory Cset) (region_with config address)) 1 parts.1)
+    collected_of_heap address_collected =
+        let collected_parts = and_parts (nat_le config.region_words address) (bit_at (memory Cset) (region_with config address) == 1) address_collected in
+        member_of_heap (leb-true config.region_words address collected_parts.0) (eqb-true (bit_at (memory Cset) (region_with config address)) 1 collected_parts.1)
 
     pub not_of_heap : (IsWord config (Heap address) → ⊥) → is_collected config memory address ≡ false
-    not_of_heap other = ⊎_elim
-        (λ (less : address < config.region_words). and_left (nat_le config.region_words address) (bit_at (memory Cset) (region_with config address) == 1) (lt-leb config.region_words address less))
-        (λ (above : config.region_words ≤ address).
+    not_of_heap not_word = ⊎_elim
+        (λ (address_less : address < config.region_words). and_left (nat_le config.region_words address) (bit_at (memory Cset) (region_with config address) == 1) (lt-leb config.region_words address address_less))
+        (λ (address_above : config.region_words ≤ address).
         and_right (nat_le config.region_words address) (bit_at (memory Cset) (region_with config address) == 1)
-        (ne_eqb (bit_at (memory Cset) (region_with config address)) 1 (λ member. other (member_of_heap above member))))
+        (ne_eqb (bit_at (memory Cset) (region_with config address)) 1 (λ member. not_word (member_of_heap address_above member))))
         (cases_lt address config.region_words)

@@ -19,8 +19,8 @@ pub record AreLive (config : Config) (memory : Word → ℕ) (live : List ℕ) :
 
 -- what a region adds to what lives, by a table, in the regions of a set up to another one, in the order of the choice
 abbrev pub adds : (live : List ℕ) (set : ℕ) → ℕ → ℕ → ℕ
-adds live set last region = if (bit_at set region == 1) && not (comes_before (slice_index live) last region) then slice_index live region else 0
+adds live set last_region region = if (bit_at set region == 1) && not (comes_before (slice_index live) last_region region) then slice_index live region else 0
 
 -- what lives in all of them
 abbrev pub up_to : (live : List ℕ) (set regions : ℕ) → ℕ → ℕ
-up_to live set regions r = sum_below (adds live set r) regions
+up_to live set regions last_region = sum_below (adds live set last_region) regions

@@ -25,31 +25,31 @@ use Rattle.cycle_pauses.specs.Ended.{CanEnd}
 use Rattle.cycle_pauses.specs.Laws.{EndedIsPaused, SetIsFreedFirst}
 
 pub ended_is_paused : EndedIsPaused
-ended_is_paused c m g asking r seats = ⊎_elim
-    (λ (whole : is_whole c m ≡ true).
-    subst (λ w. IsPaused c m w g asking) (sym (fun_ext (λ word. cond-true (is_whole c m) (finished c m word) (full c (finished c m) word) whole)))
-    (whole_is_pause c m g asking r seats whole).paused)
-    (λ (short : is_whole c m ≡ false).
-    subst (λ w. IsPaused c m w g asking) (sym (fun_ext (λ word. cond-false (is_whole c m) (finished c m word) (full c (finished c m) word) short)))
-    (short_is_pause c m g asking r seats short).paused)
-    (cases_Bool (is_whole c m))
+ended_is_paused config memory graph asking represents seats = ⊎_elim
+    (λ (whole_cycle : is_whole config memory ≡ true).
+    subst (λ ended_memory. IsPaused config memory ended_memory graph asking) (sym (fun_ext (λ word. cond-true (is_whole config memory) (finished config memory word) (full config (finished config memory) word) whole_cycle)))
+    (whole_is_pause config memory graph asking represents seats whole_cycle).paused)
+    (λ (image_short : is_whole config memory ≡ false).
+    subst (λ ended_memory. IsPaused config memory ended_memory graph asking) (sym (fun_ext (λ word. cond-false (is_whole config memory) (finished config memory word) (full config (finished config memory) word) image_short)))
+    (short_is_pause config memory graph asking represents seats image_short).paused)
+    (cases_Bool (is_whole config memory))
 
 -- where finishing it is enough, the collection set is freed first
 pub set_is_freed_first : SetIsFreedFirst
-set_is_freed_first c m g asking r whole =
-    let room = (and_parts (is_room_for_all c (let_go c m)) (nobody_waits c (finished c m)) whole).0 in
+set_is_freed_first config memory graph asking represents whole_cycle =
+    let room = (and_parts (is_room_for_all config (let_go config memory)) (nobody_waits config (finished config memory)) whole_cycle).0 in
     record {
-      freed = set_is_free c m g asking r room;
+      freed = set_is_free config memory graph asking represents room;
       served_then = fun_ext (λ word.
-          cond-true (is_whole c m) (finished c m word) (full c (finished c m) word) whole
-          ∙ cond-true (is_room_for_all c (let_go c m)) (served c (cycle_finished c (let_go c m)) c.mutators word) (all_copied c (let_go c m) word) room);
+          cond-true (is_whole config memory) (finished config memory word) (full config (finished config memory) word) whole_cycle
+          ∙ cond-true (is_room_for_all config (let_go config memory)) (served config (cycle_finished config (let_go config memory)) config.mutators word) (all_copied config (let_go config memory) word) room);
     }
 
 -- words that represent a graph are such that a cycle can be ended
 pub can_end : (config : Config) (memory : Word → ℕ) (graph : Graph) (asking : ℕ → Asking) → Represents config memory graph asking → HasNoMoreSeats config memory → CanEnd config memory
 can_end config memory graph asking represents seats = record {
   finishes = representing_can_finish config memory graph asking represents seats;
-  holds = λ short. let h = (short_is_pause config memory graph asking represents seats short).holds in ∣ (graph, h.0, h.1, h.2, h.3, h.4) ∣₁;
+  holds = λ short. let pause_holds = (short_is_pause config memory graph asking represents seats short).holds in ∣ (graph, pause_holds.0, pause_holds.1, pause_holds.2, pause_holds.3, pause_holds.4) ∣₁;
 }
 
 -- That a cycle can be ended is one fact.

@@ -1,4 +1,5 @@
 -- Each step of the cycle, and collecting in full, is what a pause owes.
+use Rattle.heap_words.specs.Phases.{updating_phase, marking_phase, evacuation_phase, idle_phase}
 use Rattle.std.proofs.Common.{◌≡◌, ◌≢◌, ℕ, ◌<◌, ◌==◌, ◌++◌, Bool, true, false, Option, List, replicate, refl, ⊎_elim, sym, ◌∙◌, subst, arith}
 use Rattle.std.specs.Prelude.{if◌then◌else◌, ◌&&◌, ◌||◌}
 use Rattle.std.specs.Int.{bit_at}
@@ -55,30 +56,30 @@ use Rattle.cycle_pauses.proofs.EndedPaused.{ended_is_paused, can_end, can_end_pr
 
 -- there is no collection set in phases 0 and 1
 calm_in : (config : Config) (memory : Word → ℕ) (graph : Graph) (asking : ℕ → Asking) (represents : Represents config memory graph asking) → memory Phase < 2 → memory Cset ≡ 0
-calm_in config memory graph asking represents low = represents.shared.phased.cset_is low
+calm_in config memory graph asking represents phase_low = represents.shared.phased.cset_is phase_low
 
 -- one of two
 pick : (holds : Bool) (memory other_memory : Word → ℕ) → holds ≡ true → (λ word. if holds then memory word else other_memory word) ≡ memory
-pick holds memory other_memory is = fun_ext (λ word. cond-true holds (memory word) (other_memory word) is)
+pick holds memory other_memory test_true = fun_ext (λ word. cond-true holds (memory word) (other_memory word) test_true)
 
 skip : (holds : Bool) (memory other_memory : Word → ℕ) → holds ≡ false → (λ word. if holds then memory word else other_memory word) ≡ other_memory
-skip holds memory other_memory is = fun_ext (λ word. cond-false holds (memory word) (other_memory word) is)
+skip holds memory other_memory test_false = fun_ext (λ word. cond-false holds (memory word) (other_memory word) test_false)
 
 -- no seat but those of the heap has a buffer in an image
 no_more_seats : (config : Config) (words : List ℕ) → HasNoMoreSeats config (view config words)
-no_more_seats config words seat past = view_none config words (Current seat) (le-ltb seat (seat_count config.mutators config.helpers) past)
+no_more_seats config words seat seat_past = view_none config words (Current seat) (le-ltb seat (seat_count config.mutators config.helpers) seat_past)
 
 -- the words past marking represent the same graph
 past_marking_represents : (config : Config) (memory : Word → ℕ) (graph : Graph) (asking : ℕ → Asking) → Represents config memory graph asking → HasNoMoreSeats config memory → Represents config (past_marking config memory) graph asking
 past_marking_represents config memory graph asking represents seats = ⊎_elim
-    (λ (on : (memory Phase == 1) ≡ true).
-    subst (λ w. Represents config w graph asking) (sym (pick (memory Phase == 1) (evac_next config memory) memory on)) (evacuation_represents config memory graph asking represents (eqb-true (memory Phase) 1 on) seats))
-    (λ (off : (memory Phase == 1) ≡ false). subst (λ w. Represents config w graph asking) (sym (skip (memory Phase == 1) (evac_next config memory) memory off)) represents)
-    (cases_Bool (memory Phase == 1))
+    (λ (in_marking : (memory Phase == marking_phase) ≡ true).
+    subst (λ state. Represents config state graph asking) (sym (pick (memory Phase == marking_phase) (evac_next config memory) memory in_marking)) (evacuation_represents config memory graph asking represents (eqb-true (memory Phase) 1 in_marking) seats))
+    (λ (not_marking : (memory Phase == marking_phase) ≡ false). subst (λ state. Represents config state graph asking) (sym (skip (memory Phase == marking_phase) (evac_next config memory) memory not_marking)) represents)
+    (cases_Bool (memory Phase == marking_phase))
 
 -- and no other seats have buffers then
 past_marking_seats : (config : Config) (memory : Word → ℕ) → HasNoMoreSeats config memory → HasNoMoreSeats config (past_marking config memory)
-past_marking_seats config memory seats seat past = either_is (memory Phase == 1) (evac_next config memory (Current seat)) (memory (Current seat)) 0 (next_current config memory seat ∙ seats seat past) (seats seat past)
+past_marking_seats config memory seats seat seat_past = either_is (memory Phase == marking_phase) (evac_next config memory (Current seat)) (memory (Current seat)) 0 (next_current config memory seat ∙ seats seat seat_past) (seats seat seat_past)
 
 can_collect : (config : Config) (memory : Word → ℕ) (graph : Graph) (asking : ℕ → Asking) (represents : Represents config memory graph asking) → HasNoMoreSeats config memory
     → CanPause config memory (live config memory graph asking (by_copies config memory graph asking represents)) represents.ghost.owner (promises_of config graph asking) graph
@@ -86,135 +87,135 @@ can_collect config memory graph asking represents seats = record {
   holds = holds_by config memory graph asking (by_copies config memory graph asking represents);
   sized = are_sized config memory graph asking (by_copies config memory graph asking represents);
   phase_is = represents.shared.phased.phase_is;
-  uncollected = λ none. calm_in config memory graph asking represents (omega (arith, none));
-  marking = λ on. is_marking config memory graph asking represents (calm_in config memory graph asking represents (omega (arith, on))) on;
+  uncollected = λ is_idle. calm_in config memory graph asking represents (omega (arith, is_idle));
+  marking = λ in_marking. is_marking config memory graph asking represents (calm_in config memory graph asking represents (omega (arith, in_marking))) in_marking;
   ends = λ needed runs. can_end config (past_marking config memory) graph asking (past_marking_represents config memory graph asking represents seats) (past_marking_seats config memory seats);
 }
 
 pub representing_can_collect : RepresentingCanCollect
-representing_can_collect c image g asking r =
-    let memory : Word → ℕ = image_view c image in
-    ∣ (g, live c memory g asking (by_copies c memory g asking r), r.ghost.owner, promises_of c g asking, can_collect c (image_view c image) g asking r (no_more_seats c (replicate (image_start c) 0 ++ image))) ∣₁
+representing_can_collect given_config image given_graph asking graph_stands =
+    let memory : Word → ℕ = image_view given_config image in
+    ∣ (given_graph, live given_config memory given_graph asking (by_copies given_config memory given_graph asking graph_stands), graph_stands.ghost.owner, promises_of given_config given_graph asking, can_collect given_config (image_view given_config image) given_graph asking graph_stands (no_more_seats given_config (replicate (image_start given_config) 0 ++ image))) ∣₁
 
 can_begin_prop : (config : Config) (memory : Word → ℕ) → IsProp (CanBegin config memory)
 can_begin_prop config memory = hlevel (le_prop, ℕ_set, Bool-set)
 
 pub ended_can_begin : EndedCanBegin
-ended_can_begin c m can on seats = ∥∥₁_elim can (can_begin_prop c (final_marked c m)) (λ some. evacuation_can_begin c m some.1 some.2 some.3 some.0 some.4.holds (some.4.marking on) seats)
+ended_can_begin given_config given_memory can_pause in_marking seats = ∥∥₁_elim can_pause (can_begin_prop given_config (final_marked given_config given_memory)) (λ pausing. evacuation_can_begin given_config given_memory pausing.1 pausing.2 pausing.3 pausing.0 pausing.4.holds (pausing.4.marking in_marking) seats)
 
 pub running_can_end : RunningCanEnd
-running_can_end c m can needed runs = ∥∥₁_elim can (can_end_prop c (past_marking c m)) (λ some. some.4.ends needed runs)
+running_can_end given_config given_memory can_pause needed runs = ∥∥₁_elim can_pause (can_end_prop given_config (past_marking given_config given_memory)) (λ pausing. pausing.4.ends needed runs)
 
 -- Which pause it is.
 
 -- a bit that is not 1 is 0
-unset : (word k : ℕ) → (bit_at word k == 1) ≡ false → bit_at word k ≡ 0
-unset word k is = ⊎_elim
-    (λ (none : bit_at word k ≡ 0). none)
-    (λ (some : bit_at word k ≢ 0). absurd (true≢false (sym (eq-eqb (bit_at word k) 1 (omega (arith, some))) ∙ is)))
-    (cases_eq (bit_at word k) 0)
+unset : (word bit : ℕ) → (bit_at word bit == 1) ≡ false → bit_at word bit ≡ 0
+unset word bit bit_test = ⊎_elim
+    (λ (is_zero : bit_at word bit ≡ 0). is_zero)
+    (λ (not_zero : bit_at word bit ≢ 0). absurd (true≢false (sym (eq-eqb (bit_at word bit) 1 (omega (arith, not_zero))) ∙ bit_test)))
+    (cases_eq (bit_at word bit) 0)
 
 -- nobody waits, and no copier was out of room
 pub record IsCalm (memory : Word → ℕ) : Type 0 where
   pub unasked : bit_at (memory Ask) 1 ≡ 0
-  pub room : memory Phase ≡ 2 → is_out_of_room (memory Evac) ≡ false
+  pub room : memory Phase ≡ evacuation_phase → is_out_of_room (memory Evac) ≡ false
 
 calm_if : (memory : Word → ℕ) → is_room_needed memory ≡ false → IsCalm memory
-calm_if memory none = parts (bit_at (memory Ask) 1 == 1) (memory Phase == 2) (is_out_of_room (memory Evac)) refl refl refl none
+calm_if memory no_room_needed = parts (bit_at (memory Ask) 1 == 1) (memory Phase == evacuation_phase) (is_out_of_room (memory Evac)) refl refl refl no_room_needed
   where
-    parts : (x y z : Bool) → (bit_at (memory Ask) 1 == 1) ≡ x → (memory Phase == 2) ≡ y → is_out_of_room (memory Evac) ≡ z → (x || (y && z)) ≡ false → IsCalm memory
-    parts true y z is_x is_y is_z both = absurd (true≢false both)
-    parts false true true is_x is_y is_z both = absurd (true≢false both)
-    parts false true false is_x is_y is_z both = record { unasked = unset (memory Ask) 1 is_x; room = λ two. is_z }
-    parts false false z is_x is_y is_z both = record { unasked = unset (memory Ask) 1 is_x; room = λ two. absurd (true≢false (sym (eq-eqb (memory Phase) 2 two) ∙ is_y)) }
+    parts : (ask_test phase_test room_test : Bool) → (bit_at (memory Ask) 1 == 1) ≡ ask_test → (memory Phase == evacuation_phase) ≡ phase_test → is_out_of_room (memory Evac) ≡ room_test → (ask_test || (phase_test && room_test)) ≡ false → IsCalm memory
+    parts true phase_test room_test ask_is phase_is room_is neither = absurd (true≢false neither)
+    parts false true true ask_is phase_is room_is neither = absurd (true≢false neither)
+    parts false true false ask_is phase_is room_is neither = record { unasked = unset (memory Ask) 1 ask_is; room = λ phase_two. room_is }
+    parts false false room_test ask_is phase_is room_is neither = record { unasked = unset (memory Ask) 1 ask_is; room = λ phase_two. absurd (true≢false (sym (eq-eqb (memory Phase) 2 phase_two) ∙ phase_is)) }
 
 -- one of six: where room is needed it is in full, or ends the cycle; else the step of the cycle that the phase tells
 pub data Which (config : Config) (memory : Word → ℕ) : Type 0 where
-  in_full : memory Phase ≡ 0 → collected config memory ≡ full config memory → Which config memory
-  to_end : is_room_needed memory ≡ true → (memory Phase ≢ 0) → collected config memory ≡ ended config (past_marking config memory) → Which config memory
-  to_mark : IsCalm memory → memory Phase ≡ 0 → collected config memory ≡ init_marked config memory → Which config memory
-  to_evacuate : IsCalm memory → memory Phase ≡ 1 → collected config memory ≡ evac_next config memory → Which config memory
-  to_update : IsCalm memory → memory Phase ≡ 2 → collected config memory ≡ init_updated config memory → Which config memory
-  to_free : IsCalm memory → (memory Phase ≢ 0) → (memory Phase ≢ 1) → (memory Phase ≢ 2) → collected config memory ≡ final_updated config memory → Which config memory
+  in_full : memory Phase ≡ idle_phase → collected config memory ≡ full config memory → Which config memory
+  to_end : is_room_needed memory ≡ true → (memory Phase ≢ idle_phase) → collected config memory ≡ ended config (past_marking config memory) → Which config memory
+  to_mark : IsCalm memory → memory Phase ≡ idle_phase → collected config memory ≡ init_marked config memory → Which config memory
+  to_evacuate : IsCalm memory → memory Phase ≡ marking_phase → collected config memory ≡ evac_next config memory → Which config memory
+  to_update : IsCalm memory → memory Phase ≡ evacuation_phase → collected config memory ≡ init_updated config memory → Which config memory
+  to_free : IsCalm memory → (memory Phase ≢ idle_phase) → (memory Phase ≢ marking_phase) → (memory Phase ≢ evacuation_phase) → collected config memory ≡ final_updated config memory → Which config memory
 
 differ : (n k : ℕ) → (n == k) ≡ false → n ≢ k
-differ n k other same = true≢false (sym (eq-eqb n k same) ∙ other)
+differ n k test_false same_number = true≢false (sym (eq-eqb n k same_number) ∙ test_false)
 
 module _ (config : Config) (memory : Word → ℕ) where
   abbrev late : Word → ℕ
-  late word = if memory Phase == 2 then init_updated config memory word else final_updated config memory word
+  late word = if memory Phase == evacuation_phase then init_updated config memory word else final_updated config memory word
 
   abbrev later : Word → ℕ
-  later word = if memory Phase == 1 then evac_next config memory word else late word
+  later word = if memory Phase == marking_phase then evac_next config memory word else late word
 
   by_phase : IsCalm memory → collected config memory ≡ next_in_cycle config memory → Which config memory
-  by_phase calm on = ⊎_elim
-      (λ (zero_one : (memory Phase == 0) ≡ true). Which.to_mark calm (eqb-true (memory Phase) 0 zero_one) (on ∙ pick (memory Phase == 0) (init_marked config memory) later zero_one))
-      (λ (not_0 : (memory Phase == 0) ≡ false).
-      let after_0 = on ∙ skip (memory Phase == 0) (init_marked config memory) later not_0 in
+  by_phase calm_memory collected_next = ⊎_elim
+      (λ (zero_one : (memory Phase == idle_phase) ≡ true). Which.to_mark calm_memory (eqb-true (memory Phase) 0 zero_one) (collected_next ∙ pick (memory Phase == idle_phase) (init_marked config memory) later zero_one))
+      (λ (not_idle : (memory Phase == idle_phase) ≡ false).
+      let after_0 = collected_next ∙ skip (memory Phase == idle_phase) (init_marked config memory) later not_idle in
       ⊎_elim
-      (λ (one : (memory Phase == 1) ≡ true). Which.to_evacuate calm (eqb-true (memory Phase) 1 one) (after_0 ∙ pick (memory Phase == 1) (evac_next config memory) late one))
-      (λ (not_1 : (memory Phase == 1) ≡ false).
-      let after_1 = after_0 ∙ skip (memory Phase == 1) (evac_next config memory) late not_1 in
+      (λ (phase_one : (memory Phase == marking_phase) ≡ true). Which.to_evacuate calm_memory (eqb-true (memory Phase) 1 phase_one) (after_0 ∙ pick (memory Phase == marking_phase) (evac_next config memory) late phase_one))
+      (λ (not_marking : (memory Phase == marking_phase) ≡ false).
+      let after_1 = after_0 ∙ skip (memory Phase == marking_phase) (evac_next config memory) late not_marking in
       ⊎_elim
-      (λ (two : (memory Phase == 2) ≡ true). Which.to_update calm (eqb-true (memory Phase) 2 two) (after_1 ∙ pick (memory Phase == 2) (init_updated config memory) (final_updated config memory) two))
-      (λ (not_2 : (memory Phase == 2) ≡ false).
-      Which.to_free calm (differ (memory Phase) 0 not_0) (differ (memory Phase) 1 not_1) (differ (memory Phase) 2 not_2) (after_1 ∙ skip (memory Phase == 2) (init_updated config memory) (final_updated config memory) not_2))
-      (cases_Bool (memory Phase == 2)))
-      (cases_Bool (memory Phase == 1)))
-      (cases_Bool (memory Phase == 0))
+      (λ (phase_two : (memory Phase == evacuation_phase) ≡ true). Which.to_update calm_memory (eqb-true (memory Phase) 2 phase_two) (after_1 ∙ pick (memory Phase == evacuation_phase) (init_updated config memory) (final_updated config memory) phase_two))
+      (λ (not_evacuating : (memory Phase == evacuation_phase) ≡ false).
+      Which.to_free calm_memory (differ (memory Phase) 0 not_idle) (differ (memory Phase) 1 not_marking) (differ (memory Phase) 2 not_evacuating) (after_1 ∙ skip (memory Phase == evacuation_phase) (init_updated config memory) (final_updated config memory) not_evacuating))
+      (cases_Bool (memory Phase == evacuation_phase)))
+      (cases_Bool (memory Phase == marking_phase)))
+      (cases_Bool (memory Phase == idle_phase))
 
   by_room : is_room_needed memory ≡ true → Which config memory
   by_room needed =
-      let on = pick (is_room_needed memory) (room_made config memory) (next_in_cycle config memory) needed in
+      let collected_next = pick (is_room_needed memory) (room_made config memory) (next_in_cycle config memory) needed in
       ⊎_elim
-      (λ (zero_phase : (memory Phase == 0) ≡ true). Which.in_full (eqb-true (memory Phase) 0 zero_phase) (on ∙ pick (memory Phase == 0) (full config memory) (ended config (past_marking config memory)) zero_phase))
-      (λ (runs : (memory Phase == 0) ≡ false). Which.to_end needed (differ (memory Phase) 0 runs) (on ∙ skip (memory Phase == 0) (full config memory) (ended config (past_marking config memory)) runs))
-      (cases_Bool (memory Phase == 0))
+      (λ (zero_phase : (memory Phase == idle_phase) ≡ true). Which.in_full (eqb-true (memory Phase) 0 zero_phase) (collected_next ∙ pick (memory Phase == idle_phase) (full config memory) (ended config (past_marking config memory)) zero_phase))
+      (λ (runs : (memory Phase == idle_phase) ≡ false). Which.to_end needed (differ (memory Phase) 0 runs) (collected_next ∙ skip (memory Phase == idle_phase) (full config memory) (ended config (past_marking config memory)) runs))
+      (cases_Bool (memory Phase == idle_phase))
 
   pub which : Which config memory
   which = ⊎_elim
       (λ (needed : is_room_needed memory ≡ true). by_room needed)
-      (λ (none : is_room_needed memory ≡ false). by_phase (calm_if memory none) (skip (is_room_needed memory) (room_made config memory) (next_in_cycle config memory) none))
+      (λ (no_room_needed : is_room_needed memory ≡ false). by_phase (calm_if memory no_room_needed) (skip (is_room_needed memory) (room_made config memory) (next_in_cycle config memory) no_room_needed))
       (cases_Bool (is_room_needed memory))
 
 -- Words that are no words of the table are 0 after a pause.
 collected_outside : (config : Config) (image : List ℕ) (graph : Graph) (block : Plot) (owner : ℕ → Option ℕ) (promises : Promises) → CanPause config (image_view config image) block owner promises graph → IsZeroOutside config (collected config (image_view config image))
-collected_outside config image graph block owner promises can = by_which (which config (image_view config image))
+collected_outside config image graph block owner promises can_pause = by_which (which config (image_view config image))
   where
     none : IsZeroOutside config (image_view config image)
-    none word out = view_none config (replicate (image_start config) 0 ++ image) word out
+    none word not_word = view_none config (replicate (image_start config) 0 ++ image) word not_word
 
-    evacuated : image_view config image Phase ≡ 1 → IsZeroOutside config (evac_next config (image_view config image))
-    evacuated on =
+    evacuated : image_view config image Phase ≡ marking_phase → IsZeroOutside config (evac_next config (image_view config image))
+    evacuated phase_one =
         let memory : Word → ℕ = image_view config image in
-        let marking = can.marking on in
-        let begin = evacuation_can_begin config memory block owner promises graph can.holds marking (no_more_seats config (replicate (image_start config) 0 ++ image)) in
-        begun_outside config (final_marked config memory) (chosen config (final_marked config memory)) (can_clear_in_turn config (final_marked config memory) begin) (final_outside config memory block owner promises graph can.holds none marking)
+        let marking = can_pause.marking phase_one in
+        let begin = evacuation_can_begin config memory block owner promises graph can_pause.holds marking (no_more_seats config (replicate (image_start config) 0 ++ image)) in
+        begun_outside config (final_marked config memory) (chosen config (final_marked config memory)) (can_clear_in_turn config (final_marked config memory) begin) (final_outside config memory block owner promises graph can_pause.holds none marking)
 
     past_outside : IsZeroOutside config (past_marking config (image_view config image))
     past_outside = ⊎_elim
-        (λ (on : (image_view config image Phase == 1) ≡ true).
-        subst (IsZeroOutside config) (sym (pick (image_view config image Phase == 1) (evac_next config (image_view config image)) (image_view config image) on)) (evacuated (eqb-true (image_view config image Phase) 1 on)))
-        (λ (off : (image_view config image Phase == 1) ≡ false).
-        subst (IsZeroOutside config) (sym (skip (image_view config image Phase == 1) (evac_next config (image_view config image)) (image_view config image) off)) none)
-        (cases_Bool (image_view config image Phase == 1))
+        (λ (in_marking : (image_view config image Phase == marking_phase) ≡ true).
+        subst (IsZeroOutside config) (sym (pick (image_view config image Phase == marking_phase) (evac_next config (image_view config image)) (image_view config image) in_marking)) (evacuated (eqb-true (image_view config image Phase) 1 in_marking)))
+        (λ (not_marking : (image_view config image Phase == marking_phase) ≡ false).
+        subst (IsZeroOutside config) (sym (skip (image_view config image Phase == marking_phase) (evac_next config (image_view config image)) (image_view config image) not_marking)) none)
+        (cases_Bool (image_view config image Phase == marking_phase))
 
     by_which : Which config (image_view config image) → IsZeroOutside config (collected config (image_view config image))
-    by_which (Which.in_full idle is) = subst (IsZeroOutside config) (sym is) (holds_outside config (replicate (image_start config) 0 ++ image) graph (block, owner, promises, can.holds))
-    by_which (Which.to_end needed runs is) = subst (IsZeroOutside config) (sym is) (ended_outside config (past_marking config (image_view config image)) (can.ends needed runs) past_outside)
-    by_which (Which.to_mark calm begins is) = subst (IsZeroOutside config) (sym is) (init_outside config (image_view config image) block owner promises graph can.holds none (can.uncollected begins))
-    by_which (Which.to_evacuate calm on is) = subst (IsZeroOutside config) (sym is) (evacuated on)
-    by_which (Which.to_update calm on is) = subst (IsZeroOutside config) (sym is) (update.init_outside config (image_view config image) (buffers_inside config (image_view config image) block can.holds.objects.plotted can.holds.buffers) none)
-    by_which (Which.to_free calm not_0 not_1 not_2 is) = subst (IsZeroOutside config) (sym is) (update.final_outside config (image_view config image) none)
+    by_which (Which.in_full idle collected_is) = subst (IsZeroOutside config) (sym collected_is) (holds_outside config (replicate (image_start config) 0 ++ image) graph (block, owner, promises, can_pause.holds))
+    by_which (Which.to_end needed runs collected_is) = subst (IsZeroOutside config) (sym collected_is) (ended_outside config (past_marking config (image_view config image)) (can_pause.ends needed runs) past_outside)
+    by_which (Which.to_mark calm begins collected_is) = subst (IsZeroOutside config) (sym collected_is) (init_outside config (image_view config image) block owner promises graph can_pause.holds none (can_pause.uncollected begins))
+    by_which (Which.to_evacuate calm in_phase collected_is) = subst (IsZeroOutside config) (sym collected_is) (evacuated in_phase)
+    by_which (Which.to_update calm in_phase collected_is) = subst (IsZeroOutside config) (sym collected_is) (update.init_outside config (image_view config image) (buffers_inside config (image_view config image) block can_pause.holds.objects.plotted can_pause.holds.buffers) none)
+    by_which (Which.to_free calm not_idle not_marking not_evacuating collected_is) = subst (IsZeroOutside config) (sym collected_is) (update.final_outside config (image_view config image) none)
 
 pub image_is_collected : ImageIsCollected
-image_is_collected c image long can = fun_ext (λ word. ⊎_elim
-    (λ (yes_word : is_word c word ≡ true). collected_by_name c image word (is_word_true c word yes_word))
-    (λ (other : is_word c word ≡ false).
-    view_none c (replicate (image_start c) 0 ++ collect_image c image) word other
-    ∙ sym (∥∥₁_elim can (hlevel ℕ_set) (λ h. collected_outside c image h.0 h.1 h.2 h.3 h.4 word other)))
-    (cases_Bool (is_word c word)))
+image_is_collected given_config image image_long can_pause = fun_ext (λ word. ⊎_elim
+    (λ (yes_word : is_word given_config word ≡ true). collected_by_name given_config image word (is_word_true given_config word yes_word))
+    (λ (not_word : is_word given_config word ≡ false).
+    view_none given_config (replicate (image_start given_config) 0 ++ collect_image given_config image) word not_word
+    ∙ sym (∥∥₁_elim can_pause (hlevel ℕ_set) (λ what_holds. collected_outside given_config image what_holds.0 what_holds.1 what_holds.2 what_holds.3 what_holds.4 word not_word)))
+    (cases_Bool (is_word given_config word)))
 
 -- What a pause owes that is due.
 module _ (config : Config) (image : List ℕ) (graph : Graph) (asking : ℕ → Asking) (represents : Represents config (image_view config image) graph asking) (due : IsDue config (image_view config image)) where
@@ -223,35 +224,35 @@ module _ (config : Config) (image : List ℕ) (graph : Graph) (asking : ℕ → 
 
   -- where nobody waits nobody asks
   nobody : IsCalm now → (mutator refs nums : ℕ) → mutator < config.mutators → asking mutator ≡ asks refs nums → ⊥
-  nobody calm mutator refs nums inside is = let waits = represents.heard mutator refs nums inside is in let none = calm.unasked in omega (arith, waits, none)
+  nobody calm_now mutator refs nums mutator_below asks_object = let waits = represents.heard mutator refs nums mutator_below asks_object in let unasked = calm_now.unasked in omega (arith, waits, unasked)
 
   -- so a step of the cycle owes that the words represent the same graph
   step_paused : IsCalm now → (after : Word → ℕ) → collected config now ≡ after → Represents config after graph asking → IsPaused config now (collected config now) graph asking
-  step_paused calm after is stands = subst (λ words. IsPaused config now words graph asking) (sym is) (idle_pause config now after graph asking (nobody calm) stands)
+  step_paused calm_now after collected_is after_stands = subst (λ words. IsPaused config now words graph asking) (sym collected_is) (idle_pause config now after graph asking (nobody calm_now) after_stands)
 
   which_paused : Which config now → IsPaused config now (collected config now) graph asking
-  which_paused (Which.in_full idle is) = subst (λ words. IsPaused config now words graph asking) (sym is) (paused config now graph asking (by_copies config now graph asking represents))
-  which_paused (Which.to_end needed runs is) =
-      let past = past_marking_represents config now graph asking represents (no_more_seats config (replicate (image_start config) 0 ++ image)) in
-      subst (λ words. IsPaused config now words graph asking) (sym is) (paused_from config (past_marking config now) now (ended config (past_marking config now)) graph asking
-      (ended_is_paused config (past_marking config now) graph asking past (past_marking_seats config now (no_more_seats config (replicate (image_start config) 0 ++ image)))))
-  which_paused (Which.to_mark calm begins is) = step_paused calm (init_marked config now) is (beginning_represents config now graph asking represents begins (nobody calm))
-  which_paused (Which.to_evacuate calm on is) =
-      step_paused calm (evac_next config now) is (evacuation_represents config now graph asking represents on (no_more_seats config (replicate (image_start config) 0 ++ image)))
-  which_paused (Which.to_update calm on is) =
-      step_paused calm (init_updated config now) is (updating_begins config now graph asking represents on (calm.room on) (due (omega (arith, on)) calm.unasked))
-  which_paused (Which.to_free calm not_0 not_1 not_2 is) =
-      let few = represents.shared.phased.phase_is in
-      let on : now Phase ≡ 3 = omega (arith, few, not_0, not_1, not_2) in
-      step_paused calm (final_updated config now) is (updating_ends config now graph asking represents on (due (omega (arith, on)) calm.unasked))
+  which_paused (Which.in_full idle collected_is) = subst (λ words. IsPaused config now words graph asking) (sym collected_is) (paused config now graph asking (by_copies config now graph asking represents))
+  which_paused (Which.to_end needed runs collected_is) =
+      let past_standing = past_marking_represents config now graph asking represents (no_more_seats config (replicate (image_start config) 0 ++ image)) in
+      subst (λ words. IsPaused config now words graph asking) (sym collected_is) (paused_from config (past_marking config now) now (ended config (past_marking config now)) graph asking
+      (ended_is_paused config (past_marking config now) graph asking past_standing (past_marking_seats config now (no_more_seats config (replicate (image_start config) 0 ++ image)))))
+  which_paused (Which.to_mark calm begins collected_is) = step_paused calm (init_marked config now) collected_is (beginning_represents config now graph asking represents begins (nobody calm))
+  which_paused (Which.to_evacuate calm in_phase collected_is) =
+      step_paused calm (evac_next config now) collected_is (evacuation_represents config now graph asking represents in_phase (no_more_seats config (replicate (image_start config) 0 ++ image)))
+  which_paused (Which.to_update calm in_phase collected_is) =
+      step_paused calm (init_updated config now) collected_is (updating_begins config now graph asking represents in_phase (calm.room in_phase) (due (omega (arith, in_phase)) calm.unasked))
+  which_paused (Which.to_free calm not_idle not_marking not_evacuating collected_is) =
+      let phase_few = represents.shared.phased.phase_is in
+      let in_phase : now Phase ≡ updating_phase = omega (arith, phase_few, not_idle, not_marking, not_evacuating) in
+      step_paused calm (final_updated config now) collected_is (updating_ends config now graph asking represents in_phase (due (omega (arith, in_phase)) calm.unasked))
 
   collected_paused : IsPaused config now (collected config now) graph asking
   collected_paused = which_paused (which config now)
 
 pub collect_is_pause : CollectIsPause
 collect_is_pause = record {
-  long = λ config image long. collected_length config image;
-  pauses = λ c image g asking long r due.
-      subst (λ after. IsPaused c (image_view c image) after g asking) (sym (image_is_collected c image long (representing_can_collect c image g asking r)))
-      (collected_paused c image g asking r due);
+  long = λ config image image_long. collected_length config image;
+  pauses = λ given_config image graph asking image_long represents due.
+      subst (λ after. IsPaused given_config (image_view given_config image) after graph asking) (sym (image_is_collected given_config image image_long (representing_can_collect given_config image graph asking represents)))
+      (collected_paused given_config image graph asking represents due);
 }

@@ -45,7 +45,7 @@ collected config memory word = if is_room_needed memory then room_made config me
 
 -- the words of the image after it, in the order of their places
 abbrev pub collect_image : Change
-collect_image c image = map (λ k. collected c (image_view c image) (name_of c (image_start c + k))) (range_with_len 0 (image_words c))
+collect_image config image = map (λ index. collected config (image_view config image) (name_of config (image_start config + index))) (range_with_len 0 (image_words config))
 
 -- What a pause needs of the words: they hold a graph, by pieces each of which says how many words it has; nothing is collected while
 -- nothing runs; while objects are marked, what holds then; and where room is needed while a cycle runs, the cycle can be ended.

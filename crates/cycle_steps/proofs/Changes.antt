@@ -1,4 +1,5 @@
 -- What a step owes that changes only words of marking, and who records and scans what.
+use Rattle.heap_words.specs.Phases.{marking_phase}
 use Rattle.std.proofs.Common.{◌≡◌, ◌≢◌, ℕ, ◌<◌, ◌≤◌, ◌⊎◌, ⊎_elim, inl, Bool, true, false, Option, Some, refl, sym, ap, ◌∙◌, arith}
 use Rattle.std.specs.Prelude.{if◌then◌else◌}
 use Rattle.std.proofs.Math.Path.{fun_ext}
@@ -30,24 +31,24 @@ abbrev pub with_marking : (Word → ℕ) → (Word → ℕ) → Word → ℕ
 with_marking memory marking word = if is_marking word then marking word else memory word
 
 -- other words stay where a word of marking is written
-other_stays : (memory : Word → ℕ) (t : Touch) (word : Word) → is_marking t.word ≡ true → is_marking word ≡ false → touched memory t word ≡ memory word
-other_stays memory t word is other = ⊎_elim
-    (λ (same : same_word t.word word ≡ true). absurd (false≢true (sym other ∙ ap is_marking (sym (same_word_true t.word word same)) ∙ is)))
-    (λ (differs : same_word t.word word ≡ false). cond-false (same_word t.word word) _ _ differs)
-    (cases_Bool (same_word t.word word))
+other_stays : (memory : Word → ℕ) (access : Touch) (word : Word) → is_marking access.word ≡ true → is_marking word ≡ false → touched memory access word ≡ memory word
+other_stays memory access word of_marking not_marking = ⊎_elim
+    (λ (same_name : same_word access.word word ≡ true). absurd (false≢true (sym not_marking ∙ ap is_marking (sym (same_word_true access.word word same_name)) ∙ of_marking)))
+    (λ (words_differ : same_word access.word word ≡ false). cond-false (same_word access.word word) _ _ words_differ)
+    (cases_Bool (same_word access.word word))
 
 -- an access to a word of marking changes only words of marking
-pub marking_touched : (memory : Word → ℕ) (t : Touch) → is_marking t.word ≡ true → with_marking memory (touched memory t) ≡ touched memory t
-marking_touched memory t is = fun_ext (λ word. ⊎_elim
+pub marking_touched : (memory : Word → ℕ) (access : Touch) → is_marking access.word ≡ true → with_marking memory (touched memory access) ≡ touched memory access
+marking_touched memory access marks_word = fun_ext (λ word. ⊎_elim
     (λ (of_marking : is_marking word ≡ true). cond-true (is_marking word) _ _ of_marking)
-    (λ (other : is_marking word ≡ false). cond-false (is_marking word) _ _ other ∙ sym (other_stays memory t word is other))
+    (λ (not_marking : is_marking word ≡ false). cond-false (is_marking word) _ _ not_marking ∙ sym (other_stays memory access word marks_word not_marking))
     (cases_Bool (is_marking word)))
 
 -- with its own words a memory is itself
 pub same_marking : (memory : Word → ℕ) → with_marking memory memory ≡ memory
 same_marking memory = fun_ext (λ word. ⊎_elim
     (λ (of_marking : is_marking word ≡ true). cond-true (is_marking word) _ _ of_marking)
-    (λ (other : is_marking word ≡ false). cond-false (is_marking word) _ _ other)
+    (λ (not_marking : is_marking word ≡ false). cond-false (is_marking word) _ _ not_marking)
     (cases_Bool (is_marking word)))
 
 -- and so a load changes none
@@ -62,9 +63,9 @@ module _ (config : Config) (world : World) (seat : ℕ) (marking : Word → ℕ)
   -- What the change keeps: units that are claimed, what is grey and what is noted stay so, each field of the snapshot that a scan has still to come to is such
   -- a one, or done; marks and entries are objects; and what is another seat's stays as it is.
   pub record IsMarkingStep : Type 0 where
-    pub phase : world.memory Phase ≡ 1
+    pub phase : world.memory Phase ≡ marking_phase
     pub claims : world.memory Claim ≤ marking Claim
-    pub greys : (a : ℕ) → HasMark config (λ number. world.memory (Grey number)) a → HasMark config (λ number. marking (Grey number)) a
+    pub greys : (asked_address : ℕ) → HasMark config (λ number. world.memory (Grey number)) asked_address → HasMark config (λ number. marking (Grey number)) asked_address
     pub noted : (address : ℕ) → NotedIn config world address → IsNoted config (λ number. marking (Grey number)) (λ mutator. marking (Count mutator)) (λ mutator index. marking (Buffer mutator index)) recording address
     pub scanned : (address refs nums index : ℕ) (name : Name) → world.ghost.snapshot.block address ≡ Some (thing name refs nums) → index < refs
         → IsToScan config (λ number. world.memory (Black number)) world.ghost.scanning address index
@@ -74,8 +75,8 @@ module _ (config : Config) (world : World) (seat : ℕ) (marking : Word → ℕ)
     pub entries : AreEntries config (λ mutator. marking (Count mutator)) (λ mutator index. marking (Buffer mutator index)) world.block
     pub counts : (mutator : ℕ) → mutator ≢ seat → marking (Count mutator) ≡ world.memory (Count mutator)
     pub buffers : (mutator index : ℕ) → mutator ≢ seat → marking (Buffer mutator index) ≡ world.memory (Buffer mutator index)
-    pub recorded : (j : ℕ) → j ≢ seat → recording j ≡ world.ghost.recording j
-    pub scans : (j : ℕ) → j ≢ seat → scanning j ≡ world.ghost.scanning j
+    pub recorded : (asked_seat : ℕ) → asked_seat ≢ seat → recording asked_seat ≡ world.ghost.recording asked_seat
+    pub scans : (asked_seat : ℕ) → asked_seat ≢ seat → scanning asked_seat ≡ world.ghost.scanning asked_seat
 
   module _ (shared : Shared config world) (step : IsMarkingStep) where
     -- no reference of the snapshot is lost
@@ -91,12 +92,12 @@ module _ (config : Config) (world : World) (seat : ℕ) (marking : Word → ℕ)
       old = shared.marked.old;
       kept = shared.marked.kept;
       floors = shared.marked.floors;
-      marking = λ on. record {
-        older = (shared.marked.marking on).older;
-        promises = (shared.marked.marking on).promises;
-        deads = (shared.marked.marking on).deads;
-        young = (shared.marked.marking on).young;
-        tams_are = (shared.marked.marking on).tams_are;
+      marking = λ marking_on. record {
+        older = (shared.marked.marking marking_on).older;
+        promises = (shared.marked.marking marking_on).promises;
+        deads = (shared.marked.marking marking_on).deads;
+        young = (shared.marked.marking marking_on).young;
+        tams_are = (shared.marked.marking marking_on).tams_are;
         greys = step.grey_marks;
         blacks = step.black_marks;
         entries = step.entries;
@@ -107,19 +108,19 @@ module _ (config : Config) (world : World) (seat : ℕ) (marking : Word → ℕ)
     evacuating_after : IsEvacuating config (world.memory Phase) (world.memory Cset) (world.memory Evac) (marking Claim) (world.memory Free) (λ region. world.memory (Top region)) (λ region. world.memory (Tams region)) (λ address. world.memory (Heap address)) (λ number. marking (Black number))
         world.block world.ghost.owner world.ghost.copying world.ghost.working
     evacuating_after =
-        let other : 2 ≤ world.memory Phase → ⊥ = λ on. (let is = step.phase in omega (arith, is, on)) in
-        let was = shared.evacuated in
+        let not_evacuating : 2 ≤ world.memory Phase → ⊥ = λ evacuating_on. (let phase_is = step.phase in omega (arith, phase_is, evacuating_on)) in
+        let evacuated_before = shared.evacuated in
         record {
-          moved = was.moved;
-          counted = was.counted;
-          aside = was.aside;
-          kept = λ on. absurd (other on);
-          units = λ on. absurd (other (omega (arith, on)));
+          moved = evacuated_before.moved;
+          counted = evacuated_before.counted;
+          aside = evacuated_before.aside;
+          kept = λ evacuating_on. absurd (not_evacuating evacuating_on);
+          units = λ evacuating_on. absurd (not_evacuating (omega (arith, evacuating_on)));
         }
 
     -- nothing changes of copies
-    copies_after : (j : ℕ) → RelyCopies config j world world_after
-    copies_after j = rely_copies config world world_after j (same_plot config world world_after refl refl refl (λ r is. refl)) refl refl (λ a k b seated counted inside is from below. refl)
+    copies_after : (other_seat : ℕ) → RelyCopies config other_seat world world_after
+    copies_after other_seat = rely_copies config world world_after other_seat (same_plot config world world_after refl refl refl (λ region stands. refl)) refl refl (λ address offset body seated counted inside stands from word_below. refl)
 
     -- machines share what they should
     pub shared_after : Shared config world_after
@@ -131,22 +132,22 @@ module _ (config : Config) (world : World) (seat : ℕ) (marking : Word → ℕ)
       unwritten = shared.unwritten;
       marked = snapshot_after;
       evacuated = evacuating_after;
-      updated = λ on. (let is = step.phase in absurd (omega (arith, is, on)));
+      updated = λ updating_on. (let phase_is = step.phase in absurd (omega (arith, phase_is, updating_on)));
       pinned = shared.pinned;
     }
 
     -- what holds of marking holds
     marks_kept : KeepsMarks config world world_after
-    marks_kept = record { phase = refl; snapshot = refl; markable = λ on a is. is; shapes = λ address is. refl; noted = step.noted }
+    marks_kept = record { phase = refl; snapshot = refl; markable = λ marking_on markable_address stands. stands; shapes = λ address stands. refl; noted = step.noted }
 
     -- the facts of the seat's machine stand
     pub keeps_after : Keeps config seat world world_after
     keeps_after = record {
-      names = λ a name is. is;
-      targets = λ address refs nums name is. is;
-      promises = λ a words is. is;
-      no_promises = λ address words is. is;
-      promise_words = λ address words k is below. refl;
+      names = λ piece_address name stands. stands;
+      targets = λ address refs nums name stands. stands;
+      promises = λ piece_address words stands. stands;
+      no_promises = λ address words stands. stands;
+      promise_words = λ address words offset stands word_below. refl;
       root_words = λ i. refl;
       roots = λ i. refl;
       pin_words = λ index. refl;
@@ -159,20 +160,20 @@ module _ (config : Config) (world : World) (seat : ℕ) (marking : Word → ℕ)
     }
 
     -- others can rely on what they knew
-    pub others_after : (j : ℕ) → j ≢ seat → Rely config j world world_after
-    others_after j differs = record {
-      names = λ a name is. is;
-      targets = λ address refs nums name is. is;
-      rooms = λ a x is room. is;
-      no_rooms = λ a x is room. is;
-      room_words = λ a k x is room below. refl;
-      promises = λ a words is. is;
-      no_promises = λ address words is. is;
-      promise_words = λ address words k is below. refl;
+    pub others_after : (other_seat : ℕ) → other_seat ≢ seat → Rely config other_seat world world_after
+    others_after other_seat seats_differ = record {
+      names = λ piece_address name stands. stands;
+      targets = λ address refs nums name stands. stands;
+      rooms = λ piece_address piece stands room. stands;
+      no_rooms = λ piece_address piece stands room. stands;
+      room_words = λ piece_address place piece stands room word_below. refl;
+      promises = λ piece_address words stands. stands;
+      no_promises = λ address words stands. stands;
+      promise_words = λ address words place stands word_below. refl;
       current = refl;
-      opens = λ r is. is;
-      owners = λ region is. is;
-      tops = λ r is. refl;
+      opens = λ any_region stands. stands;
+      owners = λ region stands. stands;
+      tops = λ any_region stands. refl;
       root_words = λ i. refl;
       roots = λ i. refl;
       pin_words = λ index. refl;
@@ -181,26 +182,26 @@ module _ (config : Config) (world : World) (seat : ℕ) (marking : Word → ℕ)
       wait = refl;
       answer = refl;
       state = refl;
-      asked = λ is. is;
+      asked = λ stands. stands;
       marks = record {
         keeps = marks_kept;
-        recording = step.recorded j differs;
-        scanning = step.scans j differs;
-        entries = step.counts j differs;
-        buffer = λ k. step.buffers j k differs;
+        recording = step.recorded other_seat seats_differ;
+        scanning = step.scans other_seat seats_differ;
+        entries = step.counts other_seat seats_differ;
+        buffer = λ place. step.buffers other_seat place seats_differ;
         greys = step.greys;
       };
-      copies = copies_after j;
+      copies = copies_after other_seat;
       fields = record {
-        tams = λ r. refl;
+        tams = λ any_region. refl;
         limits = λ region. refl;
-        deads = λ a words is. is;
-        fillers = λ a words is. is;
-        claims = λ all. (let more = step.claims in omega (arith, all, more));
-        fields = λ on a refs nums k name is below. inl refl;
+        deads = λ piece_address words stands. stands;
+        fillers = λ piece_address words stands. stands;
+        claims = λ all_claimed. (let more_claimed = step.claims in omega (arith, all_claimed, more_claimed));
+        fields = λ updating_on piece_address refs nums place name stands word_below. inl refl;
       };
     }
 
     -- the step owes no more
-    pub step_after : (t : Touch) (facts : World → Type 0) → with_marking world.memory marking ≡ touched world.memory t → facts world_after → PartStep config world seat t (λ w. facts w × SameWork world w seat × (w.block ≡ world.block))
-    step_after t facts memory own = record { world = world_after; memory = memory; graph = refl; shared = shared_after; own = (own, record { copying = refl; working = refl }, refl); keeps = keeps_after; others = others_after }
+    pub step_after : (made_touch : Touch) (facts : World → Type 0) → with_marking world.memory marking ≡ touched world.memory made_touch → facts world_after → PartStep config world seat made_touch (λ later_world. facts later_world × SameWork world later_world seat × (later_world.block ≡ world.block))
+    step_after made_touch facts memory_touched own_facts = record { world = world_after; memory = memory_touched; graph = refl; shared = shared_after; own = (own_facts, record { copying = refl; working = refl }, refl); keeps = keeps_after; others = others_after }

@@ -9,22 +9,22 @@ use Rattle.cycle_steps.proofs.Scans.{each_scans, can_scan_stays, hint_scans}
 -- what the steps of recording owe
 pub recording_steps : RecordingSteps
 recording_steps = record {
-  begins = λ c u mutator v seated marking object idle scanless roomless shared. takes_in_hand c u mutator v seated marking object idle scanless roomless shared;
+  begins = λ given_config world_now mutator taken_address seated marking object idle scanless roomless shared. takes_in_hand given_config world_now mutator taken_address seated marking object idle scanless roomless shared;
   steps = λ config mutator address. record {
-    stands = λ world at given can. record { stays = λ w rely. can_record_stays config world w mutator rely address at can; inside = record_inside config world mutator address at can };
-    goes = λ u at going shared can. record { step = each_records config u mutator address at going shared can; fits = found_is_fit config u.memory mutator address at can.words };
+    stands = λ world spot world_shared can_record. record { stays = λ later_world rely. can_record_stays config world later_world mutator rely address spot can_record; inside = record_inside config world mutator address spot can_record };
+    goes = λ world_now spot going shared can_record. record { step = each_records config world_now mutator address spot going shared can_record; fits = found_is_fit config world_now.memory mutator address spot can_record.words };
   };
-  fits = λ config u mutator address at can. found_is_fit config u.memory mutator address at can.words;
-  noted = λ config world mutator recorded at can. record_noted config world mutator recorded at can;
+  fits = λ config world_now mutator address spot can_record. found_is_fit config world_now.memory mutator address spot can_record.words;
+  noted = λ config world mutator recorded spot can_record. record_noted config world mutator recorded spot can_record;
 }
 
 -- and those of scanning
 pub scanning_steps : ScanningSteps
 scanning_steps = record {
-  begins = λ c u seat seated marking unrecorded idle roomless. record { seated = seated; phase = marking; scanning = idle; records_none = unrecorded; ready = refl; hands = roomless; facts = tt };
-  hinted = λ config world seat address can. hint_scans config world seat address can;
+  begins = λ given_config world_now seat seated marking unrecorded idle roomless. record { seated = seated; phase = marking; scanning = idle; records_none = unrecorded; ready = refl; hands = roomless; facts = tt };
+  hinted = λ config world seat address can_scan. hint_scans config world seat address can_scan;
   steps = λ config seat. record {
-    stands = λ u at given can. record { stays = λ w rely. can_scan_stays config u w seat rely at can; inside = scan_inside config at can.ready };
-    goes = λ u at going shared can. let step = each_scans config u seat at going shared can in record { step = step; fits = step.own.0.ready };
+    stands = λ world_now spot world_shared can_scan. record { stays = λ later_world rely. can_scan_stays config world_now later_world seat rely spot can_scan; inside = scan_inside config spot can_scan.ready };
+    goes = λ world_now spot going shared can_scan. let step = each_scans config world_now seat spot going shared can_scan in record { step = step; fits = step.own.0.ready };
   };
 }

@@ -1,4 +1,5 @@
 -- The steps by which a mutator records an address.
+use Rattle.heap_words.specs.Phases.{marking_phase}
 use Rattle.std.proofs.Common.{◌≡◌, ◌≢◌, ℕ, ◌+◌, ◌<◌, ◌≤◌, true, false, Option, Some, None, ⊎_elim, inl, inr, refl, sym, ap, ◌∙◌, subst, arith}
 use Rattle.std.specs.Prelude.{◌==◌, ◌&&◌}
 use Rattle.std.specs.Int.{bit_at}
@@ -35,18 +36,18 @@ RecordStep config world mutator recorded spot =
 recorded_noted : (config : Config) (memory : Word → ℕ) (recording : ℕ → Option ℕ) (mutator address : ℕ) → mutator < config.mutators → IsRecorded config memory mutator address
     → IsNoted config (λ number. memory (Grey number)) (λ mutator. memory (Count mutator)) (λ mutator entry. memory (Buffer mutator entry)) recording address
 recorded_noted config memory recording mutator address seated (inl mark) = IsNoted.by_mark mark
-recorded_noted config memory recording mutator address seated (inr (k, below, is)) = IsNoted.by_entry mutator k seated below is
+recorded_noted config memory recording mutator address seated (inr (noted_entry, entry_below, entry_is)) = IsNoted.by_entry mutator noted_entry seated entry_below entry_is
 
 -- until then the address is in hand
-in_hand : (spot : RememberSpot) (v : ℕ) → is_ended spot ≡ false → recording_of spot v ≡ Some v
-in_hand Recorded v going = absurd (cc (going))
-in_hand _ v going = refl
+in_hand : (spot : RememberSpot) (value : ℕ) → is_ended spot ≡ false → recording_of spot value ≡ Some value
+in_hand Recorded value spot_going = absurd (cc (spot_going))
+in_hand _ value spot_going = refl
 
 -- the address is noted, in hand or recorded
 noted_at : (config : Config) (memory : Word → ℕ) (recording : ℕ → Option ℕ) (mutator address : ℕ) (spot : RememberSpot) → mutator < config.mutators → recording mutator ≡ recording_of spot address → CanRemember config memory mutator address spot
     → IsNoted config (λ number. memory (Grey number)) (λ mutator. memory (Count mutator)) (λ mutator entry. memory (Buffer mutator entry)) recording address
-noted_at config memory recording mutator address Recorded seated holds can = recorded_noted config memory recording mutator address seated can.facts
-noted_at config memory recording mutator address _ seated holds can = IsNoted.by_hand mutator seated holds
+noted_at config memory recording mutator address Recorded seated recording_is can_remember = recorded_noted config memory recording mutator address seated can_remember.facts
+noted_at config memory recording mutator address _ seated recording_is can_remember = IsNoted.by_hand mutator seated recording_is
 
 module _ (config : Config) (world : World) (mutator recorded : ℕ) where
   -- the words after the access of a spot
@@ -72,27 +73,27 @@ module _ (config : Config) (world : World) (mutator recorded : ℕ) where
   of_marking Recorded = refl
 
   -- the buffers of others stay
-  counts_else : (spot : RememberSpot) (j : ℕ) → j ≢ mutator → after spot (Count j) ≡ world.memory (Count j)
-  counts_else LoadCount j differs = cond-false (mutator == j) _ _ (ne_eqb mutator j (λ e. differs (sym e)))
-  counts_else ClearCount j differs = cond-false (mutator == j) _ _ (ne_eqb mutator j (λ e. differs (sym e)))
-  counts_else (StoreCount entry) j differs = cond-false (mutator == j) _ _ (ne_eqb mutator j (λ e. differs (sym e)))
-  counts_else Recorded j differs = cond-false (mutator == j) _ _ (ne_eqb mutator j (λ e. differs (sym e)))
-  counts_else _ j differs = refl
+  counts_else : (spot : RememberSpot) (other_mutator : ℕ) → other_mutator ≢ mutator → after spot (Count other_mutator) ≡ world.memory (Count other_mutator)
+  counts_else LoadCount other_mutator mutators_differ = cond-false (mutator == other_mutator) _ _ (ne_eqb mutator other_mutator (λ same_mutator. mutators_differ (sym same_mutator)))
+  counts_else ClearCount other_mutator mutators_differ = cond-false (mutator == other_mutator) _ _ (ne_eqb mutator other_mutator (λ same_mutator. mutators_differ (sym same_mutator)))
+  counts_else (StoreCount entry) other_mutator mutators_differ = cond-false (mutator == other_mutator) _ _ (ne_eqb mutator other_mutator (λ same_mutator. mutators_differ (sym same_mutator)))
+  counts_else Recorded other_mutator mutators_differ = cond-false (mutator == other_mutator) _ _ (ne_eqb mutator other_mutator (λ same_mutator. mutators_differ (sym same_mutator)))
+  counts_else _ other_mutator mutators_differ = refl
 
-  buffers_else : (spot : RememberSpot) (j index : ℕ) → j ≢ mutator → after spot (Buffer j index) ≡ world.memory (Buffer j index)
-  buffers_else (LoadEntry entry) j index differs = cond-false ((mutator == j) && (entry == index)) _ _ (ap (λ b. b && (entry == index)) (ne_eqb mutator j (λ e. differs (sym e))))
-  buffers_else (StoreEntry entry) j index differs = cond-false ((mutator == j) && (entry == index)) _ _ (ap (λ b. b && (entry == index)) (ne_eqb mutator j (λ e. differs (sym e))))
-  buffers_else _ j index differs = refl
+  buffers_else : (spot : RememberSpot) (other_mutator index : ℕ) → other_mutator ≢ mutator → after spot (Buffer other_mutator index) ≡ world.memory (Buffer other_mutator index)
+  buffers_else (LoadEntry entry) other_mutator index mutators_differ = cond-false ((mutator == other_mutator) && (entry == index)) _ _ (ap (λ mutator_test. mutator_test && (entry == index)) (ne_eqb mutator other_mutator (λ same_mutator. mutators_differ (sym same_mutator))))
+  buffers_else (StoreEntry entry) other_mutator index mutators_differ = cond-false ((mutator == other_mutator) && (entry == index)) _ _ (ap (λ mutator_test. mutator_test && (entry == index)) (ne_eqb mutator other_mutator (λ same_mutator. mutators_differ (sym same_mutator))))
+  buffers_else _ other_mutator index mutators_differ = refl
 
   -- what is grey stays so
-  greys_stay : (spot : RememberSpot) (a : ℕ) → HasMark config (λ number. world.memory (Grey number)) a → HasMark config (λ number. after spot (Grey number)) a
-  greys_stay (MarkEntry entry found) a mark = mark_stays config (λ number. world.memory (Grey number)) found a mark
-  greys_stay _ a mark = mark
+  greys_stay : (spot : RememberSpot) (grey_address : ℕ) → HasMark config (λ number. world.memory (Grey number)) grey_address → HasMark config (λ number. after spot (Grey number)) grey_address
+  greys_stay (MarkEntry entry found) grey_address mark = mark_stays config (λ number. world.memory (Grey number)) found grey_address mark
+  greys_stay _ grey_address mark = mark
 
   -- black bits stay
-  scans_stay : (spot : RememberSpot) (scanning : ℕ → Option Scan) (address k : ℕ) → IsToScan config (λ number. world.memory (Black number)) scanning address k → IsToScan config (λ number. after spot (Black number)) scanning address k
-  scans_stay Recorded scanning address k scan = scan
-  scans_stay _ scanning address k scan = scan
+  scans_stay : (spot : RememberSpot) (scanning : ℕ → Option Scan) (address index : ℕ) → IsToScan config (λ number. world.memory (Black number)) scanning address index → IsToScan config (λ number. after spot (Black number)) scanning address index
+  scans_stay Recorded scanning address index scan = scan
+  scans_stay _ scanning address index scan = scan
 
   claims_stay : (spot : RememberSpot) → after spot Claim ≡ world.memory Claim
   claims_stay Recorded = refl
@@ -105,108 +106,108 @@ module _ (config : Config) (world : World) (mutator recorded : ℕ) where
   -- entries that a load leaves
   loaded_entries : AreEntries config (λ mutator. world.memory (Count mutator)) (λ mutator index. world.memory (Buffer mutator index)) world.block → mutator < config.mutators → (after_load : Word → ℕ) → world.memory ≡ after_load
       → (index : ℕ) → index < after_load (Count mutator) → IsMarkable world.block (after_load (Buffer mutator index))
-  loaded_entries entries seated after_load same =
-      subst (λ m. (index : ℕ) → index < m (Count mutator) → IsMarkable world.block (m (Buffer mutator index))) same (λ index below. entries.of_objects mutator index seated below)
+  loaded_entries entries seated after_load same_memory =
+      subst (λ memory. (index : ℕ) → index < memory (Count mutator) → IsMarkable world.block (memory (Buffer mutator index))) same_memory (λ index index_below. entries.of_objects mutator index seated index_below)
 
-  module _ (spot : RememberSpot) (going : is_ended spot ≡ false) (shared : Shared config world) (can : CanRecord config world mutator recorded spot) where
+  module _ (spot : RememberSpot) (spot_going : is_ended spot ≡ false) (shared : Shared config world) (can_record : CanRecord config world mutator recorded spot) where
     -- what the step keeps of the words by themselves
     remembers : RememberStep config world.memory mutator recorded spot
-    remembers = each_remembers config world.memory mutator recorded spot going (markable_word config world recorded shared can.markable) can.words
+    remembers = each_remembers config world.memory mutator recorded spot spot_going (markable_word config world recorded shared can_record.markable) can_record.words
 
     -- what is noted stays so
     noted_then : (address : ℕ) → NotedIn config world address → IsNoted config (λ number. after spot (Grey number)) (λ mutator. after spot (Count mutator)) (λ mutator entry. after spot (Buffer mutator entry)) (hands spot) address
     noted_then address (IsNoted.by_mark mark) = IsNoted.by_mark (greys_stay spot address mark)
-    noted_then address (IsNoted.by_entry t other_entry inside below is) = ⊎_elim
-        (λ (same : mutator ≡ t).
-        let own : other_entry < world.memory (Count mutator) = subst (λ mutator. other_entry < world.memory (Count mutator)) (sym same) below in
-        let entry : world.memory (Buffer mutator other_entry) ≡ address = ap (λ mutator. world.memory (Buffer mutator other_entry)) same ∙ is in
-        recorded_noted config (after spot) (hands spot) mutator address can.seated (remembers.keeps address (inr (other_entry, own, entry))))
-        (λ (other : mutator ≢ t).
-        IsNoted.by_entry t other_entry inside (subst (λ n. other_entry < n) (sym (counts_else spot t (λ e. other (sym e)))) below) (buffers_else spot t other_entry (λ e. other (sym e)) ∙ is))
-        (cases_eq mutator t)
-    noted_then address (IsNoted.by_hand t inside is) = ⊎_elim
-        (λ (same : mutator ≡ t).
-        let both : Some recorded ≡ Some address = sym (in_hand spot recorded going) ∙ sym can.recording ∙ ap world.ghost.recording same ∙ is in
-        subst (IsNoted config (λ number. after spot (Grey number)) (λ mutator. after spot (Count mutator)) (λ mutator entry. after spot (Buffer mutator entry)) (hands spot)) (same_Some recorded address both)
-        (noted_at config (after spot) (hands spot) mutator recorded (next spot) can.seated (updated_there world.ghost.recording mutator (recording_of (next spot) recorded)) remembers.next))
-        (λ (other : mutator ≢ t). IsNoted.by_hand t inside (updated_else world.ghost.recording mutator (recording_of (next spot) recorded) t other ∙ is))
-        (cases_eq mutator t)
+    noted_then address (IsNoted.by_entry noter noted_entry noter_inside entry_below is_noted) = ⊎_elim
+        (λ (same_mutator : mutator ≡ noter).
+        let own_entry : noted_entry < world.memory (Count mutator) = subst (λ mutator. noted_entry < world.memory (Count mutator)) (sym same_mutator) entry_below in
+        let entry : world.memory (Buffer mutator noted_entry) ≡ address = ap (λ mutator. world.memory (Buffer mutator noted_entry)) same_mutator ∙ is_noted in
+        recorded_noted config (after spot) (hands spot) mutator address can_record.seated (remembers.keeps address (inr (noted_entry, own_entry, entry))))
+        (λ (other_mutator : mutator ≢ noter).
+        IsNoted.by_entry noter noted_entry noter_inside (subst (λ count. noted_entry < count) (sym (counts_else spot noter (λ noter_same. other_mutator (sym noter_same)))) entry_below) (buffers_else spot noter noted_entry (λ noter_same. other_mutator (sym noter_same)) ∙ is_noted))
+        (cases_eq mutator noter)
+    noted_then address (IsNoted.by_hand noter noter_inside is_noted) = ⊎_elim
+        (λ (same_mutator : mutator ≡ noter).
+        let same_address : Some recorded ≡ Some address = sym (in_hand spot recorded spot_going) ∙ sym can_record.recording ∙ ap world.ghost.recording same_mutator ∙ is_noted in
+        subst (IsNoted config (λ number. after spot (Grey number)) (λ mutator. after spot (Count mutator)) (λ mutator entry. after spot (Buffer mutator entry)) (hands spot)) (same_Some recorded address same_address)
+        (noted_at config (after spot) (hands spot) mutator recorded (next spot) can_record.seated (updated_there world.ghost.recording mutator (recording_of (next spot) recorded)) remembers.next))
+        (λ (other_mutator : mutator ≢ noter). IsNoted.by_hand noter noter_inside (updated_else world.ghost.recording mutator (recording_of (next spot) recorded) noter other_mutator ∙ is_noted))
+        (cases_eq mutator noter)
 
   -- the bits that are set are of objects
   greys_then : (spot : RememberSpot) → Shared config world → CanRecord config world mutator recorded spot → AreMarks config (λ number. after spot (Grey number)) world.block
-  greys_then (MarkEntry entry found) shared can =
-      let entries = (shared.marked.marking can.phase).entries in
+  greys_then (MarkEntry entry found) shared can_record =
+      let entries = (shared.marked.marking can_record.phase).entries in
       let object : IsMarkable world.block found =
-      subst (IsMarkable world.block) can.words.facts.3 (entries.of_objects mutator entry can.seated (let full = can.words.facts.0 in let below = can.words.facts.1 in omega (arith, full, below))) in
-      marks_with config (λ number. world.memory (Grey number)) world.block found (markable_word config world found shared object) object (shared.marked.marking can.phase).greys
-  greys_then _ shared can = (shared.marked.marking can.phase).greys
+      subst (IsMarkable world.block) can_record.words.facts.3 (entries.of_objects mutator entry can_record.seated (let buffer_full = can_record.words.facts.0 in let entry_below = can_record.words.facts.1 in omega (arith, buffer_full, entry_below))) in
+      marks_with config (λ number. world.memory (Grey number)) world.block found (markable_word config world found shared object) object (shared.marked.marking can_record.phase).greys
+  greys_then _ shared can_record = (shared.marked.marking can_record.phase).greys
 
   -- and so are the entries
   own_entries : (spot : RememberSpot) → Shared config world → CanRecord config world mutator recorded spot → (index : ℕ) → index < after spot (Count mutator) → IsMarkable world.block (after spot (Buffer mutator index))
-  own_entries LoadCount shared can index below = loaded_entries (shared.marked.marking can.phase).entries can.seated (after LoadCount) (load_keeps world.memory (Count mutator)) index below
-  own_entries (LoadEntry entry) shared can index below =
-      loaded_entries (shared.marked.marking can.phase).entries can.seated (after (LoadEntry entry)) (load_keeps world.memory (Buffer mutator entry)) index below
-  own_entries (MarkEntry entry found) shared can index below = (shared.marked.marking can.phase).entries.of_objects mutator index can.seated below
-  own_entries ClearCount shared can index below =
-      let none : after ClearCount (Count mutator) ≡ 0 = cond-true (mutator == mutator) _ _ (eq-eqb mutator mutator refl) in
-      absurd (omega (arith, below, none))
-  own_entries (StoreEntry entry) shared can index below =
-      let is_count = can.words.facts.0 in
-      let other : entry ≢ index = omega (arith, below, is_count) in
-      let stays : after (StoreEntry entry) (Buffer mutator index) ≡ world.memory (Buffer mutator index) =
+  own_entries LoadCount shared can_record index index_below = loaded_entries (shared.marked.marking can_record.phase).entries can_record.seated (after LoadCount) (load_keeps world.memory (Count mutator)) index index_below
+  own_entries (LoadEntry entry) shared can_record index index_below =
+      loaded_entries (shared.marked.marking can_record.phase).entries can_record.seated (after (LoadEntry entry)) (load_keeps world.memory (Buffer mutator entry)) index index_below
+  own_entries (MarkEntry entry found) shared can_record index index_below = (shared.marked.marking can_record.phase).entries.of_objects mutator index can_record.seated index_below
+  own_entries ClearCount shared can_record index index_below =
+      let no_entries : after ClearCount (Count mutator) ≡ 0 = cond-true (mutator == mutator) _ _ (eq-eqb mutator mutator refl) in
+      absurd (omega (arith, index_below, no_entries))
+  own_entries (StoreEntry entry) shared can_record index index_below =
+      let is_count = can_record.words.facts.0 in
+      let other_entry : entry ≢ index = omega (arith, index_below, is_count) in
+      let entry_stays : after (StoreEntry entry) (Buffer mutator index) ≡ world.memory (Buffer mutator index) =
       cond-false ((mutator == mutator) && (entry == index)) _ _ (grind (arith, nat_tests)) in
-      subst (IsMarkable world.block) (sym stays) ((shared.marked.marking can.phase).entries.of_objects mutator index can.seated below)
-  own_entries (StoreCount entry) shared can index below =
-      let is_count = can.words.facts.0 in
-      let more : after (StoreCount entry) (Count mutator) ≡ entry + 1 = cond-true (mutator == mutator) _ _ (eq-eqb mutator mutator refl) in
+      subst (IsMarkable world.block) (sym entry_stays) ((shared.marked.marking can_record.phase).entries.of_objects mutator index can_record.seated index_below)
+  own_entries (StoreCount entry) shared can_record index index_below =
+      let is_count = can_record.words.facts.0 in
+      let one_more : after (StoreCount entry) (Count mutator) ≡ entry + 1 = cond-true (mutator == mutator) _ _ (eq-eqb mutator mutator refl) in
       ⊎_elim
-      (λ (last : index ≡ entry). subst (IsMarkable world.block) (sym (ap (λ entry. world.memory (Buffer mutator entry)) last ∙ can.words.facts.2)) can.markable)
-      (λ (earlier : index ≢ entry). (shared.marked.marking can.phase).entries.of_objects mutator index can.seated (omega (arith, below, more, is_count, earlier)))
+      (λ (last_entry : index ≡ entry). subst (IsMarkable world.block) (sym (ap (λ entry. world.memory (Buffer mutator entry)) last_entry ∙ can_record.words.facts.2)) can_record.markable)
+      (λ (earlier : index ≢ entry). (shared.marked.marking can_record.phase).entries.of_objects mutator index can_record.seated (omega (arith, index_below, one_more, is_count, earlier)))
       (cases_eq index entry)
-  own_entries Recorded shared can index below = loaded_entries (shared.marked.marking can.phase).entries can.seated (after Recorded) (load_keeps world.memory (Count mutator)) index below
+  own_entries Recorded shared can_record index index_below = loaded_entries (shared.marked.marking can_record.phase).entries can_record.seated (after Recorded) (load_keeps world.memory (Count mutator)) index index_below
 
-  module _ (spot : RememberSpot) (going : is_ended spot ≡ false) (shared : Shared config world) (can : CanRecord config world mutator recorded spot) where
+  module _ (spot : RememberSpot) (spot_going : is_ended spot ≡ false) (shared : Shared config world) (can_record : CanRecord config world mutator recorded spot) where
     entries_then : AreEntries config (λ mutator. after spot (Count mutator)) (λ mutator entry. after spot (Buffer mutator entry)) world.block
     entries_then = record {
-      few = λ t inside. ⊎_elim
-          (λ (same : mutator ≡ t). subst (λ mutator. after spot (Count mutator) ≤ 8) same (remembers spot going shared can).next.buffer.few)
-          (λ (other : mutator ≢ t). subst (λ n. n ≤ 8) (sym (counts_else spot t (λ e. other (sym e)))) ((shared.marked.marking can.phase).entries.few t inside))
-          (cases_eq mutator t);
-      of_objects = λ t entry inside below. ⊎_elim
-          (λ (same : mutator ≡ t). subst (λ mutator. IsMarkable world.block (after spot (Buffer mutator entry))) same
-          (own_entries spot shared can entry (subst (λ mutator. entry < after spot (Count mutator)) (sym same) below)))
-          (λ (other : mutator ≢ t). subst (IsMarkable world.block) (sym (buffers_else spot t entry (λ e. other (sym e))))
-          ((shared.marked.marking can.phase).entries.of_objects t entry inside (subst (λ n. entry < n) (counts_else spot t (λ e. other (sym e))) below)))
-          (cases_eq mutator t);
+      few = λ asked_mutator mutator_inside. ⊎_elim
+          (λ (same_mutator : mutator ≡ asked_mutator). subst (λ mutator. after spot (Count mutator) ≤ 8) same_mutator (remembers spot spot_going shared can_record).next.buffer.few)
+          (λ (other_mutator : mutator ≢ asked_mutator). subst (λ count. count ≤ 8) (sym (counts_else spot asked_mutator (λ mutators_equal. other_mutator (sym mutators_equal)))) ((shared.marked.marking can_record.phase).entries.few asked_mutator mutator_inside))
+          (cases_eq mutator asked_mutator);
+      of_objects = λ asked_mutator entry mutator_inside entry_below. ⊎_elim
+          (λ (same_mutator : mutator ≡ asked_mutator). subst (λ mutator. IsMarkable world.block (after spot (Buffer mutator entry))) same_mutator
+          (own_entries spot shared can_record entry (subst (λ mutator. entry < after spot (Count mutator)) (sym same_mutator) entry_below)))
+          (λ (other_mutator : mutator ≢ asked_mutator). subst (IsMarkable world.block) (sym (buffers_else spot asked_mutator entry (λ mutators_equal. other_mutator (sym mutators_equal))))
+          ((shared.marked.marking can_record.phase).entries.of_objects asked_mutator entry mutator_inside (subst (λ count. entry < count) (counts_else spot asked_mutator (λ mutators_equal. other_mutator (sym mutators_equal))) entry_below)))
+          (cases_eq mutator asked_mutator);
     }
 
     -- so it is a step of marking
     is_marking_step : IsMarkingStep config world mutator (after spot) (hands spot) world.ghost.scanning
     is_marking_step = record {
-      phase = can.phase;
-      claims = (let same = claims_stay spot in omega (arith, same));
+      phase = can_record.phase;
+      claims = (let claims_same = claims_stay spot in omega (arith, claims_same));
       greys = greys_stay spot;
-      noted = noted_then spot going shared can;
-      scanned = λ address refs nums index name is below scan. inl (scans_stay spot world.ghost.scanning address index scan);
-      grey_marks = greys_then spot shared can;
-      black_marks = blacks_stay spot (shared.marked.marking can.phase).blacks;
+      noted = noted_then spot spot_going shared can_record;
+      scanned = λ address refs nums index name object_there index_below scan. inl (scans_stay spot world.ghost.scanning address index scan);
+      grey_marks = greys_then spot shared can_record;
+      black_marks = blacks_stay spot (shared.marked.marking can_record.phase).blacks;
       entries = entries_then;
       counts = counts_else spot;
       buffers = buffers_else spot;
-      recorded = λ j differs. updated_else world.ghost.recording mutator (recording_of (next spot) recorded) j (λ e. differs (sym e));
-      scans = λ j differs. refl;
+      recorded = λ other_mutator differs. updated_else world.ghost.recording mutator (recording_of (next spot) recorded) other_mutator (λ same_mutator. differs (sym same_mutator));
+      scans = λ other_mutator differs. refl;
     }
 
     -- what the mutator counts on then
     own_then : CanRecord config (world_after config world mutator (after spot) (hands spot) world.ghost.scanning) mutator recorded (next spot)
     own_then = record {
-      seated = can.seated;
-      phase = can.phase;
-      markable = can.markable;
+      seated = can_record.seated;
+      phase = can_record.phase;
+      markable = can_record.markable;
       recording = updated_there world.ghost.recording mutator (recording_of (next spot) recorded);
-      scanning = can.scanning;
-      hands = can.hands;
-      words = subst (λ memory. CanRemember config memory mutator recorded (next spot)) (sym (marking_touched world.memory (touch_at config mutator recorded spot) (of_marking spot))) (remembers spot going shared can).next;
+      scanning = can_record.scanning;
+      hands = can_record.hands;
+      words = subst (λ memory. CanRemember config memory mutator recorded (next spot)) (sym (marking_touched world.memory (touch_at config mutator recorded spot) (of_marking spot))) (remembers spot spot_going shared can_record).next;
     }
 
     -- each step
@@ -215,34 +216,34 @@ module _ (config : Config) (world : World) (mutator recorded : ℕ) where
         (λ world. CanRecord config world mutator recorded (next spot)) (marking_touched world.memory (touch_at config mutator recorded spot) (of_marking spot)) own_then
 
 -- A mutator takes an address in hand.
-module _ (config : Config) (world : World) (mutator address : ℕ) (seated : mutator < config.mutators) (marking : world.memory Phase ≡ 1) (object : IsMarkable world.block address)
-    (idle : world.ghost.recording mutator ≡ None) (scanless : world.ghost.scanning mutator ≡ None) (roomless : (a words : ℕ) → world.block a ≡ Some (hand mutator words) → ⊥) (shared : Shared config world) where
+module _ (config : Config) (world : World) (mutator address : ℕ) (seated : mutator < config.mutators) (marking : world.memory Phase ≡ marking_phase) (object : IsMarkable world.block address)
+    (idle : world.ghost.recording mutator ≡ None) (scanless : world.ghost.scanning mutator ≡ None) (roomless : (taken_address words : ℕ) → world.block taken_address ≡ Some (hand mutator words) → ⊥) (shared : Shared config world) where
   abbrev taken : ℕ → Option ℕ
   taken = updated world.ghost.recording mutator (Some address)
 
   -- nobody loses what was in hand
-  noted_taken : (x : ℕ) → NotedIn config world x → IsNoted config (λ number. world.memory (Grey number)) (λ mutator. world.memory (Count mutator)) (λ mutator entry. world.memory (Buffer mutator entry)) taken x
-  noted_taken x (IsNoted.by_mark mark) = IsNoted.by_mark mark
-  noted_taken x (IsNoted.by_entry t k inside below is) = IsNoted.by_entry t k inside below is
-  noted_taken x (IsNoted.by_hand t inside is) = ⊎_elim
-      (λ (same : mutator ≡ t). (let none : None ≡ Some x = sym idle ∙ ap world.ghost.recording same ∙ is in absurd (cc (none))))
-      (λ (other : mutator ≢ t). IsNoted.by_hand t inside (updated_else world.ghost.recording mutator (Some address) t other ∙ is))
-      (cases_eq mutator t)
+  noted_taken : (noted_address : ℕ) → NotedIn config world noted_address → IsNoted config (λ number. world.memory (Grey number)) (λ mutator. world.memory (Count mutator)) (λ mutator entry. world.memory (Buffer mutator entry)) taken noted_address
+  noted_taken noted_address (IsNoted.by_mark mark) = IsNoted.by_mark mark
+  noted_taken noted_address (IsNoted.by_entry noter noted_entry noter_inside entry_below is_noted) = IsNoted.by_entry noter noted_entry noter_inside entry_below is_noted
+  noted_taken noted_address (IsNoted.by_hand noter noter_inside is_noted) = ⊎_elim
+      (λ (same_mutator : mutator ≡ noter). (let no_address : None ≡ Some noted_address = sym idle ∙ ap world.ghost.recording same_mutator ∙ is_noted in absurd (cc (no_address))))
+      (λ (other_mutator : mutator ≢ noter). IsNoted.by_hand noter noter_inside (updated_else world.ghost.recording mutator (Some address) noter other_mutator ∙ is_noted))
+      (cases_eq mutator noter)
 
   taking_step : IsMarkingStep config world mutator world.memory taken world.ghost.scanning
   taking_step = record {
     phase = marking;
     claims = omega arith;
-    greys = λ a mark. mark;
+    greys = λ taken_address mark. mark;
     noted = noted_taken;
-    scanned = λ address refs nums index name is below scan. inl scan;
+    scanned = λ address refs nums index name object_there index_below scan. inl scan;
     grey_marks = (shared.marked.marking marking).greys;
     black_marks = (shared.marked.marking marking).blacks;
     entries = (shared.marked.marking marking).entries;
-    counts = λ j differs. refl;
-    buffers = λ j k differs. refl;
-    recorded = λ j differs. updated_else world.ghost.recording mutator (Some address) j (λ e. differs (sym e));
-    scans = λ j differs. refl;
+    counts = λ other_mutator differs. refl;
+    buffers = λ other_mutator entry differs. refl;
+    recorded = λ other_mutator differs. updated_else world.ghost.recording mutator (Some address) other_mutator (λ same_mutator. differs (sym same_mutator));
+    scans = λ other_mutator differs. refl;
   }
 
   -- a world with the address in hand, by its memory
@@ -260,7 +261,7 @@ module _ (config : Config) (world : World) (mutator address : ℕ) (seated : mut
     words = record {
       buffer = record {
         few = (shared.marked.marking marking).entries.few mutator seated;
-        addresses = λ index below. markable_word config world (world.memory (Buffer mutator index)) shared ((shared.marked.marking marking).entries.of_objects mutator index seated below);
+        addresses = λ index index_below. markable_word config world (world.memory (Buffer mutator index)) shared ((shared.marked.marking marking).entries.of_objects mutator index seated index_below);
       };
       ready = refl;
       facts = tt;
@@ -269,51 +270,51 @@ module _ (config : Config) (world : World) (mutator address : ℕ) (seated : mut
 
   pub takes_in_hand : TakesInHand config world mutator address
   takes_in_hand = record {
-    shared = subst (λ m. Shared config (world_of m)) (same_marking world.memory) (shared_after config world mutator world.memory taken world.ghost.scanning shared taking_step);
+    shared = subst (λ memory. Shared config (world_of memory)) (same_marking world.memory) (shared_after config world mutator world.memory taken world.ghost.scanning shared taking_step);
     own = can_record;
-    keeps = subst (λ m. Keeps config mutator world (world_of m)) (same_marking world.memory) (keeps_after config world mutator world.memory taken world.ghost.scanning shared taking_step);
-    others = λ seat differs. subst (λ m. Rely config seat world (world_of m)) (same_marking world.memory) (others_after config world mutator world.memory taken world.ghost.scanning shared taking_step seat differs);
+    keeps = subst (λ memory. Keeps config mutator world (world_of memory)) (same_marking world.memory) (keeps_after config world mutator world.memory taken world.ghost.scanning shared taking_step);
+    others = λ seat seats_differ. subst (λ memory. Rely config seat world (world_of memory)) (same_marking world.memory) (others_after config world mutator world.memory taken world.ghost.scanning shared taking_step seat seats_differ);
     noted = IsNoted.by_hand mutator seated (updated_there world.ghost.recording mutator (Some address));
   }
 
 -- While others step, its buffer stays.
-module _ (config : Config) (world other_world : World) (mutator : ℕ) (rely : Rely config mutator world other_world) where
-  buffer_left : LeaveBuffer mutator world.memory other_world.memory
+module _ (config : Config) (world later_world : World) (mutator : ℕ) (rely : Rely config mutator world later_world) where
+  buffer_left : LeaveBuffer mutator world.memory later_world.memory
   buffer_left = record {
     count = rely.marks.entries;
-    entries = λ k below. rely.marks.buffer k;
-    greys = λ number bit below set.
-        let word : mark_word config (address_at config number bit) ≡ number = word_back config number bit below in
-        let place : mark_bit config (address_at config number bit) ≡ bit = bit_back config number bit below in
-        let was : HasMark config (λ number. world.memory (Grey number)) (address_at config number bit) = ap (λ other_number. bit_at (world.memory (Grey other_number)) (mark_bit config (address_at config number bit))) word ∙ ap (λ k. bit_at (world.memory (Grey number)) k) place ∙ set in
-        ap (λ k. bit_at (other_world.memory (Grey number)) k) (sym place) ∙ ap (λ other_number. bit_at (other_world.memory (Grey other_number)) (mark_bit config (address_at config number bit))) (sym word)
-        ∙ rely.marks.greys (address_at config number bit) was;
+    entries = λ entry bit_below. rely.marks.buffer entry;
+    greys = λ number bit bit_below bit_set.
+        let word : mark_word config (address_at config number bit) ≡ number = word_back config number bit bit_below in
+        let same_bit : mark_bit config (address_at config number bit) ≡ bit = bit_back config number bit bit_below in
+        let was_grey : HasMark config (λ number. world.memory (Grey number)) (address_at config number bit) = ap (λ some_number. bit_at (world.memory (Grey some_number)) (mark_bit config (address_at config number bit))) word ∙ ap (λ entry. bit_at (world.memory (Grey number)) entry) same_bit ∙ bit_set in
+        ap (λ entry. bit_at (later_world.memory (Grey number)) entry) (sym same_bit) ∙ ap (λ some_number. bit_at (later_world.memory (Grey some_number)) (mark_bit config (address_at config number bit))) (sym word)
+        ∙ rely.marks.greys (address_at config number bit) was_grey;
   }
 
-  pub can_record_stays : (recorded : ℕ) (spot : RememberSpot) → CanRecord config world mutator recorded spot → CanRecord config other_world mutator recorded spot
-  can_record_stays recorded spot can = record {
-    seated = can.seated;
-    phase = rely.marks.keeps.phase ∙ can.phase;
-    markable = rely.marks.keeps.markable (λ two. (let one = can.phase in omega (arith, one, two))) recorded can.markable;
-    recording = rely.marks.recording ∙ can.recording;
-    scanning = rely.marks.scanning ∙ can.scanning;
-    hands = λ a words is. can.hands a words (rely.no_rooms a _ is refl);
-    words = can_remember_stays config mutator world.memory other_world.memory buffer_left recorded spot can.words;
+  pub can_record_stays : (recorded : ℕ) (spot : RememberSpot) → CanRecord config world mutator recorded spot → CanRecord config later_world mutator recorded spot
+  can_record_stays recorded spot can_record = record {
+    seated = can_record.seated;
+    phase = rely.marks.keeps.phase ∙ can_record.phase;
+    markable = rely.marks.keeps.markable (λ phase_two. (let phase_one = can_record.phase in omega (arith, phase_one, phase_two))) recorded can_record.markable;
+    recording = rely.marks.recording ∙ can_record.recording;
+    scanning = rely.marks.scanning ∙ can_record.scanning;
+    hands = λ address words room_there. can_record.hands address words (rely.no_rooms address _ room_there refl);
+    words = can_remember_stays config mutator world.memory later_world.memory buffer_left recorded spot can_record.words;
   }
 
 -- the next access is of the table
 pub record_inside : (config : Config) (world : World) (mutator recorded : ℕ) (spot : RememberSpot) → CanRecord config world mutator recorded spot → IsWord config (touch_at config mutator recorded spot).word
-record_inside config world mutator recorded LoadCount can = can.seated
-record_inside config world mutator recorded (LoadEntry entry) can = (can.seated, can.words.facts.1)
-record_inside config world mutator recorded (MarkEntry entry found) can =
-    let there = can.words.ready in
-    let heap : IsWord config (Heap found) = grind (arith, nat_tests, there) in
+record_inside config world mutator recorded LoadCount can_record = can_record.seated
+record_inside config world mutator recorded (LoadEntry entry) can_record = (can_record.seated, can_record.words.facts.1)
+record_inside config world mutator recorded (MarkEntry entry found) can_record =
+    let entry_inside = can_record.words.ready in
+    let heap : IsWord config (Heap found) = grind (arith, nat_tests, entry_inside) in
     word_inside config found heap
-record_inside config world mutator recorded ClearCount can = can.seated
-record_inside config world mutator recorded (StoreEntry entry) can = (can.seated, can.words.facts.1)
-record_inside config world mutator recorded (StoreCount entry) can = can.seated
-record_inside config world mutator recorded Recorded can = can.seated
+record_inside config world mutator recorded ClearCount can_record = can_record.seated
+record_inside config world mutator recorded (StoreEntry entry) can_record = (can_record.seated, can_record.words.facts.1)
+record_inside config world mutator recorded (StoreCount entry) can_record = can_record.seated
+record_inside config world mutator recorded Recorded can_record = can_record.seated
 
 -- the address is noted at each spot
 pub record_noted : (config : Config) (world : World) (mutator recorded : ℕ) (spot : RememberSpot) → CanRecord config world mutator recorded spot → NotedIn config world recorded
-record_noted config world mutator recorded spot can = noted_at config world.memory world.ghost.recording mutator recorded spot can.seated can.recording can.words
+record_noted config world mutator recorded spot can_record = noted_at config world.memory world.ghost.recording mutator recorded spot can_record.seated can_record.recording can_record.words

@@ -35,7 +35,7 @@ pub data IsChained (config : Config) (world : World) : ℕ → Type 0 where
 
 -- an object is marked, or was allocated since mark start, or marking comes to it
 abbrev pub IsSafe : Config → World → ℕ → Type 0
-IsSafe config world a = HasMark config (λ number. world.memory (Black number)) a ⊎ (IsYoung config (λ region. world.memory (Tams region)) a ⊎ IsChained config world a)
+IsSafe config world address = HasMark config (λ number. world.memory (Black number)) address ⊎ (IsYoung config (λ region. world.memory (Tams region)) address ⊎ IsChained config world address)
 
 -- While objects are marked, each object is safe. So is each that a root or a field names, for these name objects.
 abbrev pub MarkingComes : Type 0

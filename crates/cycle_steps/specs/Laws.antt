@@ -25,13 +25,13 @@ recording_part config mutator recorded = record {
   touch = remember.touch_at config mutator recorded;
   next = remember.next_at;
   IsFit = remember.IsFit config;
-  Can = λ world at. CanRecord config world mutator recorded at;
-  Then = λ world next_world at. CanRecord config next_world mutator recorded at × SameWork world next_world mutator × (next_world.block ≡ world.block);
+  Can = λ world spot. CanRecord config world mutator recorded spot;
+  Then = λ world next_world spot. CanRecord config next_world mutator recorded spot × SameWork world next_world mutator × (next_world.block ≡ world.block);
 }
 
 -- the world in which a mutator has an address in hand
 abbrev pub with_in_hand : World → ℕ → ℕ → World
-with_in_hand world mutator v = record { memory = world.memory; block = world.block; ghost = with_recording world.ghost (λ seat. if mutator == seat then Some v else world.ghost.recording seat); graph = world.graph }
+with_in_hand world mutator address = record { memory = world.memory; block = world.block; ghost = with_recording world.ghost (λ seat. if mutator == seat then Some address else world.ghost.recording seat); graph = world.graph }
 
 -- to take an address in hand changes nothing that others rely on, and from then on the mutator can record it
 pub record TakesInHand (config : Config) (world : World) (mutator recorded : ℕ) : Type 0 where
@@ -57,8 +57,8 @@ scanning_part config seat = record {
   touch = scan.touch_at config;
   next = scan.next_at config;
   IsFit = seen.IsFit config;
-  Can = λ world at. CanScan config world seat at;
-  Then = λ world next_world at. CanScan config next_world seat at × SameWork world next_world seat × (next_world.block ≡ world.block);
+  Can = λ world spot. CanScan config world seat spot;
+  Then = λ world next_world spot. CanScan config next_world seat spot × SameWork world next_world seat × (next_world.block ≡ world.block);
 }
 
 -- A machine that scans makes grey what the fields of black objects name.

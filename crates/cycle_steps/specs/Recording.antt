@@ -10,8 +10,8 @@ use Rattle.satb_barrier.specs.Facts.{CanRemember}
 
 -- the address that it has in hand, by where it stands: none once the address is recorded
 abbrev pub recording_of : RememberSpot → ℕ → Option ℕ
-recording_of Recorded v = None
-recording_of _ v = Some v
+recording_of Recorded address = None
+recording_of _ address = Some address
 
 -- Objects are marked, and the address is one that can be. The mutator has it in hand until it is recorded; it scans nothing, and has no
 -- room in hand.

@@ -62,7 +62,7 @@ pub record HoldsCopied (config : Config) (before after : Word → ℕ) (block : 
 
 -- no pin slot holds an address
 abbrev pub IsUnpinned : Config → (Word → ℕ) → ℕ → Type 0
-IsUnpinned config memory a = (mutator index : ℕ) → mutator < config.mutators → index < 4 → memory (Pin mutator index) ≢ a
+IsUnpinned config memory address = (mutator index : ℕ) → mutator < config.mutators → index < 4 → memory (Pin mutator index) ≢ address
 
 -- Whatever graph the words held, in whatever way, they hold it once the object at an address was copied out, if it is one that has not
 -- moved and that no pin slot holds, and finishing the cycle keeps it then, ..
@@ -128,8 +128,8 @@ abbrev pub piece_left : (moved : Bool) → Block → Block
 piece_left moved piece = if moved then filler (words_of piece) else piece
 
 abbrev pub left_block : Config → (Word → ℕ) → Plot → Plot
-left_block config memory block a =
-    if is_to_free config memory (region_with config a) then None else option_map (piece_left (is_to_stay config memory (region_with config a) && has_moved memory a)) (block a)
+left_block config memory block address =
+    if is_to_free config memory (region_with config address) then None else option_map (piece_left (is_to_stay config memory (region_with config address) && has_moved memory address)) (block address)
 
 -- .. once the set was freed and pinned regions of it filled, where nothing names what goes, by the pieces that are left, ..
 pub record HoldsLeft (config : Config) (before after : Word → ℕ) (block : Plot) (owner : ℕ → Option ℕ) (promises : Promises) (graph : Graph) : Type 0 where

@@ -24,13 +24,13 @@ ended config memory = fun_ext (ended_at config memory)
 
 module _ (config : Config) (memory : Word → ℕ) where
   pub stops_short : is_room_for_all config memory ≡ false → all_copied config memory ≡ finished_from config memory
-  stops_short none = fun_ext (λ w. sym (cond-false (is_room_for_all config memory) (served config (cycle_finished config memory) config.mutators w) (all_copied config memory w) none))
+  stops_short no_room = fun_ext (λ word. sym (cond-false (is_room_for_all config memory) (served config (cycle_finished config memory) config.mutators word) (all_copied config memory word) no_room))
 
   pub is_short : is_room_for_all config memory ≡ false → (is_room_for_all config memory && nobody_waits config (finished_from config memory)) ≡ false
-  is_short none = and_left (is_room_for_all config memory) (nobody_waits config (finished_from config memory)) none
+  is_short no_room = and_left (is_room_for_all config memory) (nobody_waits config (finished_from config memory)) no_room
 
   pub goes_through : is_room_for_all config memory ≡ true → served config (cycle_finished config memory) config.mutators ≡ finished_from config memory
-  goes_through room = fun_ext (λ w. sym (cond-true (is_room_for_all config memory) (served config (cycle_finished config memory) config.mutators w) (all_copied config memory w) room))
+  goes_through room_for_all = fun_ext (λ word. sym (cond-true (is_room_for_all config memory) (served config (cycle_finished config memory) config.mutators word) (all_copied config memory word) room_for_all))
 
 -- who waits once all had their turn
 module _ (config : Config) (memory : Word → ℕ) where
@@ -38,22 +38,22 @@ module _ (config : Config) (memory : Word → ℕ) where
   after = served config memory config.mutators
 
   pub all_served : ((mutator : ℕ) → IsLeft config memory mutator → ⊥) → nobody_waits config after ≡ true
-  all_served none = nobody_from config after (λ mutator below. ⊎_elim
-      (λ (done : after (Wait mutator) ≡ 0). done)
-      (λ (some : after (Wait mutator) ≢ 0). absurd (none mutator (left_if_waits config memory mutator below some)))
+  all_served nobody_left = nobody_from config after (λ mutator mutator_below. ⊎_elim
+      (λ (mutator_done : after (Wait mutator) ≡ 0). mutator_done)
+      (λ (still_waits : after (Wait mutator) ≢ 0). absurd (nobody_left mutator (left_if_waits config memory mutator mutator_below still_waits)))
       (cases_eq (after (Wait mutator)) 0))
 
   pub not_all_served : (mutator : ℕ) → IsLeft config memory mutator → nobody_waits config after ≡ false
-  not_all_served mutator left = false_from_ne_true (nobody_waits config after) (λ all. waits_if_left config memory mutator left (nobody_is config after all mutator left.below))
+  not_all_served mutator mutator_left = false_from_ne_true (nobody_waits config after) (λ all_answered. waits_if_left config memory mutator mutator_left (nobody_is config after all_answered mutator mutator_left.below))
 
 -- what a whole cycle tells
 pub whole_is : (config : Config) (memory : Word → ℕ) → is_room_for_all config memory ≡ true → (is_room_for_all config memory && nobody_waits config (finished_from config memory)) ≡ nobody_waits config (served config (cycle_finished config memory) config.mutators)
-whole_is config memory room = ap (λ b. b && nobody_waits config (finished_from config memory)) room ∙ ap (nobody_waits config) (sym (goes_through config memory room))
+whole_is config memory room_for_all = ap (λ has_room. has_room && nobody_waits config (finished_from config memory)) room_for_all ∙ ap (nobody_waits config) (sym (goes_through config memory room_for_all))
 
 -- no region uses more words than it has then
 pub within_still : (config : Config) (memory : Word → ℕ) → AreWithin config memory → AreWithin config (set_freed config (all_updated config memory))
-within_still config memory within r below = either (is_to_free config (all_updated config memory) r) (memory (Top r)) (within r below)
+within_still config memory words_within region region_below = either (is_to_free config (all_updated config memory) region) (memory (Top region)) (words_within region region_below)
   where
     either : (holds : Bool) (top : ℕ) → top ≤ config.region_words → cond holds 0 top ≤ config.region_words
-    either true top fits = omega arith
-    either false top fits = fits
+    either true top top_fits = omega arith
+    either false top top_fits = top_fits

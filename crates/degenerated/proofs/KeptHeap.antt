@@ -22,22 +22,22 @@ kept_same image other_image config places = ap (λ (config : Config). now_of con
 
 -- what was kept are the words of the heap at that time
 pub kept_from : (image other_image : Image) → IsUnchanged image other_image → places_of other_image ≡ heap_in (config_of image) (words_of image) → kept_now other_image ≡ now_of (config_of image).region_words (heap_in (config_of image) (words_of image))
-kept_from image other_image same kept = ap (λ (config : Config). now_of config.region_words (places_of other_image)) same.config ∙ ap (now_of (config_of image).region_words) kept
+kept_from image other_image unchanged same_places = ap (λ (config : Config). now_of config.region_words (places_of other_image)) unchanged.config ∙ ap (now_of (config_of image).region_words) same_places
 
 -- a word of the heap, in the slice
 heap_word : (config : Config) (words : List ℕ) → length words ≡ table_words config → (address : ℕ) → config.region_words ≤ address → word_of config.region_words (heap_in config words) address ≡ view config words (Heap address)
-heap_word config words whole address above =
-    let at : heap_start config + (address - config.region_words) ≡ word_at config (Heap address) = omega (arith, above) in
+heap_word config words table_length address above_first =
+    let same_place : heap_start config + (address - config.region_words) ≡ word_at config (Heap address) = omega (arith, above_first) in
     ⊎_elim
-    (λ (below : address < heap_end config).
+    (λ (below_end : address < heap_end config).
     ap (λ xs. get_or xs (address - config.region_words) 0) (heap_part config words)
-    ∙ get_or-take (heap_size config) (drop (heap_start config) words) (address - config.region_words) 0 (omega (arith, below, above))
+    ∙ get_or-take (heap_size config) (drop (heap_start config) words) (address - config.region_words) 0 (omega (arith, below_end, above_first))
     ∙ get_or-drop (heap_start config) words (address - config.region_words) 0
-    ∙ ap (λ index. get_or words index 0) at ∙ sym (view_word config words (Heap address) (above, below)))
-    (λ (past : heap_end config ≤ address).
-    get_or_past (heap_in config words) (address - config.region_words) 0 (omega (arith, heap_length config words whole, past, above)) ∙ sym (view_none config words (Heap address) (grind (arith, nat_tests))))
+    ∙ ap (λ index. get_or words index 0) same_place ∙ sym (view_word config words (Heap address) (above_first, below_end)))
+    (λ (past_end : heap_end config ≤ address).
+    get_or_past (heap_in config words) (address - config.region_words) 0 (omega (arith, heap_length config words table_length, past_end, above_first)) ∙ sym (view_none config words (Heap address) (grind (arith, nat_tests))))
     (cases_lt address (heap_end config))
 
 -- so an address leads where its header says
 pub kept_is : (config : Config) (words : List ℕ) → length words ≡ table_words config → (address : ℕ) → config.region_words ≤ address → now_of config.region_words (heap_in config words) address ≡ now_in (view config words) address
-kept_is config words whole address above = ap (λ h. cond (is_forwarded h) (forwardee_in h) address) (heap_word config words whole address above)
+kept_is config words table_length address above_first = ap (λ header. cond (is_forwarded header) (forwardee_in header) address) (heap_word config words table_length address above_first)

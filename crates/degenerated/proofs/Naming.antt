@@ -21,21 +21,21 @@ module _ (config : Config) (now : ℕ → ℕ) (memory : Word → ℕ) where
   -- the roots of a mutator
 
   none_of_row_at : (mutator : ℕ) (word : Word) → memory word ≡ row_updated config now mutator 0 memory word
-  none_of_row_at mutator (Root other_mutator index) = none_yet (updated_by config now memory (memory (Root other_mutator index))) (memory (Root other_mutator index))
+  none_of_row_at mutator (Root asked_mutator index) = none_yet (updated_by config now memory (memory (Root asked_mutator index))) (memory (Root asked_mutator index))
     where
-      none_yet : (x y : ℕ) → y ≡ cond ((mutator == other_mutator) && nat_lt index 0) x y
+      none_yet : (x y : ℕ) → y ≡ cond ((mutator == asked_mutator) && nat_lt index 0) x y
       none_yet x y = grind (arith, nat_tests)
   none_of_row_at mutator _ = refl
 
   pub none_of_row : (mutator : ℕ) → memory ≡ row_updated config now mutator 0 memory
   none_of_row mutator = fun_ext (none_of_row_at mutator)
 
-  one_of_row : (value before : ℕ → ℕ → ℕ) (t i u j : ℕ)
-      → cond ((t == u) && (i == j)) (value t i) (cond ((t == u) && nat_lt j i) (value u j) (before u j)) ≡ cond ((t == u) && nat_lt j (i + 1)) (value u j) (before u j)
-  one_of_row value before t i u j = grind (arith, nat_tests)
+  one_of_row : (value before : ℕ → ℕ → ℕ) (mutator index asked_mutator asked_index : ℕ)
+      → cond ((mutator == asked_mutator) && (index == asked_index)) (value mutator index) (cond ((mutator == asked_mutator) && nat_lt asked_index index) (value asked_mutator asked_index) (before asked_mutator asked_index)) ≡ cond ((mutator == asked_mutator) && nat_lt asked_index (index + 1)) (value asked_mutator asked_index) (before asked_mutator asked_index)
+  one_of_row value before mutator index asked_mutator asked_index = grind (arith, nat_tests)
 
   row_next_at : (mutator index : ℕ) (word : Word) → write (row_updated config now mutator index memory) (Root mutator index) (updated_by config now memory (memory (Root mutator index))) word ≡ row_updated config now mutator (index + 1) memory word
-  row_next_at mutator index (Root other_mutator other_index) = one_of_row (λ mutator index. updated_by config now memory (memory (Root mutator index))) (λ mutator index. memory (Root mutator index)) mutator index other_mutator other_index
+  row_next_at mutator index (Root asked_mutator asked_index) = one_of_row (λ mutator index. updated_by config now memory (memory (Root mutator index))) (λ mutator index. memory (Root mutator index)) mutator index asked_mutator asked_index
   row_next_at mutator index _ = refl
 
   pub row_next : (mutator index : ℕ) → write (row_updated config now mutator index memory) (Root mutator index) (updated_by config now memory (memory (Root mutator index))) ≡ row_updated config now mutator (index + 1) memory
@@ -59,17 +59,17 @@ module _ (config : Config) (now : ℕ → ℕ) (memory : Word → ℕ) where
   pub no_roots : memory ≡ roots_updated config now 0 memory
   no_roots = fun_ext no_roots_at
 
-  one_row : (value : ℕ → ℕ) (t u i x : ℕ)
-      → cond ((t == u) && nat_lt i 16) (value (cond (nat_lt u t && nat_lt i 16) (value x) x)) (cond (nat_lt u t && nat_lt i 16) (value x) x)
-      ≡ cond (nat_lt u (t + 1) && nat_lt i 16) (value x) x
-  one_row value t u i x = grind (arith, nat_tests)
+  one_row : (value : ℕ → ℕ) (mutator asked_mutator asked_index x : ℕ)
+      → cond ((mutator == asked_mutator) && nat_lt asked_index 16) (value (cond (nat_lt asked_mutator mutator && nat_lt asked_index 16) (value x) x)) (cond (nat_lt asked_mutator mutator && nat_lt asked_index 16) (value x) x)
+      ≡ cond (nat_lt asked_mutator (mutator + 1) && nat_lt asked_index 16) (value x) x
+  one_row value mutator asked_mutator asked_index x = grind (arith, nat_tests)
 
-  roots_next_at : (t : ℕ) (word : Word) → row_updated config now t 16 (roots_updated config now t memory) word ≡ roots_updated config now (t + 1) memory word
-  roots_next_at t (Root mutator index) = one_row (updated_by config now memory) t mutator index (memory (Root mutator index))
-  roots_next_at t _ = refl
+  roots_next_at : (thread : ℕ) (word : Word) → row_updated config now thread 16 (roots_updated config now thread memory) word ≡ roots_updated config now (thread + 1) memory word
+  roots_next_at thread (Root mutator index) = one_row (updated_by config now memory) thread mutator index (memory (Root mutator index))
+  roots_next_at thread _ = refl
 
-  pub roots_next : (t : ℕ) → row_updated config now t 16 (roots_updated config now t memory) ≡ roots_updated config now (t + 1) memory
-  roots_next t = fun_ext (roots_next_at t)
+  pub roots_next : (mutator : ℕ) → row_updated config now mutator 16 (roots_updated config now mutator memory) ≡ roots_updated config now (mutator + 1) memory
+  roots_next mutator = fun_ext (roots_next_at mutator)
 
   -- the answers
 
@@ -83,11 +83,11 @@ module _ (config : Config) (now : ℕ → ℕ) (memory : Word → ℕ) where
   pub no_answers : memory ≡ answers_updated config now 0 memory
   no_answers = fun_ext no_answers_at
 
-  one_answer : (value before : ℕ → ℕ) (t u : ℕ) → cond (t == u) (value t) (cond (nat_lt u t) (value u) (before u)) ≡ cond (nat_lt u (t + 1)) (value u) (before u)
-  one_answer value before t u = grind (arith, nat_tests)
+  one_answer : (value before : ℕ → ℕ) (mutator asked_mutator : ℕ) → cond (mutator == asked_mutator) (value mutator) (cond (nat_lt asked_mutator mutator) (value asked_mutator) (before asked_mutator)) ≡ cond (nat_lt asked_mutator (mutator + 1)) (value asked_mutator) (before asked_mutator)
+  one_answer value before mutator asked_mutator = grind (arith, nat_tests)
 
   answers_next_at : (mutator : ℕ) (word : Word) → write (answers_updated config now mutator memory) (Answer mutator) (updated_by config now memory (memory (Answer mutator))) word ≡ answers_updated config now (mutator + 1) memory word
-  answers_next_at mutator (Answer other_mutator) = one_answer (λ mutator. updated_by config now memory (memory (Answer mutator))) (λ mutator. memory (Answer mutator)) mutator other_mutator
+  answers_next_at mutator (Answer asked_mutator) = one_answer (λ mutator. updated_by config now memory (memory (Answer mutator))) (λ mutator. memory (Answer mutator)) mutator asked_mutator
   answers_next_at mutator _ = refl
 
   pub answers_next : (mutator : ℕ) → write (answers_updated config now mutator memory) (Answer mutator) (updated_by config now memory (memory (Answer mutator))) ≡ answers_updated config now (mutator + 1) memory
@@ -100,7 +100,7 @@ module _ (config : Config) (now : ℕ → ℕ) (memory : Word → ℕ) where
       not_yet x y = grind (arith, nat_tests)
 
 -- all together, by the headers as they were
-module _ (config : Config) (words : List ℕ) (whole : length words ≡ table_words config) where
+module _ (config : Config) (words : List ℕ) (table_length : length words ≡ table_words config) where
   abbrev memory_then : Word → ℕ
   memory_then = view config words
 
@@ -116,32 +116,32 @@ module _ (config : Config) (words : List ℕ) (whole : length words ≡ table_wo
 
   same_update : (address : ℕ) → updated_by config now memory_then address ≡ updated_word config memory_then address
   same_update address = ⊎_elim
-      (λ (is : is_collected config memory_then address ≡ true).
-      let parts = and_parts (nat_le config.region_words address) (bit_at (memory_then Cset) (region_with config address) == 1) is in
-      ap (λ y. cond (is_collected config memory_then address) y address) (kept_is config words whole address (leb-true config.region_words address parts.0)))
-      (λ (no : is_collected config memory_then address ≡ false). cond-false (is_collected config memory_then address) (now address) address no ∙ sym (cond-false (is_collected config memory_then address) (now_in memory_then address) address no))
+      (λ (address_collected : is_collected config memory_then address ≡ true).
+      let both_tests = and_parts (nat_le config.region_words address) (bit_at (memory_then Cset) (region_with config address) == 1) address_collected in
+      ap (λ kept_address. cond (is_collected config memory_then address) kept_address address) (kept_is config words table_length address (leb-true config.region_words address both_tests.0)))
+      (λ (not_collected : is_collected config memory_then address ≡ false). cond-false (is_collected config memory_then address) (now address) address not_collected ∙ sym (cond-false (is_collected config memory_then address) (now_in memory_then address) address not_collected))
       (cases_Bool (is_collected config memory_then address))
 
   -- a word that is there is updated, and another one is null
   there_or_null : (holds : Bool) (address : ℕ) → (holds ≡ false → address ≡ 0) → cond holds (updated_by config now memory_then address) address ≡ updated_word config memory_then address
-  there_or_null true address none = same_update address
-  there_or_null false address none = none refl ∙ sym null_stays ∙ ap (updated_word config memory_then) (sym (none refl))
+  there_or_null true address null_if_absent = same_update address
+  there_or_null false address null_if_absent = null_if_absent refl ∙ sym null_stays ∙ ap (updated_word config memory_then) (sym (null_if_absent refl))
 
   all_at : (word : Word) → answers_updated config now config.mutators (roots_updated config now config.mutators fields) word ≡ all_updated config memory_then word
   all_at (Heap address) =
-      by_field (is_of_first config config.regions address) (is_kept_field config memory_then address) (updated_by config now memory_then (memory_then (Heap address))) (memory_then (Heap address)) (λ is. within address is)
-      ∙ ap (λ other_address. cond (is_kept_field config memory_then address) other_address (memory_then (Heap address))) (same_update (memory_then (Heap address)))
+      by_field (is_of_first config config.regions address) (is_kept_field config memory_then address) (updated_by config now memory_then (memory_then (Heap address))) (memory_then (Heap address)) (λ is_field. within address is_field)
+      ∙ ap (λ new_value. cond (is_kept_field config memory_then address) new_value (memory_then (Heap address))) (same_update (memory_then (Heap address)))
     where
       within : (address : ℕ) → is_kept_field config memory_then address ≡ true → is_of_first config config.regions address ≡ true
-      within other_address is =
-          let lies = lies_there config memory_then other_address (field_stays config memory_then other_address is) in
-          lt-ltb (region_with config other_address) config.regions lies.of_region
+      within field_address kept_field =
+          let lies_inside = lies_there config memory_then field_address (field_stays config memory_then field_address kept_field) in
+          lt-ltb (region_with config field_address) config.regions lies_inside.of_region
 
-      by_field : (holds other_holds : Bool) (v u : ℕ) → (other_holds ≡ true → holds ≡ true) → cond (holds && other_holds) v u ≡ cond other_holds v u
-      by_field holds true v u is = ap (λ z. cond (z && true) v u) (is refl)
-      by_field holds false v u is = ap (λ z. cond z v u) (and_right holds false refl)
-  all_at (Root mutator index) = there_or_null (nat_lt mutator config.mutators && nat_lt index 16) (memory_then (Root mutator index)) (λ no. view_none config words (Root mutator index) no)
-  all_at (Answer mutator) = there_or_null (nat_lt mutator config.mutators) (memory_then (Answer mutator)) (λ no. view_none config words (Answer mutator) no)
+      by_field : (holds other_holds : Bool) (new_value old_value : ℕ) → (other_holds ≡ true → holds ≡ true) → cond (holds && other_holds) new_value old_value ≡ cond other_holds new_value old_value
+      by_field holds true new_value old_value implies = ap (λ z. cond (z && true) new_value old_value) (implies refl)
+      by_field holds false new_value old_value implies = ap (λ z. cond z new_value old_value) (and_right holds false refl)
+  all_at (Root mutator index) = there_or_null (nat_lt mutator config.mutators && nat_lt index 16) (memory_then (Root mutator index)) (λ outside. view_none config words (Root mutator index) outside)
+  all_at (Answer mutator) = there_or_null (nat_lt mutator config.mutators) (memory_then (Answer mutator)) (λ outside. view_none config words (Answer mutator) outside)
   all_at _ = refl
 
   pub all : answers_updated config now config.mutators (roots_updated config now config.mutators fields) ≡ all_updated config memory_then

@@ -13,7 +13,7 @@ use Rattle.cycle_words.specs.Finishing.Copies.{is_left, has_copy_room}
 
 -- the words after the turn of an address: an object that is left there was copied out, if some region has room
 abbrev pub turn_taken : Config → (Word → ℕ) → ℕ → Word → ℕ
-turn_taken config memory a word = if is_left config memory a then copied_out config memory a word else memory word
+turn_taken config memory address word = if is_left config memory address then copied_out config memory address word else memory word
 
 -- nothing is left at an address, or it finds room
 abbrev pub has_turn_room : Config → (Word → ℕ) → ℕ → Bool
@@ -35,10 +35,10 @@ fields_updated config now set memory word = memory word
 
 -- sets of addresses: one, those of a region below an offset, those of a region, and those of so many regions
 abbrev pub is_at : ℕ → ℕ → Bool
-is_at a x = a == x
+is_at address asked_address = address == asked_address
 
 abbrev pub is_below : Config → (region offset : ℕ) → ℕ → Bool
-is_below config region offset x = nat_le (base_of config region) x && nat_lt x (base_of config region + offset)
+is_below config region offset address = nat_le (base_of config region) address && nat_lt address (base_of config region + offset)
 
 abbrev pub is_of : Config → (region : ℕ) → ℕ → Bool
 is_of config region address = region_with config address == region
@@ -48,7 +48,7 @@ is_of_first config regions address = nat_lt (region_with config address) regions
 
 -- the words after so many roots of a mutator were updated
 abbrev pub row_updated : Config → (now : ℕ → ℕ) → (mutator roots : ℕ) → (Word → ℕ) → Word → ℕ
-row_updated config now mutator roots memory (Root other_mutator index) = if (mutator == other_mutator) && nat_lt index roots then updated_by config now memory (memory (Root other_mutator index)) else memory (Root other_mutator index)
+row_updated config now mutator roots memory (Root asked_mutator index) = if (mutator == asked_mutator) && nat_lt index roots then updated_by config now memory (memory (Root asked_mutator index)) else memory (Root asked_mutator index)
 row_updated config now mutator roots memory word = memory word
 
 -- the words after the roots of so many mutators were updated

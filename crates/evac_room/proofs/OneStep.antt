@@ -20,10 +20,10 @@ Mine word Wait = is_out_of_room word ≡ true
 Mine word _ = ⊤
 
 -- what a copier relies on while another one steps: bit 63 stays
-pub mine_stays : (word next : ℕ) (spot : RoomSpot) → (is_out_of_room word ≡ true → is_out_of_room next ≡ true) → Mine word spot → Mine next spot
-mine_stays word next (Raise found) stays mine = mine
-mine_stays word next Wait stays mine = stays mine
-mine_stays word next _ stays mine = tt
+pub mine_stays : (word next_word : ℕ) (spot : RoomSpot) → (is_out_of_room word ≡ true → is_out_of_room next_word ≡ true) → Mine word spot → Mine next_word spot
+mine_stays word next_word (Raise found) stays mine = mine
+mine_stays word next_word Wait stays mine = stays mine
+mine_stays word next_word _ stays mine = tt
 
 -- what a copier adds to the count
 abbrev pub weight : RoomSpot → ℕ
@@ -55,85 +55,85 @@ pub record CanStep (word : ℕ) (spot : RoomSpot) : Type 0 where
   pub mine : Mine word spot
 
 pub each_keeps : (word : ℕ) (spot : RoomSpot) → CanStep word spot → IsKept word spot (after word spot) (next_at spot word)
-each_keeps word Outside can = absurd (cc (can.going))
-each_keeps word Inside can = absurd (cc (can.going))
-each_keeps word Stopped can = absurd (cc (can.going))
-each_keeps word Look can = by_bit (is_out_of_room word) (count_of word == 0) refl refl
+each_keeps word Outside can_step = absurd (cc (can_step.going))
+each_keeps word Inside can_step = absurd (cc (can_step.going))
+each_keeps word Stopped can_step = absurd (cc (can_step.going))
+each_keeps word Look can_step = by_bit (is_out_of_room word) (count_of word == 0) refl refl
   where
-    by_bit : (holds other_holds : Bool) → is_out_of_room word ≡ holds → (count_of word == 0) ≡ other_holds → IsKept word Look word (if holds then (if other_holds then Stopped else Look) else Raise word)
-    by_bit true true out none = record { is_word = can.is_word; counts = refl; bit_stays = λ h. h; quiet_stays = λ q. refl; mine = tt }
-    by_bit true false out none = record { is_word = can.is_word; counts = refl; bit_stays = λ h. h; quiet_stays = λ q. refl; mine = tt }
-    by_bit false other_holds out none = record { is_word = can.is_word; counts = refl; bit_stays = λ h. h; quiet_stays = λ q. refl; mine = grind (arith, nat_tests) }
-each_keeps word (Raise found) can = by_found (word == found) refl
+    by_bit : (holds is_empty : Bool) → is_out_of_room word ≡ holds → (count_of word == 0) ≡ is_empty → IsKept word Look word (if holds then (if is_empty then Stopped else Look) else Raise word)
+    by_bit true true room_test count_test = record { is_word = can_step.is_word; counts = refl; bit_stays = λ bit_set. bit_set; quiet_stays = λ quiet. refl; mine = tt }
+    by_bit true false room_test count_test = record { is_word = can_step.is_word; counts = refl; bit_stays = λ bit_set. bit_set; quiet_stays = λ quiet. refl; mine = tt }
+    by_bit false is_empty room_test count_test = record { is_word = can_step.is_word; counts = refl; bit_stays = λ bit_set. bit_set; quiet_stays = λ quiet. refl; mine = grind (arith, nat_tests) }
+each_keeps word (Raise found) can_step = by_found (word == found) refl
   where
     by_found : (holds : Bool) → (word == found) ≡ holds → IsKept word (Raise found) (if holds then found + 1 else word) (if holds then Inside else Look)
-    by_found true is = let same : word ≡ found = grind (arith, nat_tests) in let clear : found < 2 ^ 63 = can.mine in record {
+    by_found true word_test = let same_word : word ≡ found = grind (arith, nat_tests) in let clear : found < 2 ^ 63 = can_step.mine in record {
       is_word = omega arith;
-      counts = omega (arith, can.few);
-      bit_stays = λ h. absurd (grind (arith, nat_tests));
-      quiet_stays = λ q. absurd (grind (arith, nat_tests, q.out_of_room));
+      counts = omega (arith, can_step.few);
+      bit_stays = λ bit_set. absurd (grind (arith, nat_tests));
+      quiet_stays = λ quiet. absurd (grind (arith, nat_tests, quiet.out_of_room));
       mine = tt;
     }
-    by_found false is = record { is_word = can.is_word; counts = refl; bit_stays = λ h. h; quiet_stays = λ q. refl; mine = tt }
-each_keeps word Lower can =
-    let some : 1 ≤ count_of word = can.is_in refl in record {
-      is_word = omega (arith, can.is_word);
-      counts = omega (arith, some, can.is_word);
-      bit_stays = λ h. grind (arith, nat_tests, some, h, can.is_word);
-      quiet_stays = λ q. absurd (omega (arith, some, q.nobody));
+    by_found false word_test = record { is_word = can_step.is_word; counts = refl; bit_stays = λ bit_set. bit_set; quiet_stays = λ quiet. refl; mine = tt }
+each_keeps word Lower can_step =
+    let some_inside : 1 ≤ count_of word = can_step.is_in refl in record {
+      is_word = omega (arith, can_step.is_word);
+      counts = omega (arith, some_inside, can_step.is_word);
+      bit_stays = λ out_of_room. grind (arith, nat_tests, some_inside, out_of_room, can_step.is_word);
+      quiet_stays = λ quiet_word. absurd (omega (arith, some_inside, quiet_word.nobody));
       mine = tt;
     }
-each_keeps word Ask can = record { is_word = can.is_word; counts = refl; bit_stays = λ h. h; quiet_stays = λ q. refl; mine = tt }
-each_keeps word (Mark found) can = by_found (word == found) refl
+each_keeps word Ask can_step = record { is_word = can_step.is_word; counts = refl; bit_stays = λ out_of_room. out_of_room; quiet_stays = λ quiet_word. refl; mine = tt }
+each_keeps word (Mark found) can_step = by_found (word == found) refl
   where
     by_found : (holds : Bool) → (word == found) ≡ holds → IsKept word (Mark found) (if holds then marked found else word) (if holds then Wait else Ask)
-    by_found true is = let same : word ≡ found = grind (arith, nat_tests) in let some : 1 ≤ count_of word = can.is_in refl in
-        let some_found : 1 ≤ count_of found = subst (λ n. 1 ≤ count_of n) same some in record {
-          is_word = omega (arith, can.is_word);
-          counts = omega (arith, can.few);
-          bit_stays = λ h. grind (arith, nat_tests);
-          quiet_stays = λ q. absurd (omega (arith, some, q.nobody));
+    by_found true word_test = let same_word : word ≡ found = grind (arith, nat_tests) in let some_counted : 1 ≤ count_of word = can_step.is_in refl in
+        let some_found : 1 ≤ count_of found = subst (λ number. 1 ≤ count_of number) same_word some_counted in record {
+          is_word = omega (arith, can_step.is_word);
+          counts = omega (arith, can_step.few);
+          bit_stays = λ bit_set. grind (arith, nat_tests);
+          quiet_stays = λ quiet. absurd (omega (arith, some_counted, quiet.nobody));
           mine = grind (arith, nat_tests);
         }
-    by_found false is = record { is_word = can.is_word; counts = refl; bit_stays = λ h. h; quiet_stays = λ q. refl; mine = tt }
-each_keeps word Wait can = by_count (count_of word == 0) refl
+    by_found false word_test = record { is_word = can_step.is_word; counts = refl; bit_stays = λ bit_set. bit_set; quiet_stays = λ quiet. refl; mine = tt }
+each_keeps word Wait can_step = by_count (count_of word == 0) refl
   where
-    by_count : (other_holds : Bool) → (count_of word == 0) ≡ other_holds → IsKept word Wait word (if other_holds then Stopped else Wait)
-    by_count true none = record { is_word = can.is_word; counts = refl; bit_stays = λ h. h; quiet_stays = λ q. refl; mine = tt }
-    by_count false none = record { is_word = can.is_word; counts = refl; bit_stays = λ h. h; quiet_stays = λ q. refl; mine = can.mine }
+    by_count : (is_empty : Bool) → (count_of word == 0) ≡ is_empty → IsKept word Wait word (if is_empty then Stopped else Wait)
+    by_count true count_test = record { is_word = can_step.is_word; counts = refl; bit_stays = λ bit_set. bit_set; quiet_stays = λ quiet. refl; mine = tt }
+    by_count false count_test = record { is_word = can_step.is_word; counts = refl; bit_stays = λ bit_set. bit_set; quiet_stays = λ quiet. refl; mine = can_step.mine }
 
 pub each_says : (word : ℕ) (spot : RoomSpot) → CanStep word spot → Says word (copying_at spot word)
-each_says word Outside can = absurd (cc (can.going))
-each_says word Inside can = absurd (cc (can.going))
-each_says word Stopped can = absurd (cc (can.going))
-each_says word Look can = by_bit (is_out_of_room word) (count_of word == 0) refl refl
+each_says word Outside can_step = absurd (cc (can_step.going))
+each_says word Inside can_step = absurd (cc (can_step.going))
+each_says word Stopped can_step = absurd (cc (can_step.going))
+each_says word Look can_step = by_bit (is_out_of_room word) (count_of word == 0) refl refl
   where
-    by_bit : (holds other_holds : Bool) → is_out_of_room word ≡ holds → (count_of word == 0) ≡ other_holds
-        → Says word (said (if holds then (if other_holds then Done else Again) else More) (if holds then (if other_holds then Stopped else Look) else Raise word))
-    by_bit true true out none = record { stopped_is_quiet = λ is. record { out_of_room = out; nobody = grind (arith, nat_tests) }; none_enters = λ q is. cc }
-    by_bit true false out none = record { stopped_is_quiet = λ is. absurd (cc (is)); none_enters = λ q is. cc }
-    by_bit false other_holds out none = record { stopped_is_quiet = λ is. absurd (cc (is)); none_enters = λ q is. cc }
-each_says word (Raise found) can = by_found (word == found) refl
+    by_bit : (holds is_empty : Bool) → is_out_of_room word ≡ holds → (count_of word == 0) ≡ is_empty
+        → Says word (said (if holds then (if is_empty then Done else Again) else More) (if holds then (if is_empty then Stopped else Look) else Raise word))
+    by_bit true true room_test count_test = record { stopped_is_quiet = λ outcome. record { out_of_room = room_test; nobody = grind (arith, nat_tests) }; none_enters = λ quiet outcome. cc }
+    by_bit true false room_test count_test = record { stopped_is_quiet = λ outcome. absurd (cc (outcome)); none_enters = λ quiet outcome. cc }
+    by_bit false is_empty room_test count_test = record { stopped_is_quiet = λ outcome. absurd (cc (outcome)); none_enters = λ quiet outcome. cc }
+each_says word (Raise found) can_step = by_found (word == found) refl
   where
     by_found : (holds : Bool) → (word == found) ≡ holds → Says word (said (if holds then Done else Again) (if holds then Inside else Look))
-    by_found true is = let same : word ≡ found = grind (arith, nat_tests) in let clear : found < 2 ^ 63 = can.mine in
-        record { stopped_is_quiet = λ is. absurd (cc (is)); none_enters = λ q is. grind (arith, nat_tests, q.out_of_room) }
-    by_found false is = record { stopped_is_quiet = λ is. absurd (cc (is)); none_enters = λ q is. cc }
-each_says word Lower can = record { stopped_is_quiet = λ is. absurd (cc (is)); none_enters = λ q is. cc }
-each_says word Ask can = record { stopped_is_quiet = λ is. absurd (cc (is)); none_enters = λ q is. cc }
-each_says word (Mark found) can = by_found (word == found)
+    by_found true outcome = let same_word : word ≡ found = grind (arith, nat_tests) in let clear : found < 2 ^ 63 = can_step.mine in
+        record { stopped_is_quiet = λ outcome. absurd (cc (outcome)); none_enters = λ quiet outcome. grind (arith, nat_tests, quiet.out_of_room) }
+    by_found false outcome = record { stopped_is_quiet = λ outcome. absurd (cc (outcome)); none_enters = λ quiet outcome. cc }
+each_says word Lower can_step = record { stopped_is_quiet = λ same_outcome. absurd (cc (same_outcome)); none_enters = λ quiet_word same_outcome. cc }
+each_says word Ask can_step = record { stopped_is_quiet = λ same_outcome. absurd (cc (same_outcome)); none_enters = λ quiet_word same_outcome. cc }
+each_says word (Mark found) can_step = by_found (word == found)
   where
     by_found : (holds : Bool) → Says word (said (if holds then More else Again) (if holds then Wait else Ask))
-    by_found true = record { stopped_is_quiet = λ is. absurd (cc (is)); none_enters = λ q is. cc }
-    by_found false = record { stopped_is_quiet = λ is. absurd (cc (is)); none_enters = λ q is. cc }
-each_says word Wait can = by_count (count_of word == 0) refl
+    by_found true = record { stopped_is_quiet = λ outcome. absurd (cc (outcome)); none_enters = λ quiet outcome. cc }
+    by_found false = record { stopped_is_quiet = λ outcome. absurd (cc (outcome)); none_enters = λ quiet outcome. cc }
+each_says word Wait can_step = by_count (count_of word == 0) refl
   where
-    by_count : (other_holds : Bool) → (count_of word == 0) ≡ other_holds → Says word (said (if other_holds then Done else Again) (if other_holds then Stopped else Wait))
-    by_count true none = record { stopped_is_quiet = λ is. record { out_of_room = can.mine; nobody = grind (arith, nat_tests) }; none_enters = λ q is. cc }
-    by_count false none = record { stopped_is_quiet = λ is. absurd (cc (is)); none_enters = λ q is. cc }
+    by_count : (is_empty : Bool) → (count_of word == 0) ≡ is_empty → Says word (said (if is_empty then Done else Again) (if is_empty then Stopped else Wait))
+    by_count true count_test = record { stopped_is_quiet = λ outcome. record { out_of_room = can_step.mine; nobody = grind (arith, nat_tests) }; none_enters = λ quiet outcome. cc }
+    by_count false count_test = record { stopped_is_quiet = λ outcome. absurd (cc (outcome)); none_enters = λ quiet outcome. cc }
 
 -- the word that it finds is fit
 pub each_fits : (word : ℕ) (spot : RoomSpot) → CanStep word spot → IsFit spot word
-each_fits word Lower can =
-    let some : 1 ≤ count_of word = can.is_in refl in omega (arith, some)
-each_fits word _ can = tt
+each_fits word Lower can_step =
+    let some_counted : 1 ≤ count_of word = can_step.is_in refl in omega (arith, some_counted)
+each_fits word _ can_step = tt

@@ -35,7 +35,7 @@ begun_weight Inside NoRoom = refl
 begun_weight spot wish = refl
 
 pub weight_one : (spot : RoomSpot) → is_counted spot ≡ true → weight spot ≡ 1
-weight_one spot is = ap {B = ℕ} (λ b. cond b 1 0) is
+weight_one spot spot_counted = ap {B = ℕ} (λ flag. cond flag 1 0) spot_counted
 
 pub begun_mine : (word : ℕ) (spot : RoomSpot) (wish : Wish) → Mine word spot → Mine word (wish_begun spot wish)
 begun_mine word Outside Enter mine = tt
@@ -44,21 +44,21 @@ begun_mine word Inside Leave mine = tt
 begun_mine word Inside NoRoom mine = tt
 begun_mine word spot wish mine = mine
 
-pub counted_first : (spot : RoomSpot) (xs : List RoomSpot) → counted (spot ∷ xs) ≡ weight spot + counted xs
-counted_first spot xs = sum_by-cons weight spot xs
+pub counted_first : (spot : RoomSpot) (rest : List RoomSpot) → counted (spot ∷ rest) ≡ weight spot + counted rest
+counted_first spot rest = sum_by-cons weight spot rest
 
 -- one copier elsewhere changes the count by its own weight
-pub counted_set : (copiers : List RoomSpot) (number : ℕ) (spot next : RoomSpot) → slice_get copiers number ≡ Some spot
-    → counted (slice_set copiers number next) + weight spot ≡ counted copiers + weight next
-counted_set [] number spot next here = absurd (cc (here))
-counted_set (other_spot ∷ rest) zero spot next here =
-    let same : other_spot ≡ spot = cc (here) in omega (arith, ap weight same, counted_first other_spot rest, counted_first next rest)
-counted_set (other_spot ∷ rest) (suc number) spot next here =
-    omega (arith, counted_set rest number spot next here, counted_first other_spot rest, counted_first other_spot (slice_set rest number next))
+pub counted_set : (copiers : List RoomSpot) (number : ℕ) (spot next_spot : RoomSpot) → slice_get copiers number ≡ Some spot
+    → counted (slice_set copiers number next_spot) + weight spot ≡ counted copiers + weight next_spot
+counted_set [] number spot next_spot has_spot = absurd (cc (has_spot))
+counted_set (first_spot ∷ rest) zero spot next_spot has_spot =
+    let same_spot : first_spot ≡ spot = cc (has_spot) in omega (arith, ap weight same_spot, counted_first first_spot rest, counted_first next_spot rest)
+counted_set (first_spot ∷ rest) (suc number) spot next_spot has_spot =
+    omega (arith, counted_set rest number spot next_spot has_spot, counted_first first_spot rest, counted_first first_spot (slice_set rest number next_spot))
 
 -- the count is at least the weight of each
 pub weight_counted : (copiers : List RoomSpot) (number : ℕ) (spot : RoomSpot) → slice_get copiers number ≡ Some spot → weight spot ≤ counted copiers
-weight_counted copiers number spot here = omega (arith, counted_set copiers number spot Outside here)
+weight_counted copiers number spot has_spot = omega (arith, counted_set copiers number spot Outside has_spot)
 
 -- nobody is counted of copiers outside, and each of them stands outside
 pub counted_outside : (copiers : ℕ) → counted (replicate copiers Outside) ≡ 0
@@ -66,9 +66,9 @@ counted_outside zero = refl
 counted_outside (suc copiers) = counted_outside copiers
 
 pub outside_here : (copiers number : ℕ) (spot : RoomSpot) → slice_get (replicate copiers Outside) number ≡ Some spot → spot ≡ Outside
-outside_here zero number spot here = absurd (cc (here))
-outside_here (suc copiers) zero spot here = cc (here)
-outside_here (suc copiers) (suc number) spot here = outside_here copiers number spot here
+outside_here zero number spot has_spot = absurd (cc (has_spot))
+outside_here (suc copiers) zero spot has_spot = cc (has_spot)
+outside_here (suc copiers) (suc number) spot has_spot = outside_here copiers number spot has_spot
 
 -- an access of a table of one word
 pub accessed_one : (form : Form) (word : ℕ) → accessed (access_at 0 form) (word ∷ []) ≡ formed form word ∷ []

@@ -59,7 +59,7 @@ AreOfOthers number steps = All (λ step. step.number ≢ number) steps
 
 -- the word that counts
 abbrev pub counter : Stage RoomSpot → ℕ
-counter s = slice_index s.words 0
+counter stage = slice_index stage.words 0
 
 -- how many copiers are inside, in a leave before its one access, or out of room and not yet taken off
 abbrev pub counted : List RoomSpot → ℕ
@@ -72,9 +72,9 @@ ended_at Stopped = copying.Stopped
 ended_at _ = copying.Outside
 
 abbrev pub said : Took → RoomSpot → Copying
-said took.More next = copying.More
-said took.Again next = copying.Again
-said took.Done next = ended_at next
+said took.More next_spot = copying.More
+said took.Again next_spot = copying.Again
+said took.Done next_spot = ended_at next_spot
 
 -- what it says of the step that finds this word
 abbrev pub copying_at : RoomSpot → ℕ → Copying
@@ -87,7 +87,7 @@ answer_by word wish (Some spot) = if takes_at spot wish then Some (copying_at (w
 
 -- what a step answers in a stage
 abbrev pub answer_to : Stage RoomSpot → Event Wish → Option Copying
-answer_to s step = answer_by (counter s) step.order (slice_get s.machines step.number)
+answer_to stage step = answer_by (counter stage) step.order (slice_get stage.machines step.number)
 
 -- the word, where the copiers stand, and what a step answers, after a list of steps from the opening
 abbrev pub word_after : ℕ → List (Event Wish) → ℕ

@@ -8,15 +8,15 @@ use Rattle.evac_room.specs.Copier.{spot_of}
 
 -- the word that counts
 abbrev pub counting_word : Copiers → ℕ
-counting_word c = c.word
+counting_word copiers = copiers.word
 
 -- where the copiers stand, by their numbers
 abbrev pub spots_of : Copiers → List RoomSpot
-spots_of c = map spot_of c.copiers.items
+spots_of copiers = map spot_of copiers.copiers.items
 
 abbrev pub spot_at : Copiers → ℕ → RoomSpot
-spot_at c number = slice_index_or (spots_of c) number Outside
+spot_at copiers number = slice_index_or (spots_of copiers) number Outside
 
 -- the word and the copiers, as steps see them
 abbrev pub copiers_stage : Copiers → Stage RoomSpot
-copiers_stage c = record { words = counting_word c ∷ []; machines = spots_of c }
+copiers_stage copiers = record { words = counting_word copiers ∷ []; machines = spots_of copiers }

@@ -6,9 +6,9 @@ use Rattle.find_play.specs.Claims.{Left, all_hold, another_holds, broken_behind}
 
 -- what is said where the assertion holds or not
 abbrev pub said : Left → ℕ → List Claim → Bool → Option ℕ
-said l n claims it = if it then broken_behind l n claims else Some n
+said left begun claims holds = if holds then broken_behind left begun claims else Some begun
 
 -- what is said of the claims that are left, where so many assertions have begun, an alternative of the last one has held or not,
 -- and the one at work holds so far or not
 abbrev pub broken_then : Left → ℕ → Bool → Bool → List Claim → Option ℕ
-broken_then l n held fine claims = said l n claims (held || ((fine && all_hold l claims) || another_holds l claims))
+broken_then left begun held so_far claims = said left begun claims (held || ((so_far && all_hold left claims) || another_holds left claims))

@@ -5,20 +5,20 @@ use Rattle.find_play.specs.declared.statement.Statement.{Statement}
 use Rattle.find_play.specs.declared.thread.Part.{Part}
 use Rattle.find_play.specs.Meaning.{depth_after, after}
 
-pub part_goes_on : (part : Part) (d e index : ℕ) (s : Statement) (ss : List Statement) → index < length ss → depth_after part d (get_or ss index s) ≡ Some e → after part d (drop index ss) ≡ suc (after part e (drop (index + 1) ss))
+pub part_goes_on : (part : Part) (depth next_depth index : ℕ) (default : Statement) (statements : List Statement) → index < length statements → depth_after part depth (get_or statements index default) ≡ Some next_depth → after part depth (drop index statements) ≡ suc (after part next_depth (drop (index + 1) statements))
 unfolding after
-part_goes_on part d e index s ss lt found = rw (add-one, drop-cons ss index s, found) refl
+part_goes_on part depth next_depth index default statements index_below found = rw (add-one, drop-cons statements index default, found) refl
 
-pub part_ends : (part : Part) (d index : ℕ) (s : Statement) (ss : List Statement) → index < length ss → depth_after part d (get_or ss index s) ≡ None → after part d (drop index ss) ≡ 1
+pub part_ends : (part : Part) (depth index : ℕ) (default : Statement) (statements : List Statement) → index < length statements → depth_after part depth (get_or statements index default) ≡ None → after part depth (drop index statements) ≡ 1
 unfolding after
-part_ends part d index s ss lt none = rw (drop-cons ss index s, none) refl
+part_ends part depth index default statements index_below no_depth = rw (drop-cons statements index default, no_depth) refl
 
-pub none_left : (part : Part) (d at : ℕ) (ss : List Statement) → length ss ≤ at → after part d (drop at ss) ≡ 0
+pub none_left : (part : Part) (depth index : ℕ) (statements : List Statement) → length statements ≤ index → after part depth (drop index statements) ≡ 0
 unfolding after
-none_left part d at ss le = rw (drop_all at ss le) refl
+none_left part depth index statements index_past = rw (drop_all index statements index_past) refl
 
-pub one_on : (at x y whole : ℕ) → x ≡ suc y → at + x ≡ whole → at + 1 + y ≡ whole
-one_on at x y whole same sum = omega (arith, same, sum)
+pub one_on : (index steps later_steps whole : ℕ) → steps ≡ suc later_steps → index + steps ≡ whole → index + 1 + later_steps ≡ whole
+one_on index steps later_steps whole one_more sum = omega (arith, one_more, sum)
 
-pub nothing_on : (at x whole : ℕ) → x ≡ 0 → at + x ≡ whole → at ≡ whole
-nothing_on at x whole same sum = omega (arith, same, sum)
+pub nothing_on : (index steps whole : ℕ) → steps ≡ 0 → index + steps ≡ whole → index ≡ whole
+nothing_on index steps whole no_steps sum = omega (arith, no_steps, sum)

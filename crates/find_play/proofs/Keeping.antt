@@ -19,48 +19,48 @@ room program thread = thread.left * (length program + 1) + (length program - thr
 
 -- where a move leads: further, or it gives something and stands behind it
 abbrev IsFurther : List Statement → ℕ → Move → Type 0
-IsFurther program at (Goes to) = (at < length program) × (at < to)
-IsFurther program at (Back first) = Unit {0}
-IsFurther program at (Gives (Keep note) to) = (at < length program) × (to ≡ at + 1)
-IsFurther program at (Gives next to) = Unit {0}
+IsFurther program index (Goes target) = (index < length program) × (index < target)
+IsFurther program index (Back first) = Unit {0}
+IsFurther program index (Gives (Keep note) target) = (index < length program) × (target ≡ index + 1)
+IsFurther program index (Gives next target) = Unit {0}
 
-further_if : (program : List Statement) (index a b : ℕ) (test : Bool) → index < length program → index < a → index < b → IsFurther program index (if test then Goes a else Goes b)
-further_if program index a b true below x y = (below, x)
-further_if program index a b false below x y = (below, y)
+further_if : (program : List Statement) (index then_index else_index : ℕ) (test : Bool) → index < length program → index < then_index → index < else_index → IsFurther program index (if test then Goes then_index else Goes else_index)
+further_if program index then_index else_index true index_below then_further else_further = (index_below, then_further)
+further_if program index then_index else_index false index_below then_further else_further = (index_below, else_further)
 
 further : (program : List Statement) (reply : Option Reply) (index : ℕ) (found : Option Statement) → slice_get program index ≡ found → IsFurther program index (move_by program reply index found)
-further program reply index None same = tt
-further program reply index (Some (statement.Run command)) same = tt
-further program reply index (Some (statement.Keep note)) same = (slice_get_within program index (statement.Keep note) same, refl)
-further program reply index (Some statement.Loop) same = (slice_get_within program index statement.Loop same, omega arith)
-further program reply index (Some (statement.Until wanted)) same = further_if program index (behind part.Loop program index) (index + 1) (fits_last wanted reply) (slice_get_within program index (statement.Until wanted) same) (omega arith) (omega arith)
-further program reply index (Some (statement.If wanted)) same = further_if program index (index + 1) (behind part.If program index) (fits_last wanted reply) (slice_get_within program index (statement.If wanted) same) (omega arith) (omega arith)
-further program reply index (Some statement.Else) same = (slice_get_within program index statement.Else same, omega arith)
-further program reply index (Some statement.End) same = (slice_get_within program index statement.End same, omega arith)
-further program reply index (Some (statement.Again first)) same = tt
+further program reply index None statement_there = tt
+further program reply index (Some (statement.Run command)) statement_there = tt
+further program reply index (Some (statement.Keep note)) statement_there = (slice_get_within program index (statement.Keep note) statement_there, refl)
+further program reply index (Some statement.Loop) statement_there = (slice_get_within program index statement.Loop statement_there, omega arith)
+further program reply index (Some (statement.Until wanted)) statement_there = further_if program index (behind part.Loop program index) (index + 1) (fits_last wanted reply) (slice_get_within program index (statement.Until wanted) statement_there) (omega arith) (omega arith)
+further program reply index (Some (statement.If wanted)) statement_there = further_if program index (index + 1) (behind part.If program index) (fits_last wanted reply) (slice_get_within program index (statement.If wanted) statement_there) (omega arith) (omega arith)
+further program reply index (Some statement.Else) statement_there = (slice_get_within program index statement.Else statement_there, omega arith)
+further program reply index (Some statement.End) statement_there = (slice_get_within program index statement.End statement_there, omega arith)
+further program reply index (Some (statement.Again first)) statement_there = tt
 
 -- where a statement leads
-leads : (program : List Statement) (reply : Option Reply) (at : ℕ) (m : Move) → move_at program reply at ≡ m → IsFurther program at m
-leads program reply index m same = subst (IsFurther program index) same (further program reply index (slice_get program index) refl)
+leads : (program : List Statement) (reply : Option Reply) (position : ℕ) (move : Move) → move_at program reply position ≡ move → IsFurther program position move
+leads program reply index move move_there = subst (IsFurther program index) move_there (further program reply index (slice_get program index) refl)
 
-less_on : (n at to left : ℕ) → at < n → at < to → left * (n + 1) + (n - to) < left * (n + 1) + (n - at)
-less_on n at to left lt below = omega arith
+less_on : (size index target turns_left : ℕ) → index < size → index < target → turns_left * (size + 1) + (size - target) < turns_left * (size + 1) + (size - index)
+less_on size index target turns_left index_below target_above = omega arith
 
-less_back : (n at first left : ℕ) → left * (n + 1) + (n - first) < suc left * (n + 1) + (n - at)
-less_back n at first left = omega arith
+less_back : (size index first turns_left : ℕ) → turns_left * (size + 1) + (size - first) < suc turns_left * (size + 1) + (size - index)
+less_back size index first turns_left = omega arith
 
 -- a thread that keeps a note has less room then
-pub keeps_less : (program : List Statement) (reply : Option Reply) (note : ℕ) (thread other_thread : Thread) (next : Next) → Runs program reply thread next other_thread → next ≡ Keep note → room program other_thread < room program thread
-keeps_less program reply note thread other_thread next (Gave at left to _ h) is =
-    let at_end : IsFurther program at (Gives (Keep note) to) = subst (λ k. IsFurther program at (Gives k to)) is (leads program reply at (Gives next to) h) in
-    less_on (length program) at to left at_end.0 (omega (arith, at_end.1))
-keeps_less program reply note thread other_thread next (Went at left to _ _ h runs) is =
-    let on = leads program reply at (Goes to) h in
-    let less = keeps_less program reply note (record { at = to; left = left }) other_thread next runs is in
-    let more = less_on (length program) at to left on.0 on.1 in
-    omega (arith, less, more)
-keeps_less program reply note thread other_thread next (Returned at left first _ _ h runs) is =
-    let less = keeps_less program reply note (record { at = first; left = left }) other_thread next runs is in
-    let more = less_back (length program) at first left in
-    omega (arith, less, more)
-keeps_less program reply note thread other_thread next (Stopped at first h) is = absurd cc
+pub keeps_less : (program : List Statement) (reply : Option Reply) (note : ℕ) (thread thread_after : Thread) (next : Next) → Runs program reply thread next thread_after → next ≡ Keep note → room program thread_after < room program thread
+keeps_less program reply note thread thread_after next (Gave index turns_left target _ move_there) keeps_note =
+    let at_end : IsFurther program index (Gives (Keep note) target) = subst (λ kept_note. IsFurther program index (Gives kept_note target)) keeps_note (leads program reply index (Gives next target) move_there) in
+    less_on (length program) index target turns_left at_end.0 (omega (arith, at_end.1))
+keeps_less program reply note thread thread_after next (Went index turns_left target _ _ move_there runs) keeps_note =
+    let led_further = leads program reply index (Goes target) move_there in
+    let less_later = keeps_less program reply note (record { at = target; left = turns_left }) thread_after next runs keeps_note in
+    let less_room = less_on (length program) index target turns_left led_further.0 led_further.1 in
+    omega (arith, less_later, less_room)
+keeps_less program reply note thread thread_after next (Returned index turns_left first _ _ move_there runs) keeps_note =
+    let less_later = keeps_less program reply note (record { at = first; left = turns_left }) thread_after next runs keeps_note in
+    let less_room = less_back (length program) index first turns_left in
+    omega (arith, less_later, less_room)
+keeps_less program reply note thread thread_after next (Stopped index first move_there) keeps_note = absurd cc

@@ -3,8 +3,7 @@ use Rattle.std.proofs.Common.{◌≡◌, ℕ, ◌^◌, ◌<◌, ◌≤◌, Bool,
 use Rattle.std.specs.Fmt.{decimal}
 use Rattle.std.specs.Cmp.Lexicographic.{same_text}
 use Rattle.std.specs.Str.Parse.{digits_value}
-use Rattle.std.proofs.lemmas.Bool.{ltb-true, ltb-false}
-use Rattle.shen_graph.proofs.Bools.{true_parts}
+use Rattle.std.proofs.lemmas.Bool.{ltb-true, ltb-false, and_parts}
 use Rattle.find_play.specs.declared.wanted.Wanted.TheVariants as wanted
 use Rattle.trace_reading.specs.declared.why.Why.TheVariants as cause
 use Rattle.trace_reading.specs.Causes.{is_same, is_plain_number}
@@ -25,70 +24,70 @@ use Rattle.find_play.specs.WordsSaid.{ranged, number_between, number_wanted, as_
 use Rattle.find_play.specs.Spelling.{wanted_word, FitsWhenWanted, Says, AreSaid}
 
 same_ok : {A : Type 0} (x y : A) → ◌≡◌ {A = Result A TestWhy} (Ok x) (Ok y) → x ≡ y
-same_ok x y e = cc
+same_ok x y same_result = cc
 
-pub number_said : (least most n : ℕ) (digits : List ℕ) → most < 2 ^ 64 → number_between least most digits ≡ Ok n → (digits ≡ decimal n) × (least ≤ n) × (n ≤ most)
+pub number_said : (least most number : ℕ) (digits : List ℕ) → most < 2 ^ 64 → number_between least most digits ≡ Ok number → (digits ≡ decimal number) × (least ≤ number) × (number ≤ most)
 unfolding number_between ranged
-number_said least most n digits small e = by_tests (is_plain_number digits) (ltb (digits_value 10 digits) least) (ltb most (digits_value 10 digits)) refl refl refl e
+number_said least most number digits small number_read = by_tests (is_plain_number digits) (ltb (digits_value 10 digits) least) (ltb most (digits_value 10 digits)) refl refl refl number_read
   where
     by_tests : (plain low high : Bool) → is_plain_number digits ≡ plain → ltb (digits_value 10 digits) least ≡ low → ltb most (digits_value 10 digits) ≡ high
-        → ◌≡◌ {A = Result ℕ TestWhy} (cond plain (cond low (Err (why.Trace cause.Range)) (cond high (Err (why.Trace cause.Range)) (Ok (digits_value 10 digits)))) (Err (why.Trace cause.Number))) (Ok n)
-        → (digits ≡ decimal n) × (least ≤ n) × (n ≤ most)
-    by_tests true false false p a b e =
-        let same : digits_value 10 digits ≡ n = same_ok _ _ e in
-        let low : least ≤ digits_value 10 digits = ltb-false _ _ a in
-        let high : digits_value 10 digits ≤ most = ltb-false _ _ b in
-        (number_spelled digits p (omega (arith, high, small)) ∙ ap decimal same, omega (arith, low, same), omega (arith, high, same))
-    by_tests true false true p a b e = absurd cc
-    by_tests true true high p a b e = absurd cc
-    by_tests false low high p a b e = absurd cc
+        → ◌≡◌ {A = Result ℕ TestWhy} (cond plain (cond low (Err (why.Trace cause.Range)) (cond high (Err (why.Trace cause.Range)) (Ok (digits_value 10 digits)))) (Err (why.Trace cause.Number))) (Ok number)
+        → (digits ≡ decimal number) × (least ≤ number) × (number ≤ most)
+    by_tests true false false plain_test low_test high_test number_read =
+        let same_number : digits_value 10 digits ≡ number = same_ok _ _ number_read in
+        let low : least ≤ digits_value 10 digits = ltb-false _ _ low_test in
+        let high : digits_value 10 digits ≤ most = ltb-false _ _ high_test in
+        (number_spelled digits plain_test (omega (arith, high, small)) ∙ ap decimal same_number, omega (arith, low, same_number), omega (arith, high, same_number))
+    by_tests true false true plain_test low_test high_test number_read = absurd cc
+    by_tests true true high plain_test low_test high_test number_read = absurd cc
+    by_tests false low high plain_test low_test high_test number_read = absurd cc
 
 -- ---- replies
 
 -- the value is what a reply is asked to be, and the word is its
 abbrev IsReply : ℕ → List ℕ → Value → Type 0
-IsReply version w v = (x : Wanted) × (v ≡ value.Wanted x) × (w ≡ wanted_word x) × FitsWhenWanted version x
+IsReply version word said_value = (wanted_reply : Wanted) × (said_value ≡ value.Wanted wanted_reply) × (word ≡ wanted_word wanted_reply) × FitsWhenWanted version wanted_reply
 
-one_reply : (version : ℕ) (w name : List ℕ) (x : Wanted) (other : Result Value TestWhy) (v : Value) → name ≡ wanted_word x → FitsWhenWanted version x → cond (is_same w name) (Ok (value.Wanted x)) other ≡ Ok v
-    → (other ≡ Ok v → IsReply version w v) → IsReply version w v
-one_reply version w name x other v spelled fits e others = by_test (is_same w name) refl e
+one_reply : (version : ℕ) (word name : List ℕ) (wanted_reply : Wanted) (else_result : Result Value TestWhy) (said_value : Value) → name ≡ wanted_word wanted_reply → FitsWhenWanted version wanted_reply → cond (is_same word name) (Ok (value.Wanted wanted_reply)) else_result ≡ Ok said_value
+    → (else_result ≡ Ok said_value → IsReply version word said_value) → IsReply version word said_value
+one_reply version word name wanted_reply else_result said_value spelled fits value_read others = by_test (is_same word name) refl value_read
   where
-    by_test : (test : Bool) → is_same w name ≡ test → cond test (Ok (value.Wanted x)) other ≡ Ok v → IsReply version w v
-    by_test true same e = (x, sym (same_ok _ _ e), same_text w name (sym same) ∙ spelled, fits)
-    by_test false same e = others e
+    by_test : (test : Bool) → is_same word name ≡ test → cond test (Ok (value.Wanted wanted_reply)) else_result ≡ Ok said_value → IsReply version word said_value
+    by_test true word_test value_read = (wanted_reply, sym (same_ok _ _ value_read), same_text word name (sym word_test) ∙ spelled, fits)
+    by_test false word_test value_read = others value_read
 
 -- the word of a place, which version 1 has not
-pinned_reply : (version : ℕ) (w : List ℕ) (other : Result Value TestWhy) (v : Value) → cond (ltb 1 version && is_same w (codes "pinned")) (Ok (value.Wanted wanted.Pinned)) other ≡ Ok v
-    → (other ≡ Ok v → IsReply version w v) → IsReply version w v
-pinned_reply version w other v e others = by_tests (ltb 1 version) (is_same w (codes "pinned")) refl refl e
+pinned_reply : (version : ℕ) (word : List ℕ) (else_result : Result Value TestWhy) (said_value : Value) → cond (ltb 1 version && is_same word (codes "pinned")) (Ok (value.Wanted wanted.Pinned)) else_result ≡ Ok said_value
+    → (else_result ≡ Ok said_value → IsReply version word said_value) → IsReply version word said_value
+pinned_reply version word else_result said_value value_read others = by_tests (ltb 1 version) (is_same word (codes "pinned")) refl refl value_read
   where
-    by_tests : (holds other_holds : Bool) → ltb 1 version ≡ holds → is_same w (codes "pinned") ≡ other_holds → cond (holds && other_holds) (Ok (value.Wanted wanted.Pinned)) other ≡ Ok v → IsReply version w v
-    by_tests true true later same e = (wanted.Pinned, sym (same_ok _ _ e), same_text w (codes "pinned") (sym same), ltb-true 1 version later)
-    by_tests true false later same e = others e
-    by_tests false other_holds later same e = others e
+    by_tests : (holds word_holds : Bool) → ltb 1 version ≡ holds → is_same word (codes "pinned") ≡ word_holds → cond (holds && word_holds) (Ok (value.Wanted wanted.Pinned)) else_result ≡ Ok said_value → IsReply version word said_value
+    by_tests true true later pinned_test value_read = (wanted.Pinned, sym (same_ok _ _ value_read), same_text word (codes "pinned") (sym pinned_test), ltb-true 1 version later)
+    by_tests true false later pinned_test value_read = others value_read
+    by_tests false word_holds later pinned_test value_read = others value_read
 
-number_reply : (version : ℕ) (digits : List ℕ) (v : Value) → number_wanted digits ≡ Ok v → IsReply version digits v
-number_reply version digits v same = by_test (is_plain_number digits) same
+number_reply : (version : ℕ) (digits : List ℕ) (said_value : Value) → number_wanted digits ≡ Ok said_value → IsReply version digits said_value
+number_reply version digits said_value value_read = by_test (is_plain_number digits) value_read
   where
-    by_number : (r : Result ℕ TestWhy) → number_between 0 18446744073709551615 digits ≡ r → as_wanted r ≡ Ok v → IsReply version digits v
-    by_number (Ok n) is same = let said = number_said 0 18446744073709551615 n digits (omega arith) is in (wanted.Number n, sym (same_ok _ _ same), said.0, omega (arith, said.2))
-    by_number (Err why) is same = absurd cc
+    by_number : (number_result : Result ℕ TestWhy) → number_between 0 18446744073709551615 digits ≡ number_result → as_wanted number_result ≡ Ok said_value → IsReply version digits said_value
+    by_number (Ok number) number_read value_read = let said_number = number_said 0 18446744073709551615 number digits (omega arith) number_read in (wanted.Number number, sym (same_ok _ _ value_read), said_number.0, omega (arith, said_number.2))
+    by_number (Err why) number_read value_read = absurd cc
 
-    by_test : (test : Bool) → cond test (as_wanted (number_between 0 18446744073709551615 digits)) (Err why.Reply) ≡ Ok v → IsReply version digits v
-    by_test true same = by_number (number_between 0 18446744073709551615 digits) refl same
-    by_test false same = absurd cc
+    by_test : (test : Bool) → cond test (as_wanted (number_between 0 18446744073709551615 digits)) (Err why.Reply) ≡ Ok said_value → IsReply version digits said_value
+    by_test true value_read = by_number (number_between 0 18446744073709551615 digits) refl value_read
+    by_test false value_read = absurd cc
 
-pub reply_said : (version : ℕ) (digits : List ℕ) (v : Value) → wanted_in version digits ≡ Ok v → IsReply version digits v
+pub reply_said : (version : ℕ) (digits : List ℕ) (said_value : Value) → wanted_in version digits ≡ Ok said_value → IsReply version digits said_value
 unfolding wanted_in
-reply_said version digits v e =
-    one_reply version digits (codes "yes") wanted.Yes _ v refl tt e (λ e.
-    one_reply version digits (codes "no") wanted.No _ v refl tt e (λ e.
-    one_reply version digits (codes "null") wanted.Null _ v refl tt e (λ e.
-    one_reply version digits (codes "object") wanted.Object _ v refl tt e (λ e.
-    one_reply version digits (codes "ok") wanted.Ok _ v refl tt e (λ e.
-    one_reply version digits (codes "full") wanted.Full _ v refl tt e (λ e.
-    one_reply version digits (codes "bad") wanted.Bad _ v refl tt e (λ e.
-    pinned_reply version digits _ v e (λ e. number_reply version digits v e))))))))
+reply_said version digits said_value value_read =
+    one_reply version digits (codes "yes") wanted.Yes _ said_value refl tt value_read (λ value_read.
+    one_reply version digits (codes "no") wanted.No _ said_value refl tt value_read (λ value_read.
+    one_reply version digits (codes "null") wanted.Null _ said_value refl tt value_read (λ value_read.
+    one_reply version digits (codes "object") wanted.Object _ said_value refl tt value_read (λ value_read.
+    one_reply version digits (codes "ok") wanted.Ok _ said_value refl tt value_read (λ value_read.
+    one_reply version digits (codes "full") wanted.Full _ said_value refl tt value_read (λ value_read.
+    one_reply version digits (codes "bad") wanted.Bad _ said_value refl tt value_read (λ value_read.
+    pinned_reply version digits _ said_value value_read (λ value_read. number_reply version digits said_value value_read))))))))
 
 -- ---- values
 
@@ -98,93 +97,93 @@ is_small_slot (slot.Small most) = ltb most 18446744073709551616
 is_small_slot (slot.Large least most) = ltb most 18446744073709551616
 is_small_slot _ = true
 
-pub value_said : (told : Told) (kind : LineKind) (s : Slot) (digits : List ℕ) (v : Value) → is_small_slot s ≡ true → value_in told kind s digits ≡ Ok v → Says told kind s v digits
+pub value_said : (told : Told) (kind : LineKind) (asked_slot : Slot) (digits : List ℕ) (said_value : Value) → is_small_slot asked_slot ≡ true → value_in told kind asked_slot digits ≡ Ok said_value → Says told kind asked_slot said_value digits
 unfolding value_in
-value_said told kind slot.Nothing digits v small same = absurd cc
-value_said told kind (slot.Small most) digits v small same = by_number (number_between 0 most digits) refl same
+value_said told kind slot.Nothing digits said_value small value_read = absurd cc
+value_said told kind (slot.Small most) digits said_value small value_read = by_number (number_between 0 most digits) refl value_read
   where
-    by_number : (r : Result ℕ TestWhy) → number_between 0 most digits ≡ r → as_small r ≡ Ok v → Says told kind (slot.Small most) v digits
-    by_number (Ok n) is same = let said = number_said 0 most n digits (ltb-true most _ small) is in subst (λ (u : Value). Says told kind (slot.Small most) u digits) (same_ok _ _ same) (said.0, said.2)
-    by_number (Err why) is same = absurd cc
-value_said told kind (slot.Large least most) digits v small same = by_number (number_between least most digits) refl same
+    by_number : (number_result : Result ℕ TestWhy) → number_between 0 most digits ≡ number_result → as_small number_result ≡ Ok said_value → Says told kind (slot.Small most) said_value digits
+    by_number (Ok number) number_read value_read = let said_number = number_said 0 most number digits (ltb-true most _ small) number_read in subst (λ (some_value : Value). Says told kind (slot.Small most) some_value digits) (same_ok _ _ value_read) (said_number.0, said_number.2)
+    by_number (Err why) number_read value_read = absurd cc
+value_said told kind (slot.Large least most) digits said_value small value_read = by_number (number_between least most digits) refl value_read
   where
-    by_number : (r : Result ℕ TestWhy) → number_between least most digits ≡ r → as_large r ≡ Ok v → Says told kind (slot.Large least most) v digits
-    by_number (Ok n) is same = subst (λ (u : Value). Says told kind (slot.Large least most) u digits) (same_ok _ _ same) (number_said least most n digits (ltb-true most _ small) is)
-    by_number (Err why) is same = absurd cc
-value_said told kind slot.Root digits v small same = by_number (number_of told.roots digits) refl same
+    by_number : (number_result : Result ℕ TestWhy) → number_between least most digits ≡ number_result → as_large number_result ≡ Ok said_value → Says told kind (slot.Large least most) said_value digits
+    by_number (Ok number) number_read value_read = subst (λ (some_value : Value). Says told kind (slot.Large least most) some_value digits) (same_ok _ _ value_read) (number_said least most number digits (ltb-true most _ small) number_read)
+    by_number (Err why) number_read value_read = absurd cc
+value_said told kind slot.Root digits said_value small value_read = by_number (number_of told.roots digits) refl value_read
   where
-    by_test : (n : ℕ) (test : Bool) → ltb n 16 ≡ test → number_of told.roots digits ≡ Some n → cond test (Ok (value.Small n)) (Err why.Name) ≡ Ok v → Says told kind slot.Root v digits
-    by_test n true small is same = subst (λ (u : Value). Says told kind slot.Root u digits) (same_ok _ _ same) (is, omega (arith, ltb-true n 16 small))
-    by_test n false small is same = absurd cc
+    by_test : (number : ℕ) (test : Bool) → ltb number 16 ≡ test → number_of told.roots digits ≡ Some number → cond test (Ok (value.Small number)) (Err why.Name) ≡ Ok said_value → Says told kind slot.Root said_value digits
+    by_test number true small number_found value_read = subst (λ (some_value : Value). Says told kind slot.Root some_value digits) (same_ok _ _ value_read) (number_found, omega (arith, ltb-true number 16 small))
+    by_test number false small number_found value_read = absurd cc
 
-    by_number : (found : Option ℕ) → number_of told.roots digits ≡ found → as_root found ≡ Ok v → Says told kind slot.Root v digits
-    by_number (Some n) is same = by_test n (ltb n 16) refl is same
-    by_number None is same = absurd cc
-value_said told kind slot.Note digits v small same = by_number (number_of told.notes digits) refl same
+    by_number : (found : Option ℕ) → number_of told.roots digits ≡ found → as_root found ≡ Ok said_value → Says told kind slot.Root said_value digits
+    by_number (Some number) number_found value_read = by_test number (ltb number 16) refl number_found value_read
+    by_number None number_found value_read = absurd cc
+value_said told kind slot.Note digits said_value small value_read = by_number (number_of told.notes digits) refl value_read
   where
-    by_number : (found : Option ℕ) → number_of told.notes digits ≡ found → as_index (as_number found) ≡ Ok v → Says told kind slot.Note v digits
-    by_number (Some n) is same = subst (λ (u : Value). Says told kind slot.Note u digits) (same_ok _ _ same) is
-    by_number None is same = absurd cc
-value_said told kind slot.Place digits v small same = by_number (number_of told.place_names digits) refl same
+    by_number : (found : Option ℕ) → number_of told.notes digits ≡ found → as_index (as_number found) ≡ Ok said_value → Says told kind slot.Note said_value digits
+    by_number (Some number) number_found value_read = subst (λ (some_value : Value). Says told kind slot.Note some_value digits) (same_ok _ _ value_read) number_found
+    by_number None number_found value_read = absurd cc
+value_said told kind slot.Place digits said_value small value_read = by_number (number_of told.place_names digits) refl value_read
   where
-    by_number : (found : Option ℕ) → number_of told.place_names digits ≡ found → as_index (as_number found) ≡ Ok v → Says told kind slot.Place v digits
-    by_number (Some n) is same = subst (λ (u : Value). Says told kind slot.Place u digits) (same_ok _ _ same) is
-    by_number None is same = absurd cc
-value_said told kind slot.Wanted digits v small same =
-    let said = reply_said told.version digits v same in
-    subst (λ (u : Value). Says told kind slot.Wanted u digits) (sym said.1) (said.2, said.3)
-value_said told kind slot.Fresh digits v small same = by_tests (is_name digits) (number_of (names_beside told kind) digits) refl refl same
+    by_number : (found : Option ℕ) → number_of told.place_names digits ≡ found → as_index (as_number found) ≡ Ok said_value → Says told kind slot.Place said_value digits
+    by_number (Some number) number_found value_read = subst (λ (some_value : Value). Says told kind slot.Place some_value digits) (same_ok _ _ value_read) number_found
+    by_number None number_found value_read = absurd cc
+value_said told kind slot.Wanted digits said_value small value_read =
+    let said = reply_said told.version digits said_value value_read in
+    subst (λ (some_value : Value). Says told kind slot.Wanted some_value digits) (sym said.1) (said.2, said.3)
+value_said told kind slot.Fresh digits said_value small value_read = by_tests (is_name digits) (number_of (names_beside told kind) digits) refl refl value_read
   where
-    by_tests : (name : Bool) (number : Option ℕ) → is_name digits ≡ name → number_of (names_beside told kind) digits ≡ number → cond (name && is_none number) (Ok value.Nothing) (Err why.Fresh) ≡ Ok v → Says told kind slot.Fresh v digits
-    by_tests true None is free same = subst (λ (u : Value). Says told kind slot.Fresh u digits) (same_ok _ _ same) (is, free)
-    by_tests true (Some n) is free same = absurd cc
-    by_tests false number is free same = absurd cc
+    by_tests : (name : Bool) (number : Option ℕ) → is_name digits ≡ name → number_of (names_beside told kind) digits ≡ number → cond (name && is_none number) (Ok value.Nothing) (Err why.Fresh) ≡ Ok said_value → Says told kind slot.Fresh said_value digits
+    by_tests true None name_test number_test value_read = subst (λ (some_value : Value). Says told kind slot.Fresh some_value digits) (same_ok _ _ value_read) (name_test, number_test)
+    by_tests true (Some taken_number) name_test number_test value_read = absurd cc
+    by_tests false number name_test number_test value_read = absurd cc
 
 -- ---- lines
 
 abbrev pub are_small : List Slot → Bool
 are_small [] = true
-are_small (s ∷ ss) = is_small_slot s && are_small ss
+are_small (first_slot ∷ later_slots) = is_small_slot first_slot && are_small later_slots
 
-taken : (r : Result Value TestWhy) (rest : List (List ℕ)) (x : Value × List (List ℕ)) → with_rest r rest ≡ Ok x → (r ≡ Ok x.0) × (x.1 ≡ rest)
-taken (Ok v) rest x e = let made : Value × List (List ℕ) = (v, rest) in let same : made ≡ x = same_ok made x e in (ap (λ (y : Value × List (List ℕ)). Ok y.0) same, sym (ap (λ (y : Value × List (List ℕ)). y.1) same))
-taken (Err why) rest x same = absurd cc
+taken : (result : Result Value TestWhy) (rest : List (List ℕ)) (outcome : Value × List (List ℕ)) → with_rest result rest ≡ Ok outcome → (result ≡ Ok outcome.0) × (outcome.1 ≡ rest)
+taken (Ok said_value) rest outcome outcome_given = let made : Value × List (List ℕ) = (said_value, rest) in let same_outcome : made ≡ outcome = same_ok made outcome outcome_given in (ap (λ (pair : Value × List (List ℕ)). Ok pair.0) same_outcome, sym (ap (λ (pair : Value × List (List ℕ)). pair.1) same_outcome))
+taken (Err why) rest outcome same_outcome = absurd cc
 
-nothing_said : (s : Slot) (v : Value) → without_word s ≡ Ok v → (s ≡ slot.Nothing) × (v ≡ value.Nothing)
-nothing_said slot.Nothing v same = (refl, sym (same_ok _ _ same))
-nothing_said _ v same = absurd cc
+nothing_said : (asked_slot : Slot) (said_value : Value) → without_word asked_slot ≡ Ok said_value → (asked_slot ≡ slot.Nothing) × (said_value ≡ value.Nothing)
+nothing_said slot.Nothing said_value value_read = (refl, sym (same_ok _ _ value_read))
+nothing_said _ said_value value_read = absurd cc
 
-pub values_said : (told : Told) (kind : LineKind) (ss : List Slot) (ws : List (List ℕ)) (vs : List Value) → are_small ss ≡ true → values_in told kind ss ws ≡ Ok vs → AreSaid told kind ss vs ws
+pub values_said : (told : Told) (kind : LineKind) (slots : List Slot) (words : List (List ℕ)) (values : List Value) → are_small slots ≡ true → values_in told kind slots words ≡ Ok values → AreSaid told kind slots values words
 unfolding values_in take_value
-values_said told kind [] [] vs small same = subst (λ (us : List Value). AreSaid told kind [] us []) (same_ok [] vs same) tt
-values_said told kind [] (w ∷ ws) vs small same = absurd cc
-values_said told kind (s ∷ ss) [] vs small same = by_value (λ more is. values_said told kind ss [] more (true_parts (is_small_slot s) (are_small ss) small).1 is) (with_rest (without_word s) []) refl same
+values_said told kind [] [] values small values_read = subst (λ (us : List Value). AreSaid told kind [] us []) (same_ok [] values values_read) tt
+values_said told kind [] (word ∷ words) values small values_read = absurd cc
+values_said told kind (first_slot ∷ slots) [] values small values_read = by_value (λ later_values later_read. values_said told kind slots [] later_values (and_parts (is_small_slot first_slot) (are_small slots) small).1 later_read) (with_rest (without_word first_slot) []) refl values_read
   where
-    by_rest : ((more : List Value) → values_in told kind ss [] ≡ Ok more → AreSaid told kind ss more []) → (x : Value × List (List ℕ)) (r : Result (List Value) TestWhy)
-        → with_rest (without_word s) [] ≡ Ok x → values_in told kind ss x.1 ≡ r → with_first x.0 r ≡ Ok vs → AreSaid told kind (s ∷ ss) vs []
-    by_rest later x (Err why) t is same = absurd cc
-    by_rest later x (Ok more) t is same =
-        let first = taken (without_word s) [] x t in
-        let none = nothing_said s x.0 first.0 in
-        let others = later more (subst (λ (us : List (List ℕ)). values_in told kind ss us ≡ Ok more) first.1 is) in
-        subst (λ (us : List Value). AreSaid told kind (s ∷ ss) us []) (same_ok (x.0 ∷ more) vs same) (none.0, none.1, others)
+    by_rest : ((later_values : List Value) → values_in told kind slots [] ≡ Ok later_values → AreSaid told kind slots later_values []) → (first_outcome : Value × List (List ℕ)) (later_result : Result (List Value) TestWhy)
+        → with_rest (without_word first_slot) [] ≡ Ok first_outcome → values_in told kind slots first_outcome.1 ≡ later_result → with_first first_outcome.0 later_result ≡ Ok values → AreSaid told kind (first_slot ∷ slots) values []
+    by_rest later first_outcome (Err why) first_read later_read values_read = absurd cc
+    by_rest later first_outcome (Ok later_values) first_read later_read values_read =
+        let first_taken = taken (without_word first_slot) [] first_outcome first_read in
+        let nothing_told = nothing_said first_slot first_outcome.0 first_taken.0 in
+        let others = later later_values (subst (λ (us : List (List ℕ)). values_in told kind slots us ≡ Ok later_values) first_taken.1 later_read) in
+        subst (λ (us : List Value). AreSaid told kind (first_slot ∷ slots) us []) (same_ok (first_outcome.0 ∷ later_values) values values_read) (nothing_told.0, nothing_told.1, others)
 
-    by_value : ((more : List Value) → values_in told kind ss [] ≡ Ok more → AreSaid told kind ss more []) → (r : Result (Value × List (List ℕ)) TestWhy)
-        → with_rest (without_word s) [] ≡ r → then_values r (λ rest. values_in told kind ss rest) ≡ Ok vs → AreSaid told kind (s ∷ ss) vs []
-    by_value later (Err why) t same = absurd cc
-    by_value later (Ok x) t same = by_rest later x (values_in told kind ss x.1) t refl same
-values_said told kind (s ∷ ss) (digits ∷ ws) vs small same = by_value (λ more is. values_said told kind ss ws more (true_parts (is_small_slot s) (are_small ss) small).1 is) (with_rest (value_in told kind s digits) ws) refl same
+    by_value : ((later_values : List Value) → values_in told kind slots [] ≡ Ok later_values → AreSaid told kind slots later_values []) → (first_result : Result (Value × List (List ℕ)) TestWhy)
+        → with_rest (without_word first_slot) [] ≡ first_result → then_values first_result (λ rest. values_in told kind slots rest) ≡ Ok values → AreSaid told kind (first_slot ∷ slots) values []
+    by_value later (Err why) first_read values_read = absurd cc
+    by_value later (Ok first_outcome) first_read values_read = by_rest later first_outcome (values_in told kind slots first_outcome.1) first_read refl values_read
+values_said told kind (first_slot ∷ slots) (digits ∷ words) values small values_read = by_value (λ later_values later_read. values_said told kind slots words later_values (and_parts (is_small_slot first_slot) (are_small slots) small).1 later_read) (with_rest (value_in told kind first_slot digits) words) refl values_read
   where
-    by_rest : ((more : List Value) → values_in told kind ss ws ≡ Ok more → AreSaid told kind ss more ws) → (x : Value × List (List ℕ)) (r : Result (List Value) TestWhy)
-        → with_rest (value_in told kind s digits) ws ≡ Ok x → values_in told kind ss x.1 ≡ r → with_first x.0 r ≡ Ok vs → AreSaid told kind (s ∷ ss) vs (digits ∷ ws)
-    by_rest later x (Err why) t is same = absurd cc
-    by_rest later x (Ok more) t is same =
-        let first = taken (value_in told kind s digits) ws x t in
-        let pass = true_parts (is_small_slot s) (are_small ss) small in
-        let others = later more (subst (λ (us : List (List ℕ)). values_in told kind ss us ≡ Ok more) first.1 is) in
-        subst (λ (us : List Value). AreSaid told kind (s ∷ ss) us (digits ∷ ws)) (same_ok (x.0 ∷ more) vs same) (value_said told kind s digits x.0 pass.0 first.0, others)
+    by_rest : ((later_values : List Value) → values_in told kind slots words ≡ Ok later_values → AreSaid told kind slots later_values words) → (first_outcome : Value × List (List ℕ)) (later_result : Result (List Value) TestWhy)
+        → with_rest (value_in told kind first_slot digits) words ≡ Ok first_outcome → values_in told kind slots first_outcome.1 ≡ later_result → with_first first_outcome.0 later_result ≡ Ok values → AreSaid told kind (first_slot ∷ slots) values (digits ∷ words)
+    by_rest later first_outcome (Err why) first_read later_read values_read = absurd cc
+    by_rest later first_outcome (Ok later_values) first_read later_read values_read =
+        let first_taken = taken (value_in told kind first_slot digits) words first_outcome first_read in
+        let pass = and_parts (is_small_slot first_slot) (are_small slots) small in
+        let others = later later_values (subst (λ (us : List (List ℕ)). values_in told kind slots us ≡ Ok later_values) first_taken.1 later_read) in
+        subst (λ (us : List Value). AreSaid told kind (first_slot ∷ slots) us (digits ∷ words)) (same_ok (first_outcome.0 ∷ later_values) values values_read) (value_said told kind first_slot digits first_outcome.0 pass.0 first_taken.0, others)
 
-    by_value : ((more : List Value) → values_in told kind ss ws ≡ Ok more → AreSaid told kind ss more ws) → (r : Result (Value × List (List ℕ)) TestWhy)
-        → with_rest (value_in told kind s digits) ws ≡ r → then_values r (λ rest. values_in told kind ss rest) ≡ Ok vs → AreSaid told kind (s ∷ ss) vs (digits ∷ ws)
-    by_value later (Err why) t same = absurd cc
-    by_value later (Ok x) t same = by_rest later x (values_in told kind ss x.1) t refl same
+    by_value : ((later_values : List Value) → values_in told kind slots words ≡ Ok later_values → AreSaid told kind slots later_values words) → (first_result : Result (Value × List (List ℕ)) TestWhy)
+        → with_rest (value_in told kind first_slot digits) words ≡ first_result → then_values first_result (λ rest. values_in told kind slots rest) ≡ Ok values → AreSaid told kind (first_slot ∷ slots) values (digits ∷ words)
+    by_value later (Err why) first_read values_read = absurd cc
+    by_value later (Ok first_outcome) first_read values_read = by_rest later first_outcome (values_in told kind slots first_outcome.1) first_read refl values_read

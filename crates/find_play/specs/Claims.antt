@@ -35,10 +35,10 @@ same_reply reply.Null reply.Null = true
 same_reply reply.Ok reply.Ok = true
 same_reply reply.Yes reply.Yes = true
 same_reply reply.No reply.No = true
-same_reply (reply.Number a) (reply.Number b) = a == b
+same_reply (reply.Number value) (reply.Number other_value) = value == other_value
 same_reply reply.Bad reply.Bad = true
 same_reply reply.Full reply.Full = true
-same_reply (reply.At a) (reply.At b) = a == b
+same_reply (reply.At place) (reply.At other_place) = place == other_place
 same_reply _ _ = false
 
 -- there is a reply, and it is such
@@ -66,8 +66,8 @@ abbrev pub has_number : List Row → ℕ → ℕ → Option Reference → Bool
 has_number rows index value (Some (Some name)) = is_value value (number_held rows name index)
   where
     is_value : ℕ → Option ℕ → Bool
-    is_value n None = false
-    is_value n (Some m) = m == n
+    is_value value None = false
+    is_value value (Some found) = found == value
 has_number rows index value _ = false
 
 -- both references are there, and equal
@@ -77,39 +77,39 @@ are_one _ _ = false
 
 -- a fact holds
 abbrev pub holds : Left → Claim → Bool
-holds l Assert = true
-holds l Or = true
-holds l (Is wanted note) = is_such wanted (slice_index_or l.notes note None)
-holds l (Isnt wanted note) = is_other wanted (slice_index_or l.notes note None)
-holds l (Never wanted) = list_all (λ e. not (fits wanted e.reply)) l.history
-holds l (Count wanted count) = count_by (is_such wanted) l.notes == count
-holds l (Alike a b) = are_alike true (slice_index_or l.notes a None) (slice_index_or l.notes b None)
-holds l (Differ a b) = are_alike false (slice_index_or l.notes a None) (slice_index_or l.notes b None)
-holds l (Number place index value) = has_number l.rows index value (slice_index_or l.places place None)
-holds l (Null place) = is_null_place (slice_index_or l.places place None)
-holds l (Chain place field length) = is_null_place (along l.rows field length (slice_index_or l.places place None))
-holds l (Same a b) = are_one (slice_index_or l.places a None) (slice_index_or l.places b None)
+holds left Assert = true
+holds left Or = true
+holds left (Is wanted note) = is_such wanted (slice_index_or left.notes note None)
+holds left (Isnt wanted note) = is_other wanted (slice_index_or left.notes note None)
+holds left (Never wanted) = list_all (λ entry. not (fits wanted entry.reply)) left.history
+holds left (Count wanted count) = count_by (is_such wanted) left.notes == count
+holds left (Alike first second) = are_alike true (slice_index_or left.notes first None) (slice_index_or left.notes second None)
+holds left (Differ first second) = are_alike false (slice_index_or left.notes first None) (slice_index_or left.notes second None)
+holds left (Number place index value) = has_number left.rows index value (slice_index_or left.places place None)
+holds left (Null place) = is_null_place (slice_index_or left.places place None)
+holds left (Chain place field length) = is_null_place (along left.rows field length (slice_index_or left.places place None))
+holds left (Same first second) = are_one (slice_index_or left.places first None) (slice_index_or left.places second None)
 
 -- all facts hold up to the next alternative or assertion
 abbrev pub all_hold : Left → List Claim → Bool
-all_hold l [] = true
-all_hold l (Assert ∷ cs) = true
-all_hold l (Or ∷ cs) = true
-all_hold l (c ∷ cs) = holds l c && all_hold l cs
+all_hold left [] = true
+all_hold left (Assert ∷ claims) = true
+all_hold left (Or ∷ claims) = true
+all_hold left (claim ∷ claims) = holds left claim && all_hold left claims
 
 -- some later alternative of the assertion holds
 abbrev pub another_holds : Left → List Claim → Bool
-another_holds l [] = false
-another_holds l (Assert ∷ cs) = false
-another_holds l (Or ∷ cs) = all_hold l cs || another_holds l cs
-another_holds l (c ∷ cs) = another_holds l cs
+another_holds left [] = false
+another_holds left (Assert ∷ claims) = false
+another_holds left (Or ∷ claims) = all_hold left claims || another_holds left claims
+another_holds left (claim ∷ claims) = another_holds left claims
 
 -- the number of the first assertion that does not hold, behind so many
 abbrev pub broken_behind : Left → ℕ → List Claim → Option ℕ
-broken_behind l n [] = None
-broken_behind l n (Assert ∷ cs) = if all_hold l cs || another_holds l cs then broken_behind l (n + 1) cs else Some (n + 1)
-broken_behind l n (c ∷ cs) = broken_behind l n cs
+broken_behind left count [] = None
+broken_behind left count (Assert ∷ claims) = if all_hold left claims || another_holds left claims then broken_behind left (count + 1) claims else Some (count + 1)
+broken_behind left count (claim ∷ claims) = broken_behind left count claims
 
 -- the number of the first assertion of all that does not hold, counted from 1
 abbrev pub first_broken : Left → List Claim → Option ℕ
-first_broken l claims = broken_behind l 0 claims
+first_broken left claims = broken_behind left 0 claims

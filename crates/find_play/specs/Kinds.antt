@@ -38,7 +38,7 @@ line_word line.One = codes "one"
 
 -- four slots
 abbrev pub slots : Slot → Slot → Slot → Slot → List Slot
-slots a b c d = a ∷ b ∷ c ∷ d ∷ []
+slots first second third fourth = first ∷ second ∷ third ∷ fourth ∷ []
 
 abbrev pub any_number : Slot
 any_number = Large 0 18446744073709551615
@@ -104,5 +104,5 @@ line_kinds version = if nat_lt version 2 then first_line_kinds else first_line_k
 
 -- the kind among these that has this word
 unfoldable pub kind_of_word : List LineKind → List ℕ → Option LineKind
-kind_of_word [] w = None
-kind_of_word (kind ∷ rest) w = if is_same w (line_word kind) then Some kind else kind_of_word rest w
+kind_of_word [] read_word = None
+kind_of_word (kind ∷ rest) read_word = if is_same read_word (line_word kind) then Some kind else kind_of_word rest read_word

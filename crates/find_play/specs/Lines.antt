@@ -16,28 +16,28 @@ use Rattle.find_play.specs.Kinds.{line_slots, line_kinds, kind_of_word}
 use Rattle.find_play.specs.Drafts.{allows}
 
 abbrev pub as_small : Result ℕ TestWhy → Result Value TestWhy
-as_small (Ok n) = Ok (value.Small n)
-as_small (Err e) = Err e
+as_small (Ok number) = Ok (value.Small number)
+as_small (Err refusal) = Err refusal
 
 abbrev pub as_large : Result ℕ TestWhy → Result Value TestWhy
-as_large (Ok n) = Ok (value.Large n)
-as_large (Err e) = Err e
+as_large (Ok number) = Ok (value.Large number)
+as_large (Err refusal) = Err refusal
 
 abbrev pub as_root : Option ℕ → Result Value TestWhy
 as_root None = Err why.Name
-as_root (Some n) = if nat_lt n 16 then Ok (value.Small n) else Err why.Name
+as_root (Some number) = if nat_lt number 16 then Ok (value.Small number) else Err why.Name
 
 abbrev pub as_number : Option ℕ → Result ℕ TestWhy
 as_number None = Err why.Name
-as_number (Some n) = Ok n
+as_number (Some number) = Ok number
 
 abbrev pub as_index : Result ℕ TestWhy → Result Value TestWhy
-as_index (Ok n) = Ok (value.Index n)
-as_index (Err e) = Err e
+as_index (Ok index) = Ok (value.Index index)
+as_index (Err refusal) = Err refusal
 
 -- a name that these names may get: none of them is it
 abbrev pub fresh_in : List (List ℕ) → List ℕ → Result Value TestWhy
-fresh_in names w = if is_name w && is_none (number_of names w) then Ok value.Nothing else Err why.Fresh
+fresh_in names word = if is_name word && is_none (number_of names word) then Ok value.Nothing else Err why.Fresh
 
 -- the names of which a line of this kind gives another
 abbrev pub names_beside : Told → LineKind → List (List ℕ)
@@ -47,18 +47,18 @@ names_beside told _ = told.roots
 
 -- a word where this is to stand
 unfoldable pub value_in : Told → LineKind → Slot → List ℕ → Result Value TestWhy
-value_in told kind slot.Nothing w = Err why.Line
-value_in told kind (slot.Small most) w = as_small (number_between 0 most w)
-value_in told kind (slot.Large least most) w = as_large (number_between least most w)
-value_in told kind slot.Root w = as_root (number_of told.roots w)
-value_in told kind slot.Note w = as_index (as_number (number_of told.notes w))
-value_in told kind slot.Place w = as_index (as_number (number_of told.place_names w))
-value_in told kind slot.Wanted w = wanted_in told.version w
-value_in told kind slot.Fresh w = fresh_in (names_beside told kind) w
+value_in told kind slot.Nothing word = Err why.Line
+value_in told kind (slot.Small most) word = as_small (number_between 0 most word)
+value_in told kind (slot.Large least most) word = as_large (number_between least most word)
+value_in told kind slot.Root word = as_root (number_of told.roots word)
+value_in told kind slot.Note word = as_index (as_number (number_of told.notes word))
+value_in told kind slot.Place word = as_index (as_number (number_of told.place_names word))
+value_in told kind slot.Wanted word = wanted_in told.version word
+value_in told kind slot.Fresh word = fresh_in (names_beside told kind) word
 
 abbrev pub with_rest : Result Value TestWhy → List (List ℕ) → Result (Value × List (List ℕ)) TestWhy
-with_rest (Ok v) ws = Ok (v, ws)
-with_rest (Err e) ws = Err e
+with_rest (Ok said_value) rest = Ok (said_value, rest)
+with_rest (Err refusal) rest = Err refusal
 
 -- no word is left where none is to stand
 abbrev pub without_word : Slot → Result Value TestWhy
@@ -67,37 +67,37 @@ without_word _ = Err why.Line
 
 -- the next of these words, and those behind it
 unfoldable pub take_value : Told → LineKind → Slot → List (List ℕ) → Result (Value × List (List ℕ)) TestWhy
-take_value told kind s [] = with_rest (without_word s) []
-take_value told kind s (w ∷ ws) = with_rest (value_in told kind s w) ws
+take_value told kind asked_slot [] = with_rest (without_word asked_slot) []
+take_value told kind asked_slot (word ∷ later_words) = with_rest (value_in told kind asked_slot word) later_words
 
 abbrev pub with_first : Value → Result (List Value) TestWhy → Result (List Value) TestWhy
-with_first v (Ok vs) = Ok (v ∷ vs)
-with_first v (Err e) = Err e
+with_first first_value (Ok later_values) = Ok (first_value ∷ later_values)
+with_first first_value (Err refusal) = Err refusal
 
 abbrev pub then_values : Result (Value × List (List ℕ)) TestWhy → (List (List ℕ) → Result (List Value) TestWhy) → Result (List Value) TestWhy
-then_values (Err e) further = Err e
-then_values (Ok x) further = with_first x.0 (further x.1)
+then_values (Err refusal) further = Err refusal
+then_values (Ok taken) further = with_first taken.0 (further taken.1)
 
 -- these words, from left to right, where these are to stand, and no more
 unfoldable pub values_in : Told → LineKind → List Slot → List (List ℕ) → Result (List Value) TestWhy
 values_in told kind [] [] = Ok []
-values_in told kind [] (w ∷ ws) = Err why.Line
-values_in told kind (s ∷ ss) ws = then_values (take_value told kind s ws) (λ rest. values_in told kind ss rest)
+values_in told kind [] (word ∷ words) = Err why.Line
+values_in told kind (first_slot ∷ later_slots) words = then_values (take_value told kind first_slot words) (λ rest. values_in told kind later_slots rest)
 
 abbrev pub of_kind : LineKind → Result (List Value) TestWhy → Result (LineKind × List Value) TestWhy
-of_kind kind (Ok vs) = Ok (kind, vs)
-of_kind kind (Err e) = Err e
+of_kind kind (Ok values) = Ok (kind, values)
+of_kind kind (Err refusal) = Err refusal
 
 -- the words behind the first, in a line of this kind
 abbrev pub words_behind : Told → LineKind → List (List ℕ) → Result (LineKind × List Value) TestWhy
-words_behind told kind ws = if allows told kind then of_kind kind (values_in told kind (line_slots kind) ws) else Err why.Place
+words_behind told kind words = if allows told kind then of_kind kind (values_in told kind (line_slots kind) words) else Err why.Place
 
 abbrev pub words_of : Told → Option LineKind → List (List ℕ) → Result (LineKind × List Value) TestWhy
-words_of told None ws = Err why.Line
-words_of told (Some kind) ws = words_behind told kind ws
+words_of told None words = Err why.Line
+words_of told (Some kind) words = words_behind told kind words
 
 -- A line of these words: its kind and what they say, or the first cause for which it is refused. First its kind is looked at,
 -- then whether such a line may stand there, and then the words from left to right.
 abbrev pub line_in : Told → List (List ℕ) → Result (LineKind × List Value) TestWhy
 line_in told [] = Err why.Line
-line_in told (w ∷ ws) = words_of told (kind_of_word (line_kinds told.version) w) ws
+line_in told (first_word ∷ later_words) = words_of told (kind_of_word (line_kinds told.version) first_word) later_words

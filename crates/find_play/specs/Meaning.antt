@@ -24,42 +24,42 @@ one_less (suc n) = Some n
 
 -- how many loops, or how many branchings, are open behind a statement inside the part that is left; none where the part ends
 abbrev pub depth_after : Part → ℕ → Statement → Option ℕ
-depth_after part.Loop d statement.Loop = Some (d + 1)
-depth_after part.Loop d (statement.Again first) = one_less d
-depth_after part.If d (statement.If wanted) = Some (d + 1)
-depth_after part.If d statement.End = one_less d
+depth_after part.Loop depth statement.Loop = Some (depth + 1)
+depth_after part.Loop depth (statement.Again first) = one_less depth
+depth_after part.If depth (statement.If wanted) = Some (depth + 1)
+depth_after part.If depth statement.End = one_less depth
 depth_after part.If zero statement.Else = None
-depth_after _ d _ = Some d
+depth_after _ depth _ = Some depth
 
 -- what further says of the part while it is open; 0 where it has ended
 abbrev pub if_open : Option ℕ → (ℕ → ℕ) → ℕ
 if_open None further = 0
-if_open (Some d) further = further d
+if_open (Some depth) further = further depth
 
 -- how many statements stand up to the end of the part that is left, that end included, or to the last one where it does not end
 unfoldable pub after : Part → ℕ → List Statement → ℕ
-after p d [] = 0
-after p d (s ∷ ss) = suc (if_open (depth_after p d s) (λ e. after p e ss))
+after this_part depth [] = 0
+after this_part depth (next_statement ∷ later_statements) = suc (if_open (depth_after this_part depth next_statement) (λ new_depth. after this_part new_depth later_statements))
 
 -- the number of the statement behind a part
 abbrev pub behind : Part → List Statement → ℕ → ℕ
-behind p program at = at + 1 + after p 0 (drop (at + 1) program)
+behind this_part program number = number + 1 + after this_part 0 (drop (number + 1) program)
 
 -- what one statement makes a thread do
 abbrev pub move_by : List Statement → Option Reply → ℕ → Option Statement → Move
-move_by program reply at None = Gives Done at
-move_by program reply at (Some (statement.Run command)) = Gives (Command command) (at + 1)
-move_by program reply at (Some (statement.Keep note)) = Gives (Keep note) (at + 1)
-move_by program reply at (Some statement.Loop) = Goes (at + 1)
-move_by program reply at (Some (statement.Until wanted)) = if fits_last wanted reply then Goes (behind part.Loop program at) else Goes (at + 1)
-move_by program reply at (Some (statement.If wanted)) = if fits_last wanted reply then Goes (at + 1) else Goes (behind part.If program at)
-move_by program reply at (Some statement.Else) = Goes (behind part.If program at)
-move_by program reply at (Some statement.End) = Goes (at + 1)
-move_by program reply at (Some (statement.Again first)) = Back first
+move_by program reply number None = Gives Done number
+move_by program reply number (Some (statement.Run command)) = Gives (Command command) (number + 1)
+move_by program reply number (Some (statement.Keep note)) = Gives (Keep note) (number + 1)
+move_by program reply number (Some statement.Loop) = Goes (number + 1)
+move_by program reply number (Some (statement.Until wanted)) = if fits_last wanted reply then Goes (behind part.Loop program number) else Goes (number + 1)
+move_by program reply number (Some (statement.If wanted)) = if fits_last wanted reply then Goes (number + 1) else Goes (behind part.If program number)
+move_by program reply number (Some statement.Else) = Goes (behind part.If program number)
+move_by program reply number (Some statement.End) = Goes (number + 1)
+move_by program reply number (Some (statement.Again first)) = Back first
 
 -- what the statement of this number makes a thread do; behind the last one it is done
 abbrev pub move_at : List Statement → Option Reply → ℕ → Move
-move_at program reply at = move_by program reply at (slice_get program at)
+move_at program reply number = move_by program reply number (slice_get program number)
 
 -- From one place in a program a thread does that next, and then stands at another. It goes back to the beginning of a loop
 -- only as long as it may.

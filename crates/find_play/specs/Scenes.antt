@@ -6,7 +6,7 @@ use Rattle.find_play.specs.declared.cast.Cast.{Cast}
 use Rattle.find_play.specs.Plays.{Programs, Scene, StepsOn}
 
 abbrev pub scene : Cast → Scene
-scene c = record { threads = c.threads; acts = c.acts; notes = c.notes.items }
+scene cast = record { threads = cast.threads; acts = cast.acts; notes = cast.notes.items }
 
 -- the entry is the command that its thread was to give, and with the reply it went on
 pub record IsNextEntry (programs : Programs) (entry : Entry) (before after : Scene) : Type 0 where

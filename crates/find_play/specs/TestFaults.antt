@@ -18,7 +18,7 @@ IsLineFault NoMemory = Unit {0}
 
 -- where these bytes do not begin with the head of a trace, a trace is refused at this line and for this cause
 abbrev pub IsTraceRefusal : List ℕ → ℕ → TestWhy → Type 0
-IsTraceRefusal bytes n said = HasNoHead bytes → (cause : Why) × (said ≡ why.Trace cause) × StopsAt bytes n cause
+IsTraceRefusal bytes line_number said = HasNoHead bytes → (cause : Why) × (said ≡ why.Trace cause) × StopsAt bytes line_number cause
 
 -- what is said of a line that is refused
 abbrev pub why_text : TestWhy → List ℕ

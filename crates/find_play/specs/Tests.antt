@@ -31,7 +31,7 @@ name_among words = slice_index_or words 1 []
 
 -- this text, with the end of its line, may stand behind what was said; and what is said with it
 abbrev pub TestLineFollows : Told → List ℕ → Told → Type 0
-TestLineFollows told text next = (kind : LineKind) × (vs : List Value) × IsLineSaid told (parts space text) kind vs × (next ≡ added told kind vs (name_among (parts space text)))
+TestLineFollows told text next = (kind : LineKind) × (values : List Value) × IsLineSaid told (parts space text) kind values × (next ≡ added told kind values (name_among (parts space text)))
 
 -- these lines follow one on the other
 abbrev pub TestLinesFollow : Told → List (List ℕ) → Told → Type 0
@@ -88,13 +88,13 @@ pub record IsTest (bytes : List ℕ) (test : TestSaid) : Type 0 where
 -- the bytes end here, with this text behind the last end of a line
 abbrev pub test_end_cause : Told → List ℕ → Option TestWhy
 test_end_cause told [] = if has_all_threads told then None else Some whys.More
-test_end_cause told (b ∷ text) = Some (whys.Trace EndOfLine)
+test_end_cause told (byte ∷ text) = Some (whys.Trace EndOfLine)
 
 -- the first cause for which the first of these lines, the last of which has no end, may not stand there
 abbrev pub LineStops : Told → List (List ℕ) → TestWhy → Type 0
 LineStops told [] why = ⊥
 LineStops told (text ∷ []) why = test_end_cause told text ≡ Some why
-LineStops told (text ∷ next ∷ more) why = line_in told (parts space text) ≡ Err why
+LineStops told (text ∷ next_text ∷ rest) why = line_in told (parts space text) ≡ Err why
 
 -- where the first line of the bytes has this number, line n is the first at fault, and why
 pub record StopsBehind (told : Told) (first : ℕ) (bytes : List ℕ) (n : ℕ) (why : TestWhy) : Type 0 where

@@ -33,4 +33,4 @@ untold version threads = record { version = version; threads = threads; bounds =
 
 -- what a draft holds
 abbrev pub told_in : Draft → Told
-told_in d = record { version = d.version; threads = d.threads; bounds = d.bounds; notes = d.notes; place_names = d.place_names; places = d.places.items; roots = d.roots; programs = d.programs.items; blocks = d.open.items; claims = d.claims.items }
+told_in draft = record { version = draft.version; threads = draft.threads; bounds = draft.bounds; notes = draft.notes; place_names = draft.place_names; places = draft.places.items; roots = draft.roots; programs = draft.programs.items; blocks = draft.open.items; claims = draft.claims.items }

@@ -14,6 +14,6 @@ fits Object (reply.Ref name) = true
 fits Ok reply.Ok = true
 fits Full reply.Full = true
 fits Bad reply.Bad = true
-fits (Number n) (reply.Number m) = n == m
+fits (Number asked) (reply.Number answered) = asked == answered
 fits Pinned (reply.At place) = true
 fits _ _ = false

@@ -22,7 +22,7 @@ run_of : (test : Test) (bytes : List ℕ) (steps version : ℕ) (config : Config
     → history ≡ history_of config scripts items steps
     → ShowsGraph text config.mutators (after (first_graph config) (history_of config scripts items steps))
     → IsRunOf test.config bytes steps history text.rows
-run_of test bytes steps version config scripts items history text same reads whole is shows = subst (λ (config : Config). IsRunOf config bytes steps history text.rows) same run
+run_of test bytes steps version config scripts items history text same_config reads whole_run history_is shows = subst (λ (config : Config). IsRunOf config bytes steps history text.rows) same_config run
   where
     run : IsRunOf config bytes steps history text.rows
     run = record {
@@ -30,10 +30,10 @@ run_of test bytes steps version config scripts items history text same reads who
       scripts = scripts;
       items = items;
       reads = reads;
-      whole = whole;
-      history_is = is;
+      whole = whole_run;
+      history_is = history_is;
       text = text;
-      shows = subst (λ h. ShowsGraph text config.mutators (after (first_graph config) h)) (sym is) shows;
+      shows = subst (λ told_history. ShowsGraph text config.mutators (after (first_graph config) told_history)) (sym history_is) shows;
       rows_are = refl;
     }
 
@@ -44,10 +44,10 @@ pub judged : (test : Test) (bytes : List ℕ) (steps version : ℕ) (config : Co
     → ShowsGraph text config.mutators (after (first_graph config) (history_of config scripts items steps))
     → IsVerdictOn test.programs.items test.bounds.returns (length test.notes) test.places.items test.claims.items history text.rows verdict
     → HasVerdict test bytes steps verdict
-judged test bytes steps version config scripts items history text verdict same reads whole is shows verdict_on = record {
+judged test bytes steps version config scripts items history text verdict same_config reads whole_run history_is shows verdict_on = record {
   history = history;
   rows = text.rows;
-  run = run_of test bytes steps version config scripts items history text same reads whole is shows;
+  run = run_of test bytes steps version config scripts items history text same_config reads whole_run history_is shows;
   verdict_on = verdict_on;
 }
 
@@ -58,18 +58,18 @@ pub no_play : (test : Test) (bytes : List ℕ) (steps version : ℕ) (config : C
     → ShowsGraph text config.mutators (after (first_graph config) (history_of config scripts items steps))
     → HasNoVerdict test.programs.items test.bounds.returns (length test.notes) history
     → HasNoJudgement test bytes steps
-no_play test bytes steps version config scripts items history text same reads whole is shows none =
-    IsNoPlay history text.rows (run_of test bytes steps version config scripts items history text same reads whole is shows) none
+no_play test bytes steps version config scripts items history text same_config reads whole_run history_is shows no_verdict =
+    IsNoPlay history text.rows (run_of test bytes steps version config scripts items history text same_config reads whole_run history_is shows) no_verdict
 
 pub too_long : (test : Test) (bytes : List ℕ) (steps : ℕ) → most_bytes < length bytes → HasNoJudgement test bytes steps
-too_long test bytes steps below = IsLong below
+too_long test bytes steps bytes_over = IsLong bytes_over
 
 pub no_trace : (test : Test) (bytes : List ℕ) (steps n : ℕ) (why : Why) → Refused bytes n why → HasNoJudgement test bytes steps
 no_trace test bytes steps n why refused = IsNoTrace n why refused
 
 pub of_other : (test : Test) (bytes : List ℕ) (steps version : ℕ) (config : Config) (scripts : Scripts) (items : List Item) → Reads bytes version config scripts items → config ≢ test.config
     → HasNoJudgement test bytes steps
-of_other test bytes steps version config scripts items reads other = IsOfOther version config scripts items reads other
+of_other test bytes steps version config scripts items reads other_config = IsOfOther version config scripts items reads other_config
 
 pub cut_off : (test : Test) (bytes : List ℕ) (steps : ℕ) → IsUnfinished bytes steps → HasNoJudgement test bytes steps
 cut_off test bytes steps cut = IsCutOff cut

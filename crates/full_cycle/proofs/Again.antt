@@ -32,13 +32,13 @@ use Rattle.full_cycle.proofs.Holding.{parsed}
 
 -- where each piece is an object, or only fills, nobody has free words of a buffer
 no_spare : (block : Plot) → AreThings block → (address seat words : ℕ) → block address ≡ Some (spare seat words) → ⊥
-no_spare block things address seat words is = ⊎_elim
+no_spare block all_things address seat words spare_there = ⊎_elim
     (λ (object : (name : Name) × (refs : ℕ) × (nums : ℕ) × (spare seat words ≡ thing name refs nums)). true≢false (ap is_loose object.3))
     (λ (fills : (n : ℕ) × (1 ≤ n) × (spare seat words ≡ filler n)). none-some seat (sym (ap room_of fills.2)))
-    (things address (spare seat words) is)
+    (all_things address (spare seat words) spare_there)
 
 module _ (config : Config) (memory : Word → ℕ) (block : Plot) (owner : ℕ → Option ℕ) (promises : Promises) (graph : Graph) (holds : HoldsBy config memory block owner promises graph)
-    (walk : AreParsed config (is_row_pinned config memory) (λ r. memory (Top r)) (λ a. memory (Heap a)) block) where
+    (walk : AreParsed config (is_row_pinned config memory) (λ given_region. memory (Top given_region)) (λ a. memory (Heap a)) block) where
   abbrev more : Graph
   more = with_promised graph promises
 
@@ -47,96 +47,96 @@ module _ (config : Config) (memory : Word → ℕ) (block : Plot) (owner : ℕ �
 
   -- what the graph reaches, the graph with promises reaches
   reach_more : (name : Name) → IsReachable graph name → IsReachable more name
-  reach_more _ (reach.from_root thread root name is) =
-      let at = holds.rooted.no_more_roots thread root name is in
+  reach_more _ (reach.from_root thread root name leads) =
+      let still_leads = holds.rooted.no_more_roots thread root name leads in
       let pinned : Reference = name_in (graph.pin thread (root - 17)) in
       reach.from_root thread root name
-      (cond-false (root == 16) (promises.ref thread) (cond (nat_le 17 root && nat_lt root 21) pinned (graph.root thread root)) (ne_eqb root 16 (λ e. omega (arith, e, at.3)))
-      ∙ cond-false (nat_le 17 root && nat_lt root 21) pinned (graph.root thread root) (and_left (nat_le 17 root) (nat_lt root 21) (lt-leb 17 root (omega (arith, at.3)))) ∙ is)
-  reach_more _ (reach.from_pin thread slot held is) =
-      let at = holds.rooted.no_more_pins thread slot held is in
+      (cond-false (root == 16) (promises.ref thread) (cond (nat_le 17 root && nat_lt root 21) pinned (graph.root thread root)) (ne_eqb root 16 (λ same_number. omega (arith, same_number, still_leads.3)))
+      ∙ cond-false (nat_le 17 root && nat_lt root 21) pinned (graph.root thread root) (and_left (nat_le 17 root) (nat_lt root 21) (lt-leb 17 root (omega (arith, still_leads.3)))) ∙ leads)
+  reach_more _ (reach.from_pin thread slot pin_held leads) =
+      let still_leads = holds.rooted.no_more_pins thread slot pin_held leads in
       let index : 17 + slot - 17 ≡ slot = omega arith in
-      reach.from_root thread (17 + slot) held.name
-      (cond-false (17 + slot == 16) (promises.ref thread) (cond (nat_le 17 (17 + slot) && nat_lt (17 + slot) 21) (name_in (graph.pin thread (17 + slot - 17))) (graph.root thread (17 + slot))) (ne_eqb (17 + slot) 16 (λ e. omega (arith, e)))
+      reach.from_root thread (17 + slot) pin_held.name
+      (cond-false (17 + slot == 16) (promises.ref thread) (cond (nat_le 17 (17 + slot) && nat_lt (17 + slot) 21) (name_in (graph.pin thread (17 + slot - 17))) (graph.root thread (17 + slot))) (ne_eqb (17 + slot) 16 (λ same_number. omega (arith, same_number)))
       ∙ cond-true (nat_le 17 (17 + slot) && nat_lt (17 + slot) 21) (name_in (graph.pin thread (17 + slot - 17))) (graph.root thread (17 + slot))
-      (and_from (nat_le 17 (17 + slot)) (nat_lt (17 + slot) 21) (le-leb 17 (17 + slot) (omega arith)) (lt-ltb (17 + slot) 21 (omega (arith, at.3))))
-      ∙ ap (λ slot. name_in (graph.pin thread slot)) index ∙ ap name_in is)
-  reach_more _ (reach.from_field other_name name field reached is) =
-      reach.from_field other_name name field (reach_more other_name reached) (ap (λ (object : Object). slice_get object.refs field) (old_object config.mutators graph promises holds.unreached other_name reached) ∙ is)
+      (and_from (nat_le 17 (17 + slot)) (nat_lt (17 + slot) 21) (le-leb 17 (17 + slot) (omega arith)) (lt-ltb (17 + slot) 21 (omega (arith, still_leads.3))))
+      ∙ ap (λ slot. name_in (graph.pin thread slot)) index ∙ ap name_in leads)
+  reach_more _ (reach.from_field from_name name field reached leads) =
+      reach.from_field from_name name field (reach_more from_name reached) (ap (λ (object : Object). slice_get object.refs field) (old_object config.mutators graph promises holds.unreached from_name reached) ∙ leads)
 
   -- so it is an object
   has_object : (name : Name) → IsReachable graph name → (object : Object) × (graph.object name ≡ Some object)
   has_object name reached =
-      let at = reached_is_held config (λ region. memory (Top region)) (λ address. memory (Heap address)) block (now_in memory) (IsAmong (held_words config memory)) more holds.objects name (reach_more name reached) in
-      let object = holds.objects.each at.0 at.1 at.2 name at.3 at.4 in
+      let reached_object = reached_is_held config (λ region. memory (Top region)) (λ address. memory (Heap address)) block (now_in memory) (IsAmong (held_words config memory)) more holds.objects name (reach_more name reached) in
+      let object = holds.objects.each reached_object.0 reached_object.1 reached_object.2 name reached_object.3 reached_object.4 in
       ⊎_elim
       (λ (promised : same_reference (promises.ref name.thread) (Some name) ≡ true). absurd (holds.unreached.fresh name.thread name (same_reference-true (promises.ref name.thread) name promised) reached))
-      (λ (other : same_reference (promises.ref name.thread) (Some name) ≡ false).
-      (object.0, sym (cond-false (same_reference (promises.ref name.thread) (Some name)) (Some (blank (promises.refs name.thread) (promises.nums name.thread))) (graph.object name) other) ∙ object.1))
+      (λ (not_promised : same_reference (promises.ref name.thread) (Some name) ≡ false).
+      (object.0, sym (cond-false (same_reference (promises.ref name.thread) (Some name)) (Some (blank (promises.refs name.thread) (promises.nums name.thread))) (graph.object name) not_promised) ∙ object.1))
       (cases_Bool (same_reference (promises.ref name.thread) (Some name)))
 
   -- and no thread's next one
-  not_next : (t : ℕ) → 1 ≤ t → IsReachable graph (fresh graph t) → ⊥
-  not_next t positive reached =
-      let object = has_object (fresh graph t) reached in
-      let given = holds.next.given (fresh graph t) object.0 object.1 in
-      omega (arith, given.by_thread positive)
+  not_next : (thread : ℕ) → 1 ≤ thread → IsReachable graph (fresh graph thread) → ⊥
+  not_next thread positive reached =
+      let object = has_object (fresh graph thread) reached in
+      let given_name = holds.next.given (fresh graph thread) object.0 object.1 in
+      omega (arith, given_name.by_thread positive)
 
   -- what is promised is the next object of its thread
   next_more : (mutator : ℕ) (name : Name) → mutator < config.mutators → (served_promises config after promises config.mutators).ref (mutator + 1) ≡ Some name → name ≡ fresh graph (mutator + 1)
-  next_more mutator name below named = ⊎_elim
+  next_more mutator name mutator_below named = ⊎_elim
       (λ (old : SamePromise promises (served_promises config after promises config.mutators) (mutator + 1)). holds.next.promised (mutator + 1) name (sym old.ref ∙ named))
       (λ (new : IsPromisedAsAsked after (served_promises config after promises config.mutators) mutator).
-      let waits : memory (Wait mutator) ≢ 0 = λ none. new.waits (packed_wait config memory mutator ∙ none) in
-      let count : request_count_in (after (Wait mutator)) ≡ graph.count (mutator + 1) + 1 = ap request_count_in (packed_wait config memory mutator) ∙ holds.next.asked mutator below waits in
-      same_Some name (asked_name after mutator) (sym named ∙ new.ref) ∙ ap (λ k. record { thread = mutator + 1; count = k }) count)
+      let waits : memory (Wait mutator) ≢ 0 = λ no_wait. new.waits (packed_wait config memory mutator ∙ no_wait) in
+      let count : request_count_in (after (Wait mutator)) ≡ graph.count (mutator + 1) + 1 = ap request_count_in (packed_wait config memory mutator) ∙ holds.next.asked mutator mutator_below waits in
+      same_Some name (asked_name after mutator) (sym named ∙ new.ref) ∙ ap (λ number. record { thread = mutator + 1; count = number }) count)
       (promise_after config after promises mutator config.mutators)
 
-  holds_again : HoldsBy config (full_from config memory) (served_block config after (packed_block config (is_row_pinned config memory) (kept_in config memory) block) config.mutators) (λ r. None) (served_promises config after promises config.mutators) graph
+  holds_again : HoldsBy config (full_from config memory) (served_block config after (packed_block config (is_row_pinned config memory) (kept_in config memory) block) config.mutators) (λ region. None) (served_promises config after promises config.mutators) graph
   holds_again =
       let plot : Plot = served_block config after (packed_block config (is_row_pinned config memory) (kept_in config memory) block) config.mutators in
       let other_promises : Promises = served_promises config after promises config.mutators in
       let stands : ImageStands config (full_from config memory) plot graph other_promises = full_stands config memory block graph promises holds.objects holds.rooted walk holds.asking in
-      let next : (t : ℕ) (name : Name) → other_promises.ref t ≡ Some name → name ≡ fresh graph t = λ t name named.
-      let at = stands.rooted.no_more_promised t name named in
-      subst (λ k. name ≡ fresh graph k) (sym at.2) (next_more at.0 name at.1 (ap other_promises.ref (sym at.2) ∙ named))
+      let next_names : (given_thread : ℕ) (name : Name) → other_promises.ref given_thread ≡ Some name → name ≡ fresh graph given_thread = λ given_thread name named.
+      let promised_is = stands.rooted.no_more_promised given_thread name named in
+      subst (λ own_thread. name ≡ fresh graph own_thread) (sym promised_is.2) (next_more promised_is.0 name promised_is.1 (ap other_promises.ref (sym promised_is.2) ∙ named))
       in
       record {
         objects = standing_holds config (full_from config memory) plot graph other_promises stands;
         rooted = stands.rooted;
-        moved = λ a refs nums name is forwarded.
-            let object = stands.objects.each a refs nums name is in
+        moved = λ heap_address refs nums name piece_there forwarded.
+            let object = stands.objects.each heap_address refs nums name piece_there in
             absurd (true≢false (sym forwarded ∙ ap is_forwarded object.2.header));
         filled = stands.filled;
         pieces = named_things plot stands.things;
         free_word = stands.free_word;
-        shared_one = λ r is. absurd (omega (arith, is, full_share config memory));
+        shared_one = λ region piece_there. absurd (omega (arith, piece_there, full_share config memory));
         buffers = record {
-          each = λ seat some. absurd (some (full_current config memory seat));
-          spares = λ address seat words is. absurd (no_spare plot stands.things address seat words is);
+          each = λ seat some_buffer. absurd (some_buffer (full_current config memory seat));
+          spares = λ address seat words piece_there. absurd (no_spare plot stands.things address seat words piece_there);
         };
-        asking = λ mutator from below some. absurd (some (full_wait config memory mutator));
+        asking = λ mutator from mutator_below some_buffer. absurd (some_buffer (full_wait config memory mutator));
         next = record {
-          asked = λ mutator below some. absurd (some (full_wait config memory mutator));
-          promised = next;
+          asked = λ mutator mutator_below some_buffer. absurd (some_buffer (full_wait config memory mutator));
+          promised = next_names;
           given = holds.next.given;
         };
         unreached = record {
-          own = λ t n is. ap (λ (name : Name). name.thread) (next t n is);
-          few = λ thread name is. (let at = stands.rooted.no_more_promised thread name is in omega (arith, at.1, at.2));
-          fresh = λ t n is reached.
-              let at = stands.rooted.no_more_promised t n is in
-              not_next t (omega (arith, at.2)) (subst (IsReachable graph) (next t n is) reached);
+          own = λ given_thread promised_name piece_there. ap (λ (name : Name). name.thread) (next_names given_thread promised_name piece_there);
+          few = λ thread name piece_there. (let promised_is = stands.rooted.no_more_promised thread name piece_there in omega (arith, promised_is.1, promised_is.2));
+          fresh = λ given_thread promised_name piece_there reached.
+              let promised_is = stands.rooted.no_more_promised given_thread promised_name piece_there in
+              not_next given_thread (omega (arith, promised_is.2)) (subst (IsReachable graph) (next_names given_thread promised_name piece_there) reached);
         };
       }
 
 pub holds_full : (config : Config) (memory : Word → ℕ) → HoldsWalked config memory → HoldsSome config (full_from config memory)
-holds_full config memory holds = ∥∥₁_map holds (λ h. (
-  h.0,
+holds_full config memory holds = ∥∥₁_map holds (λ what_holds. (
+  what_holds.0,
   (
-    served_block config (packed_in config memory) (packed_block config (is_row_pinned config memory) (kept_in config memory) h.1) config.mutators,
-    (λ r. None),
-    served_promises config (packed_in config memory) h.3 config.mutators,
-    holds_again config memory h.1 h.2 h.3 h.0 h.4 (parsed config memory h.1 h.2 h.3 h.0 h.4 h.5 h.6),
+    served_block config (packed_in config memory) (packed_block config (is_row_pinned config memory) (kept_in config memory) what_holds.1) config.mutators,
+    (λ region. None),
+    served_promises config (packed_in config memory) what_holds.3 config.mutators,
+    holds_again config memory what_holds.1 what_holds.2 what_holds.3 what_holds.0 what_holds.4 (parsed config memory what_holds.1 what_holds.2 what_holds.3 what_holds.0 what_holds.4 what_holds.5 what_holds.6),
   ),
 ))

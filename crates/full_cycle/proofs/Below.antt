@@ -15,38 +15,38 @@ use Rattle.image_graph.proofs.ServingKeeps.{finds_room, turn_is}
 module _ (config : Config) (memory : Word → ℕ) (region address : ℕ) (low : base_of config region ≤ address) (high : address < base_of config region + memory (Top region)) (within : memory (Top region) ≤ config.region_words) where
   -- the word is as it was, and still below the top
   abbrev Stays : (Word → ℕ) → Type 0
-  Stays k = (k (Heap address) ≡ memory (Heap address)) × (memory (Top region) ≤ k (Top region))
+  Stays turned_memory = (turned_memory (Heap address) ≡ memory (Heap address)) × (memory (Top region) ≤ turned_memory (Top region))
 
   -- what is made in a region with room has no word below a top
-  apart : (q top words : ℕ) → top + words ≤ config.region_words → (q ≡ region → memory (Top region) ≤ top) → (address < base_of config q + top) ⊎ (base_of config q + top + words ≤ address)
-  apart q top words room above = ⊎_elim
-      (λ (lower : q < region). let far = behind config q region lower in inr (omega (arith, far, room, low)))
-      (λ (least : region ≤ q). ⊎_elim
-      (λ (same : q ≡ region). let at : base_of config q ≡ base_of config region = ap (base_of config) same in inl (omega (arith, at, above same, high)))
-      (λ (differs : q ≢ region). let far = behind config region q (omega (arith, least, differs)) in inl (omega (arith, far, within, high)))
-      (cases_eq q region))
-      (cases_lt q region)
+  apart : (other_region top words : ℕ) → top + words ≤ config.region_words → (other_region ≡ region → memory (Top region) ≤ top) → (address < base_of config other_region + top) ⊎ (base_of config other_region + top + words ≤ address)
+  apart other_region top words room top_above = ⊎_elim
+      (λ (lower : other_region < region). let far_behind = behind config other_region region lower in inr (omega (arith, far_behind, room, low)))
+      (λ (region_least : region ≤ other_region). ⊎_elim
+      (λ (same_region : other_region ≡ region). let same_base : base_of config other_region ≡ base_of config region = ap (base_of config) same_region in inl (omega (arith, same_base, top_above same_region, high)))
+      (λ (differs : other_region ≢ region). let far_behind = behind config region other_region (omega (arith, region_least, differs)) in inl (omega (arith, far_behind, within, high)))
+      (cases_eq other_region region))
+      (cases_lt other_region region)
 
-  one_turn : (k : Word → ℕ) (mutator : ℕ) (found : Option ℕ) → turn_room config k mutator ≡ found → Stays k → Stays (served_in config k mutator found)
+  one_turn : (turned_memory : Word → ℕ) (mutator : ℕ) (found : Option ℕ) → turn_room config turned_memory mutator ≡ found → Stays turned_memory → Stays (served_in config turned_memory mutator found)
   unfolding made_in
-  one_turn k mutator None is so_far = so_far
-  one_turn k mutator (Some other_region) is so_far =
-      let room = finds_room config k mutator other_region is in (
-        outside_fresh (base_of config other_region + k (Top other_region)) (asked_shape k mutator) (name_code (mutator + 1) (request_count_in (k (Wait mutator)))) (k (Heap address)) address
-            (apart other_region (k (Top other_region)) (object_words (asked_shape k mutator)) room.2 (λ same. omega (arith, ap (λ region. k (Top region)) same, so_far.1)))
+  one_turn turned_memory mutator None room_is so_far = so_far
+  one_turn turned_memory mutator (Some room_region) room_is so_far =
+      let room = finds_room config turned_memory mutator room_region room_is in (
+        outside_fresh (base_of config room_region + turned_memory (Top room_region)) (asked_shape turned_memory mutator) (name_code (mutator + 1) (request_count_in (turned_memory (Wait mutator)))) (turned_memory (Heap address)) address
+            (apart room_region (turned_memory (Top room_region)) (object_words (asked_shape turned_memory mutator)) room.2 (λ same_region. omega (arith, ap (λ region. turned_memory (Top region)) same_region, so_far.1)))
             ∙ so_far.0,
-        cond_both (other_region == region) (k (Top other_region) + object_words (asked_shape k mutator)) (k (Top region)) (λ top. memory (Top region) ≤ top)
-            (λ same. omega (arith, ap (λ region. k (Top region)) (eqb-true other_region region same), so_far.1)) (λ _. so_far.1),
+        cond_both (room_region == region) (turned_memory (Top room_region) + object_words (asked_shape turned_memory mutator)) (turned_memory (Top region)) (λ top. memory (Top region) ≤ top)
+            (λ same_region. omega (arith, ap (λ region. turned_memory (Top region)) (eqb-true room_region region same_region), so_far.1)) (λ _. so_far.1),
       )
 
-  all_turns : (n : ℕ) → Stays (served config memory n)
+  all_turns : (turns : ℕ) → Stays (served config memory turns)
   all_turns zero = (served_first config memory (Heap address), omega (arith, served_first config memory (Top region)))
   all_turns (suc mutator) =
-      let next = one_turn (served config memory mutator) mutator (turn_room config (served config memory mutator) mutator) refl (all_turns mutator) in
-      (ap (λ f. f (Heap address)) (turn_is config memory mutator) ∙ next.0, omega (arith, ap (λ f. f (Top region)) (turn_is config memory mutator), next.1))
+      let next_stays = one_turn (served config memory mutator) mutator (turn_room config (served config memory mutator) mutator) refl (all_turns mutator) in
+      (ap (λ f. f (Heap address)) (turn_is config memory mutator) ∙ next_stays.0, omega (arith, ap (λ f. f (Top region)) (turn_is config memory mutator), next_stays.1))
 
-  pub below_stays : (n : ℕ) → served config memory n (Heap address) ≡ memory (Heap address)
-  below_stays n = (all_turns n).0
+  pub below_stays : (turns : ℕ) → served config memory turns (Heap address) ≡ memory (Heap address)
+  below_stays turns = (all_turns turns).0
 
 -- so it is after a full collection
 pub full_below : (config : Config) (memory : Word → ℕ) (region address : ℕ) → base_of config region ≤ address → address < base_of config region + packed_in config memory (Top region) → packed_in config memory (Top region) ≤ config.region_words

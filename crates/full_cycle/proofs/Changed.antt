@@ -7,35 +7,35 @@ use Rattle.std.proofs.Math.ListN.{set}
 use Rattle.full_cycle.specs.Steps.{IsChanged}
 
 pub none_changed : (from : ℕ) (f : ℕ → ℕ) (xs : List ℕ) → IsChanged from from f xs xs
-none_changed from f xs k = none (f (get_or xs k 0)) (get_or xs k 0)
+none_changed from f xs index = none (f (get_or xs index 0)) (get_or xs index 0)
   where
-    none : (y z : ℕ) → z ≡ cond (nat_le from k && nat_lt k from) y z
-    none y z = grind (arith, nat_tests)
+    none : (new_value old_value : ℕ) → old_value ≡ cond (nat_le from index && nat_lt index from) new_value old_value
+    none new_value old_value = grind (arith, nat_tests)
 
-same_there : (from at y z : ℕ) → cond (nat_le from at && nat_lt at at) y z ≡ z
-same_there from at y z = grind (arith, nat_tests)
+same_there : (from end new_value old_value : ℕ) → cond (nat_le from end && nat_lt end end) new_value old_value ≡ old_value
+same_there from end new_value old_value = grind (arith, nat_tests)
 
 -- what stands behind the range is as it was
 pub not_yet : (from index : ℕ) (f : ℕ → ℕ) (before now : List ℕ) → IsChanged from index f before now → get_or now index 0 ≡ get_or before index 0
-not_yet from index f before now was = was index ∙ same_there from index (f (get_or before index 0)) (get_or before index 0)
+not_yet from index f before now changed_before = changed_before index ∙ same_there from index (f (get_or before index 0)) (get_or before index 0)
 
-changed_here : (from at y z : ℕ) → from ≤ at → y ≡ cond (nat_le from at && nat_lt at (at + 1)) y z
-changed_here from at y z low = grind (arith, nat_tests)
+changed_here : (from end new_value old_value : ℕ) → from ≤ end → new_value ≡ cond (nat_le from end && nat_lt end (end + 1)) new_value old_value
+changed_here from end new_value old_value low = grind (arith, nat_tests)
 
-other_stays : (from at k y z : ℕ) → at ≢ k → cond (nat_le from k && nat_lt k at) y z ≡ cond (nat_le from k && nat_lt k (at + 1)) y z
-other_stays from at k y z other = grind (arith, nat_tests)
+other_stays : (from end index new_value old_value : ℕ) → end ≢ index → cond (nat_le from index && nat_lt index end) new_value old_value ≡ cond (nat_le from index && nat_lt index (end + 1)) new_value old_value
+other_stays from end index new_value old_value not_end = grind (arith, nat_tests)
 
-set_here : (xs : List ℕ) (index v : ℕ) → index < length xs → get_or (set xs index v) index 0 ≡ v
-set_here xs index v inside = grind (arith, common_steps)
+set_here : (xs : List ℕ) (index value : ℕ) → index < length xs → get_or (set xs index value) index 0 ≡ value
+set_here xs index value inside = grind (arith, common_steps)
 
-set_other : (xs : List ℕ) (at index v : ℕ) → at ≢ index → get_or (set xs at v) index 0 ≡ get_or xs index 0
-set_other xs at index v other = grind (arith, common_steps)
+set_other : (xs : List ℕ) (place index value : ℕ) → place ≢ index → get_or (set xs place value) index 0 ≡ get_or xs index 0
+set_other xs place index value other_place = grind (arith, common_steps)
 
 -- one number more
-pub changed_more : (from index : ℕ) (f : ℕ → ℕ) (before now : List ℕ) (v : ℕ) → from ≤ index → index < length now → IsChanged from index f before now → v ≡ f (get_or before index 0)
-    → IsChanged from (index + 1) f before (set now index v)
-changed_more from at f before now v low inside was is k = ⊎_elim
-    (λ (here : at ≡ k). subst (λ (index : ℕ). get_or (set now at v) index 0 ≡ cond (nat_le from index && nat_lt index (at + 1)) (f (get_or before index 0)) (get_or before index 0)) here
-    (set_here now at v inside ∙ is ∙ changed_here from at (f (get_or before at 0)) (get_or before at 0) low))
-    (λ (other : at ≢ k). set_other now at k v other ∙ was k ∙ other_stays from at k (f (get_or before k 0)) (get_or before k 0) other)
-    (cases_eq at k)
+pub changed_more : (from index : ℕ) (f : ℕ → ℕ) (before now : List ℕ) (value : ℕ) → from ≤ index → index < length now → IsChanged from index f before now → value ≡ f (get_or before index 0)
+    → IsChanged from (index + 1) f before (set now index value)
+changed_more from end f before now value low inside changed_before value_is place = ⊎_elim
+    (λ (same_place : end ≡ place). subst (λ (index : ℕ). get_or (set now end value) index 0 ≡ cond (nat_le from index && nat_lt index (end + 1)) (f (get_or before index 0)) (get_or before index 0)) same_place
+    (set_here now end value inside ∙ value_is ∙ changed_here from end (f (get_or before end 0)) (get_or before end 0) low))
+    (λ (other_place : end ≢ place). set_other now end place value other_place ∙ changed_before place ∙ other_stays from end place (f (get_or before place 0)) (get_or before place 0) other_place)
+    (cases_eq end place)

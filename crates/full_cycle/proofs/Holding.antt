@@ -33,7 +33,7 @@ use Rattle.image_graph.proofs.Rows.{row_is}
 use Rattle.full_cycle.proofs.Stays.{KeptBegin, begins_there}
 
 module _ (config : Config) (memory : Word → ℕ) (block : Plot) (owner : ℕ → Option ℕ) (promises : Promises) (graph : Graph) (holds : HoldsBy config memory block owner promises graph)
-    (sized : AreSized memory block) (none : HasNoRoom block) where
+    (sized : AreSized memory block) (no_room : HasNoRoom block) where
   abbrev top : ℕ → ℕ
   top region = memory (Top region)
 
@@ -62,72 +62,72 @@ module _ (config : Config) (memory : Word → ℕ) (block : Plot) (owner : ℕ �
   can = can_pack config top heap block now IsRoot more holds.objects kept are
 
   -- what is held is kept
-  held_kept : (a : ℕ) → Held a → 0 < kept a
-  held_kept a held = let size = are.words a held in omega (arith, size)
+  held_kept : (address : ℕ) → Held address → 0 < kept address
+  held_kept address is_held = let size = are.words address is_held in omega (arith, size)
 
   -- a kept object has a plain header
   stays : (address : ℕ) → 0 < kept address → now address ≡ address
   stays address positive =
-      let held = are.only address positive in
-      let at = held_is_reached config top heap block now IsRoot more holds.objects address held in
-      let object = holds.objects.each address at.1 at.2 at.0 held at.3 in
+      let is_held = are.only address positive in
+      let reached_object = held_is_reached config top heap block now IsRoot more holds.objects address is_held in
+      let object = holds.objects.each address reached_object.1 reached_object.2 reached_object.0 is_held reached_object.3 in
       cond-false (is_forwarded (heap address)) (forwardee_in (heap address)) address (ap is_forwarded object.2.header)
 
   -- a word that stands for a name is an address of the heap
   named_inside : (word : ℕ) (name : Name) → name_at (block word) ≡ Some name → (config.region_words ≤ word) × (word < heap_end config)
-  named_inside word name is =
-      let piece = holds.pieces.named word name is in
+  named_inside word name name_there =
+      let piece = holds.pieces.named word name name_there in
       let inside = piece_inside config top block holds.objects.plotted word (thing name piece.0 piece.1) piece.2 in
       (inside.0, omega (arith, inside.1))
 
   root_leads : (word : ℕ) → IsRoot word → LeadsToHeld config memory word
-  root_leads word root other =
-      let named = holds.objects.root_named word root other in
+  root_leads word root some_word =
+      let named = holds.objects.root_named word root some_word in
       let inside = named_inside word named.2 named.4 in
-      (inside.0, inside.1, held_kept (now word) (from_root word root other))
+      (inside.0, inside.1, held_kept (now word) (from_root word root some_word))
 
-  field_leads : (address i : ℕ) → 0 < kept address → i < refs_in (heap (address + 1)) → LeadsToHeld config memory (heap (address + 3 + i))
-  field_leads address i positive below other =
-      let held = are.only address positive in
-      let at = held_is_reached config top heap block now IsRoot more holds.objects address held in
-      let object = holds.objects.each address at.1 at.2 at.0 held at.3 in
-      let is = object.2 in
-      let shape : refs_in (heap (address + 1)) ≡ at.1 = ap refs_in is.shape ∙ refs_read at.1 at.2 is.few_refs is.few_nums in
-      let reference : Reference = get_or object.0.refs i None in
-      let there : slice_get object.0.refs i ≡ Some reference = slice_get-get_or object.0.refs i None (omega (arith, below, shape, is.refs_are)) in
-      let to = named_if_not_0 config top block holds.objects.plotted (heap (address + 3 + i)) reference (is.references i reference there) other in
-      let inside = named_inside (heap (address + 3 + i)) to.0 to.2 in
-      (inside.0, inside.1, held_kept (now (heap (address + 3 + i))) (from_field address i held below other))
+  field_leads : (address field : ℕ) → 0 < kept address → field < refs_in (heap (address + 1)) → LeadsToHeld config memory (heap (address + 3 + field))
+  field_leads address field positive field_below some_word =
+      let is_held = are.only address positive in
+      let reached_object = held_is_reached config top heap block now IsRoot more holds.objects address is_held in
+      let object = holds.objects.each address reached_object.1 reached_object.2 reached_object.0 is_held reached_object.3 in
+      let object_shows = object.2 in
+      let shape : refs_in (heap (address + 1)) ≡ reached_object.1 = ap refs_in object_shows.shape ∙ refs_read reached_object.1 reached_object.2 object_shows.few_refs object_shows.few_nums in
+      let reference : Reference = get_or object.0.refs field None in
+      let reference_there : slice_get object.0.refs field ≡ Some reference = slice_get-get_or object.0.refs field None (omega (arith, field_below, shape, object_shows.refs_are)) in
+      let named_target = named_if_not_0 config top block holds.objects.plotted (heap (address + 3 + field)) reference (object_shows.references field reference reference_there) some_word in
+      let inside = named_inside (heap (address + 3 + field)) named_target.0 named_target.2 in
+      (inside.0, inside.1, held_kept (now (heap (address + 3 + field))) (from_field address field is_held field_below some_word))
 
-  found_kept : (index a : ℕ) → slice_get (found_in_turns config memory index) index ≡ Some a → 0 < kept a
-  found_kept index a found =
-      held_kept a (found_held (λ b. copies_of memory (field_words memory b)) (copies_of memory (held_words config memory)) Held
-      (root_held config memory block more holds.objects) (field_held config memory block more holds.objects) index a (has_at (found_in_turns config memory index) index a found))
+  found_kept : (index address : ℕ) → slice_get (found_in_turns config memory index) index ≡ Some address → 0 < kept address
+  found_kept index address found =
+      held_kept address (found_held (λ object_address. copies_of memory (field_words memory object_address)) (copies_of memory (held_words config memory)) Held
+      (root_held config memory block more holds.objects) (field_held config memory block more holds.objects) index address (has_at (found_in_turns config memory index) index address found))
 
   -- Pinned regions can be walked, and what is kept there begins where the walk comes.
   pub parsed : AreParsed config (is_row_pinned config memory) top heap block
-  parsed = record { filled = holds.filled; some = holds.pieces.some; sized = λ a b is closed. strides memory block sized none a b is }
+  parsed = record { filled = holds.filled; some = holds.pieces.some; sized = λ address piece piece_there closed. strides memory block sized no_room address piece piece_there }
 
   fills : (region : ℕ) → region < config.regions → is_pinned config memory region ≡ true → CanFill config memory region
   fills region inside pinned = parsed_fills config (is_row_pinned config memory) memory block holds.objects.plotted parsed region inside (row_pinned config memory region inside pinned)
 
   kept_begins : KeptBegin config memory
-  kept_begins r a inside pinned low high some =
-      let held = are.only a some in
-      let at = held_is_reached config top heap block now IsRoot more holds.objects a held in
-      let object = holds.objects.each a at.1 at.2 at.0 held at.3 in
-      let row : is_row_pinned config memory (a / config.region_words) ≡ true = ap (is_row_pinned config memory) (row_is config.region_words r a low high) ∙ row_pinned config memory r inside pinned in
-      let begun = piece_begins config (is_row_pinned config memory) memory block holds.objects.plotted parsed a (thing at.0 at.1 at.2) at.3 row in
-      begins_there config memory r a low high begun object.2.header
+  kept_begins region address inside pinned low high some_kept =
+      let is_held = are.only address some_kept in
+      let reached_object = held_is_reached config top heap block now IsRoot more holds.objects address is_held in
+      let object = holds.objects.each address reached_object.1 reached_object.2 reached_object.0 is_held reached_object.3 in
+      let row : is_row_pinned config memory (address / config.region_words) ≡ true = ap (is_row_pinned config memory) (row_is config.region_words region address low high) ∙ row_pinned config memory region inside pinned in
+      let begun = piece_begins config (is_row_pinned config memory) memory block holds.objects.plotted parsed address (thing reached_object.0 reached_object.1 reached_object.2) reached_object.3 row in
+      begins_there config memory region address low high begun object.2.header
 
   can_collect : CanCollect config memory
   can_collect = record {
     apart = lie_apart config top heap block more.object now kept can;
-    inside = λ a some. (kept_inside config top heap block more.object now kept can a some).1;
+    inside = λ address some_kept. (kept_inside config top heap block more.object now kept can address some_kept).1;
     current = stays;
     found = found_kept;
     roots = λ mutator index inside few. root_leads (memory (Root mutator index)) (root_among config top memory block graph promises holds.objects.plotted holds.rooted mutator index inside few);
-    answers = λ mutator inside some. root_leads (memory (Answer mutator)) (answer_among config top memory block graph promises holds.objects.plotted holds.rooted mutator inside some);
+    answers = λ mutator inside some_kept. root_leads (memory (Answer mutator)) (answer_among config top memory block graph promises holds.objects.plotted holds.rooted mutator inside some_kept);
     pins = λ mutator slot inside few. root_leads (memory (Pin mutator slot)) (pin_among config top memory block graph promises holds.objects.plotted holds.rooted mutator slot inside few);
     fills = fills;
     fields = field_leads;
@@ -137,10 +137,10 @@ collect_prop : (config : Config) (memory : Word → ℕ) → IsProp (CanCollect 
 collect_prop config memory = hlevel (le_prop, ℕ_set)
 
 pub can_collect_some : (config : Config) (memory : Word → ℕ) → HoldsWalked config memory → CanCollect config memory
-can_collect_some config memory holds = ∥∥₁_elim holds (collect_prop config memory) (λ h. can_collect config memory h.1 h.2 h.3 h.0 h.4 h.5 h.6)
+can_collect_some config memory holds = ∥∥₁_elim holds (collect_prop config memory) (λ what_holds. can_collect config memory what_holds.1 what_holds.2 what_holds.3 what_holds.0 what_holds.4 what_holds.5 what_holds.6)
 
 begin_prop : (config : Config) (memory : Word → ℕ) → IsProp (KeptBegin config memory)
 begin_prop config memory = hlevel (le_prop, ℕ_set)
 
 pub kept_begin_some : (config : Config) (memory : Word → ℕ) → HoldsWalked config memory → KeptBegin config memory
-kept_begin_some config memory holds = ∥∥₁_elim holds (begin_prop config memory) (λ h. kept_begins config memory h.1 h.2 h.3 h.0 h.4 h.5 h.6)
+kept_begin_some config memory holds = ∥∥₁_elim holds (begin_prop config memory) (λ what_holds. kept_begins config memory what_holds.1 what_holds.2 what_holds.3 what_holds.0 what_holds.4 what_holds.5 what_holds.6)

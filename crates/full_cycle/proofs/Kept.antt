@@ -16,35 +16,35 @@ use Rattle.full_cycle.proofs.Listed.{noted_more}
 
 pub kept_is : (config : Config) (memory : Word → ℕ) (address : ℕ) → 0 < kept_in config memory address → kept_in config memory address ≡ object_words (memory (Heap (address + 1)))
 kept_is config memory address positive = ⊎_elim
-    (λ (yes : has (held_in config memory) address ≡ true). cond-true (has (held_in config memory) address) (object_words (memory (Heap (address + 1)))) 0 yes)
-    (λ (no : has (held_in config memory) address ≡ false). absurd (let none : kept_in config memory address ≡ 0 = cond-false (has (held_in config memory) address) (object_words (memory (Heap (address + 1)))) 0 no in omega (arith, none, positive)))
+    (λ (is_held : has (held_in config memory) address ≡ true). cond-true (has (held_in config memory) address) (object_words (memory (Heap (address + 1)))) 0 is_held)
+    (λ (not_held : has (held_in config memory) address ≡ false). absurd (let none_kept : kept_in config memory address ≡ 0 = cond-false (has (held_in config memory) address) (object_words (memory (Heap (address + 1)))) 0 not_held in omega (arith, none_kept, positive)))
     (cases_Bool (has (held_in config memory) address))
 
-module _ (config : Config) (memory : Word → ℕ) (can : CanCollect config memory) where
+module _ (config : Config) (memory : Word → ℕ) (can_collect : CanCollect config memory) where
   -- a kept object lies in the heap with its fields
   pub object_inside : (address : ℕ) → 0 < kept_in config memory address → (config.region_words ≤ address) × (address + 3 + refs_in (memory (Heap (address + 1))) ≤ heap_end config)
-  object_inside address positive = (can.apart.above address positive, omega (arith, can.inside address positive, kept_is config memory address positive))
+  object_inside address positive = (can_collect.apart.above address positive, omega (arith, can_collect.inside address positive, kept_is config memory address positive))
 
-  pub field_word : (address i : ℕ) → 0 < kept_in config memory address → i < 3 + refs_in (memory (Heap (address + 1))) → IsWord config (Heap (address + i))
-  field_word address i positive below = let at = object_inside address positive in (omega (arith, at.0), omega (arith, at.1, below))
+  pub field_word : (address offset : ℕ) → 0 < kept_in config memory address → offset < 3 + refs_in (memory (Heap (address + 1))) → IsWord config (Heap (address + offset))
+  field_word address offset positive offset_below = let object_within = object_inside address positive in (omega (arith, object_within.0), omega (arith, object_within.1, offset_below))
 
   pub copy_inside : (word : ℕ) → word ≢ 0 → LeadsToHeld config memory word → IsWord config (Heap (now_in memory word))
-  copy_inside word other leads =
-      let to = leads other in
-      let at = object_inside (now_in memory word) to.2 in
-      (at.0, omega (arith, at.1))
+  copy_inside word some_word leads =
+      let led_to = leads some_word in
+      let object_within = object_inside (now_in memory word) led_to.2 in
+      (object_within.0, omega (arith, object_within.1))
 
 pub copy_is : (memory : Word → ℕ) (word : ℕ) → word ≢ 0 → now_in memory word ≡ current_address memory word
-copy_is memory word other = sym (cond-false (word == 0) 0 (now_in memory word) (ne_eqb word 0 other))
+copy_is memory word some_word = sym (cond-false (word == 0) 0 (now_in memory word) (ne_eqb word 0 some_word))
 
 -- one word more was noted
-pub noted_step : (i j k : Image) (f : ℕ → ℕ) (n word : ℕ) → IsUnchanged i j
-    → found_of j ≡ with_addresses (found_of i) (copies_of (memory_of i) (map f (range_with_len 0 n)))
-    → word ≡ f n → found_of k ≡ with_address (found_of j) (current_address (memory_of j) word)
-    → found_of k ≡ with_addresses (found_of i) (copies_of (memory_of i) (map f (range_with_len 0 (n + 1))))
-noted_step image other_image k f n word same before is noted =
+pub noted_step : (old_image next_image last_image : Image) (f : ℕ → ℕ) (count word : ℕ) → IsUnchanged old_image next_image
+    → found_of next_image ≡ with_addresses (found_of old_image) (copies_of (memory_of old_image) (map f (range_with_len 0 count)))
+    → word ≡ f count → found_of last_image ≡ with_address (found_of next_image) (current_address (memory_of next_image) word)
+    → found_of last_image ≡ with_addresses (found_of old_image) (copies_of (memory_of old_image) (map f (range_with_len 0 (count + 1))))
+noted_step image other_image last_image f count word unchanged before word_is noted =
     noted
-    ∙ ap (λ xs. with_address xs (current_address (memory_of other_image) word)) before
-    ∙ ap (λ (memory : Word → ℕ). with_address (with_addresses (found_of image) (copies_of (memory_of image) (map f (range_with_len 0 n)))) (current_address memory word)) (memory_same image other_image same)
-    ∙ ap (λ w. with_address (with_addresses (found_of image) (copies_of (memory_of image) (map f (range_with_len 0 n)))) (current_address (memory_of image) w)) is
-    ∙ noted_more (memory_of image) f n (found_of image)
+    ∙ ap (λ addresses. with_address addresses (current_address (memory_of other_image) word)) before
+    ∙ ap (λ (memory : Word → ℕ). with_address (with_addresses (found_of image) (copies_of (memory_of image) (map f (range_with_len 0 count)))) (current_address memory word)) (memory_same image other_image unchanged)
+    ∙ ap (λ own_word. with_address (with_addresses (found_of image) (copies_of (memory_of image) (map f (range_with_len 0 count)))) (current_address (memory_of image) own_word)) word_is
+    ∙ noted_more (memory_of image) f count (found_of image)

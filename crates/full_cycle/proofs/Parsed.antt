@@ -13,21 +13,21 @@ use Rattle.image_graph.proofs.Rows.{row_is}
 use Rattle.image_graph.proofs.LeftoversFilled.{begins_yes}
 
 module _ (config : Config) (shut : ℕ → Bool) (memory : Word → ℕ) (block : Plot) (plotted : IsPlotted config (λ region. memory (Top region)) block)
-    (parsed : AreParsed config shut (λ region. memory (Top region)) (λ a. memory (Heap a)) block) (region : ℕ) (inside : region < config.regions) (closed : shut (region + 1) ≡ true) where
-  ends_below : (k : ℕ) → k < memory (Top region) → BeginsAt config memory region k → k + stride_at (λ address. memory (Heap address)) (base_of config region + k) ≤ memory (Top region)
-  ends_below k below begun =
-      let most = plotted.tops region inside in
-      let row : shut ((base_of config region + k) / config.region_words) ≡ true = ap shut (row_is config.region_words region (base_of config region + k) (omega arith) (omega (arith, below, most))) ∙ closed in
-      let piece = begins_piece config shut memory block plotted parsed (base_of config region + k) row (begins_yes config memory region inside most k below begun) in
-      let size = parsed.sized (base_of config region + k) piece.0 piece.1 row in
-      let some = parsed.some (base_of config region + k) piece.0 piece.1 in
+    (parsed : AreParsed config shut (λ region. memory (Top region)) (λ heap_address. memory (Heap heap_address)) block) (region : ℕ) (inside : region < config.regions) (closed : shut (region + 1) ≡ true) where
+  ends_below : (offset : ℕ) → offset < memory (Top region) → BeginsAt config memory region offset → offset + stride_at (λ address. memory (Heap address)) (base_of config region + offset) ≤ memory (Top region)
+  ends_below offset offset_below begun =
+      let top_bound = plotted.tops region inside in
+      let row : shut ((base_of config region + offset) / config.region_words) ≡ true = ap shut (row_is config.region_words region (base_of config region + offset) (omega arith) (omega (arith, offset_below, top_bound))) ∙ closed in
+      let piece = begins_piece config shut memory block plotted parsed (base_of config region + offset) row (begins_yes config memory region inside top_bound offset offset_below begun) in
+      let size = parsed.sized (base_of config region + offset) piece.0 piece.1 row in
+      let some_words = parsed.some (base_of config region + offset) piece.0 piece.1 in
       ⊎_elim
-      (λ (before : base_of config region + k + words_of piece.0 ≤ base_of config region). absurd (omega (arith, before, some)))
+      (λ (before : base_of config region + offset + words_of piece.0 ≤ base_of config region). absurd (omega (arith, before, some_words)))
       (λ rest. ⊎_elim
-      (λ (within : (base_of config region ≤ base_of config region + k) × (base_of config region + k + words_of piece.0 ≤ base_of config region + memory (Top region))). omega (arith, within.1, size))
-      (λ (behind : base_of config region + config.region_words ≤ base_of config region + k). absurd (omega (arith, behind, below, most)))
+      (λ (within : (base_of config region ≤ base_of config region + offset) × (base_of config region + offset + words_of piece.0 ≤ base_of config region + memory (Top region))). omega (arith, within.1, size))
+      (λ (region_behind : base_of config region + config.region_words ≤ base_of config region + offset). absurd (omega (arith, region_behind, offset_below, top_bound)))
       rest)
-      (beside config (λ region. memory (Top region)) block plotted region (base_of config region + k) piece.0 piece.1)
+      (beside config (λ region. memory (Top region)) block plotted region (base_of config region + offset) piece.0 piece.1)
 
   pub parsed_fills : CanFill config memory region
   parsed_fills = record { within = plotted.tops region inside; ends = ends_below }

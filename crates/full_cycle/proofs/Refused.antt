@@ -8,54 +8,54 @@ use Rattle.image_graph.specs.Full.{refused}
 use Rattle.full_cycle.specs.Steps.{refused_below}
 
 -- a thread that does not wait
-idle_one : (t u wait answer : ℕ) → (t ≡ u → wait ≡ 0) → cond (nat_lt u t) (cond (wait == 0) answer 1) answer ≡ cond (nat_lt u (t + 1)) (cond (wait == 0) answer 1) answer
-idle_one t u wait answer none = grind (arith, nat_tests, none)
+idle_one : (turn thread wait answer : ℕ) → (turn ≡ thread → wait ≡ 0) → cond (nat_lt thread turn) (cond (wait == 0) answer 1) answer ≡ cond (nat_lt thread (turn + 1)) (cond (wait == 0) answer 1) answer
+idle_one turn thread wait answer no_wait = grind (arith, nat_tests, no_wait)
 
-idle_wait : (t u wait : ℕ) → (t ≡ u → wait ≡ 0) → cond (nat_lt u t) 0 wait ≡ cond (nat_lt u (t + 1)) 0 wait
-idle_wait t u wait none = grind (arith, nat_tests, none)
+idle_wait : (turn thread wait : ℕ) → (turn ≡ thread → wait ≡ 0) → cond (nat_lt thread turn) 0 wait ≡ cond (nat_lt thread (turn + 1)) 0 wait
+idle_wait turn thread wait no_wait = grind (arith, nat_tests, no_wait)
 
 idle_at : (memory : Word → ℕ) (mutator : ℕ) → memory (Wait mutator) ≡ 0 → (word : Word) → refused_below mutator memory word ≡ refused_below (mutator + 1) memory word
-idle_at memory mutator none (Answer other_mutator) = idle_one mutator other_mutator (memory (Wait other_mutator)) (memory (Answer other_mutator)) (λ same. ap (λ mutator. memory (Wait mutator)) (sym same) ∙ none)
-idle_at memory mutator none (Wait other_mutator) = idle_wait mutator other_mutator (memory (Wait other_mutator)) (λ same. ap (λ mutator. memory (Wait mutator)) (sym same) ∙ none)
-idle_at memory mutator none _ = refl
+idle_at memory mutator no_wait (Answer asked_mutator) = idle_one mutator asked_mutator (memory (Wait asked_mutator)) (memory (Answer asked_mutator)) (λ same_mutator. ap (λ mutator. memory (Wait mutator)) (sym same_mutator) ∙ no_wait)
+idle_at memory mutator no_wait (Wait asked_mutator) = idle_wait mutator asked_mutator (memory (Wait asked_mutator)) (λ same_mutator. ap (λ mutator. memory (Wait mutator)) (sym same_mutator) ∙ no_wait)
+idle_at memory mutator no_wait _ = refl
 
 -- a thread that does
-left_one : (t u wait answer : ℕ) → (t ≡ u → wait ≢ 0) → cond (t == u) 1 (cond (nat_lt u t) (cond (wait == 0) answer 1) answer) ≡ cond (nat_lt u (t + 1)) (cond (wait == 0) answer 1) answer
-left_one t u wait answer some = grind (arith, nat_tests, some)
+left_one : (turn thread wait answer : ℕ) → (turn ≡ thread → wait ≢ 0) → cond (turn == thread) 1 (cond (nat_lt thread turn) (cond (wait == 0) answer 1) answer) ≡ cond (nat_lt thread (turn + 1)) (cond (wait == 0) answer 1) answer
+left_one turn thread wait answer thread_waits = grind (arith, nat_tests, thread_waits)
 
-left_wait : (t u wait : ℕ) → cond (t == u) 0 (cond (nat_lt u t) 0 wait) ≡ cond (nat_lt u (t + 1)) 0 wait
-left_wait t u wait = grind (arith, nat_tests)
+left_wait : (turn thread wait : ℕ) → cond (turn == thread) 0 (cond (nat_lt thread turn) 0 wait) ≡ cond (nat_lt thread (turn + 1)) 0 wait
+left_wait turn thread wait = grind (arith, nat_tests)
 
 left_at : (memory : Word → ℕ) (mutator : ℕ) → memory (Wait mutator) ≢ 0 → (word : Word) → write (write (refused_below mutator memory) (Answer mutator) 1) (Wait mutator) 0 word ≡ refused_below (mutator + 1) memory word
-left_at memory mutator positive (Answer other_mutator) = left_one mutator other_mutator (memory (Wait other_mutator)) (memory (Answer other_mutator)) (λ same is_zero. positive (ap (λ mutator. memory (Wait mutator)) same ∙ is_zero))
-left_at memory mutator positive (Wait other_mutator) = left_wait mutator other_mutator (memory (Wait other_mutator))
+left_at memory mutator positive (Answer asked_mutator) = left_one mutator asked_mutator (memory (Wait asked_mutator)) (memory (Answer asked_mutator)) (λ same_mutator is_zero. positive (ap (λ mutator. memory (Wait mutator)) same_mutator ∙ is_zero))
+left_at memory mutator positive (Wait asked_mutator) = left_wait mutator asked_mutator (memory (Wait asked_mutator))
 left_at memory mutator positive _ = refl
 
 wait_here : (memory : Word → ℕ) (mutator : ℕ) → refused_below mutator memory (Wait mutator) ≡ memory (Wait mutator)
 wait_here memory mutator = grind (arith, nat_tests)
 
 -- the turn of a thread
-pub refused_more : (memory now after : Word → ℕ) (mutator : ℕ) → now ≡ refused_below mutator memory → (now (Wait mutator) ≡ 0 → after ≡ now)
-    → (now (Wait mutator) ≢ 0 → after ≡ write (write now (Answer mutator) 1) (Wait mutator) 0) → after ≡ refused_below (mutator + 1) memory
-refused_more memory now after mutator is idle waits =
-    let wait : now (Wait mutator) ≡ memory (Wait mutator) = ap (λ k. k (Wait mutator)) is ∙ wait_here memory mutator in
+pub refused_more : (memory memory_now after : Word → ℕ) (mutator : ℕ) → memory_now ≡ refused_below mutator memory → (memory_now (Wait mutator) ≡ 0 → after ≡ memory_now)
+    → (memory_now (Wait mutator) ≢ 0 → after ≡ write (write memory_now (Answer mutator) 1) (Wait mutator) 0) → after ≡ refused_below (mutator + 1) memory
+refused_more memory memory_now after mutator refused_before idle waits =
+    let wait : memory_now (Wait mutator) ≡ memory (Wait mutator) = ap (λ state. state (Wait mutator)) refused_before ∙ wait_here memory mutator in
     ⊎_elim
-    (λ (none : memory (Wait mutator) ≡ 0). idle (wait ∙ none) ∙ is ∙ fun_ext (idle_at memory mutator none))
-    (λ (some : memory (Wait mutator) ≢ 0). waits (λ e. some (sym wait ∙ e)) ∙ ap (λ k. write (write k (Answer mutator) 1) (Wait mutator) 0) is ∙ fun_ext (left_at memory mutator some))
+    (λ (no_wait : memory (Wait mutator) ≡ 0). idle (wait ∙ no_wait) ∙ refused_before ∙ fun_ext (idle_at memory mutator no_wait))
+    (λ (some_wait : memory (Wait mutator) ≢ 0). waits (λ nothing_waits. some_wait (sym wait ∙ nothing_waits)) ∙ ap (λ state. write (write state (Answer mutator) 1) (Wait mutator) 0) refused_before ∙ fun_ext (left_at memory mutator some_wait))
     (cases_eq (memory (Wait mutator)) 0)
 
 -- where nobody behind the last thread waits, all that is left is refused
-all_answer : (n t wait answer : ℕ) → (n ≤ t → wait ≡ 0) → cond (nat_lt t n) (cond (wait == 0) answer 1) answer ≡ cond (wait == 0) answer 1
-all_answer n t wait answer none = grind (arith, nat_tests, none)
+all_answer : (count thread wait answer : ℕ) → (count ≤ thread → wait ≡ 0) → cond (nat_lt thread count) (cond (wait == 0) answer 1) answer ≡ cond (wait == 0) answer 1
+all_answer count thread wait answer none_behind = grind (arith, nat_tests, none_behind)
 
-all_wait : (n t wait : ℕ) → (n ≤ t → wait ≡ 0) → cond (nat_lt t n) 0 wait ≡ 0
-all_wait n t wait none = grind (arith, nat_tests, none)
+all_wait : (count thread wait : ℕ) → (count ≤ thread → wait ≡ 0) → cond (nat_lt thread count) 0 wait ≡ 0
+all_wait count thread wait none_behind = grind (arith, nat_tests, none_behind)
 
-all_at : (memory : Word → ℕ) (n : ℕ) → ((mutator : ℕ) → n ≤ mutator → memory (Wait mutator) ≡ 0) → (word : Word) → refused_below n memory word ≡ refused memory word
+all_at : (memory : Word → ℕ) (count : ℕ) → ((mutator : ℕ) → count ≤ mutator → memory (Wait mutator) ≡ 0) → (word : Word) → refused_below count memory word ≡ refused memory word
 unfolding refused
-all_at memory n none (Answer mutator) = all_answer n mutator (memory (Wait mutator)) (memory (Answer mutator)) (none mutator)
-all_at memory n none (Wait mutator) = all_wait n mutator (memory (Wait mutator)) (none mutator)
-all_at memory n none _ = refl
+all_at memory count none_behind (Answer mutator) = all_answer count mutator (memory (Wait mutator)) (memory (Answer mutator)) (none_behind mutator)
+all_at memory count none_behind (Wait mutator) = all_wait count mutator (memory (Wait mutator)) (none_behind mutator)
+all_at memory count none_behind _ = refl
 
-pub refused_all : (memory : Word → ℕ) (n : ℕ) → ((mutator : ℕ) → n ≤ mutator → memory (Wait mutator) ≡ 0) → refused_below n memory ≡ refused memory
-refused_all memory n none = fun_ext (all_at memory n none)
+pub refused_all : (memory : Word → ℕ) (count : ℕ) → ((mutator : ℕ) → count ≤ mutator → memory (Wait mutator) ≡ 0) → refused_below count memory ≡ refused memory
+refused_all memory count none_behind = fun_ext (all_at memory count none_behind)

@@ -32,13 +32,13 @@ use Rattle.full_cycle.proofs.Holding.{parsed}
 -- what is kept of words that hold a graph is reached, and what is reached is kept
 pub reachable_kept : (config : Config) (memory : Word → ℕ) (block : Plot) (owner : ℕ → Option ℕ) (promises : Promises) (graph : Graph) → HoldsBy config memory block owner promises graph → KeptAreReachable config memory block (with_promised graph promises)
 reachable_kept config memory block owner promises graph holds =
-    let are = walk_keeps config memory block (with_promised graph promises) holds.objects in
+    let walked = walk_keeps config memory block (with_promised graph promises) holds.objects in
     let reached = held_are_reachable config (λ region. memory (Top region)) (λ address. memory (Heap address)) block (now_in memory) (IsAmong (held_words config memory)) (with_promised graph promises) holds.objects in
     record {
-      only = λ a some. reached.only a (are.only a some);
-      all = λ name is.
-          let at = reached.all name is in
-          (at.0, at.1, at.2, (let size = are.words at.0 at.3 in omega (arith, size)), at.4);
+      only = λ kept_address some_kept. reached.only kept_address (walked.only kept_address some_kept);
+      all = λ name name_reached.
+          let reached_object = reached.all name name_reached in
+          (reached_object.0, reached_object.1, reached_object.2, (let size = walked.words reached_object.0 reached_object.3 in omega (arith, size)), reached_object.4);
     }
 
 module _ (config : Config) (memory : Word → ℕ) (lets : LettingGoHolds config memory (let_go config memory)) where
@@ -47,54 +47,54 @@ module _ (config : Config) (memory : Word → ℕ) (lets : LettingGoHolds config
   gone = let_go config memory
 
   pub keeps_reachable : KeepsTheReachable config memory
-  keeps_reachable block owner p g holds =
-      let left = lets block owner p g holds in
-      let are = reachable_kept config gone left.pieces owner p g left.holds in
+  keeps_reachable block owner promises graph holds =
+      let what_is_left = lets block owner promises graph holds in
+      let reachable = reachable_kept config gone what_is_left.pieces owner promises graph what_is_left.holds in
       record {
-        only = λ a some.
-            let at = are.only a some in
-            (at.0, at.1, at.2, left.came a (thing at.0 at.1 at.2) refl at.3, at.4);
-        all = λ name is.
-            let at = are.all name is in
-            (at.0, at.1, at.2, at.3, left.came at.0 (thing name at.1 at.2) refl at.4);
+        only = λ address some_kept.
+            let kept_object = reachable.only address some_kept in
+            (kept_object.0, kept_object.1, kept_object.2, what_is_left.came address (thing kept_object.0 kept_object.1 kept_object.2) refl kept_object.3, kept_object.4);
+        all = λ name name_reached.
+            let kept_object = reachable.all name name_reached in
+            (kept_object.0, kept_object.1, kept_object.2, kept_object.3, what_is_left.came kept_object.0 (thing name kept_object.1 kept_object.2) refl kept_object.4);
       }
 
   pub keeps_graph : (after : Word → ℕ) → after ≡ full config memory → KeepsTheGraph config memory after
-  keeps_graph after is block owner p g holds sized =
-      let left = lets block owner p g holds in
+  keeps_graph after after_cycle block owner promises graph holds sized =
+      let what_is_left = lets block owner promises graph holds in
       record {
-        pieces = left.pieces;
-        came = left.came;
+        pieces = what_is_left.pieces;
+        came = what_is_left.came;
         stands =
-            subst (λ (memory : Word → ℕ). ImageStands config memory (served_block config (packed_in config gone) (packed_block config (is_row_pinned config gone) (kept_in config gone) left.pieces) config.mutators) g
-            (served_promises config (packed_in config gone) p config.mutators)) (sym is)
-            (full_stands config gone left.pieces g p left.holds.objects left.holds.rooted
-            (parsed config gone left.pieces owner p g left.holds (left.sized sized) left.none) left.holds.asking);
+            subst (λ (memory : Word → ℕ). ImageStands config memory (served_block config (packed_in config gone) (packed_block config (is_row_pinned config gone) (kept_in config gone) what_is_left.pieces) config.mutators) graph
+            (served_promises config (packed_in config gone) promises config.mutators)) (sym after_cycle)
+            (full_stands config gone what_is_left.pieces graph promises what_is_left.holds.objects what_is_left.holds.rooted
+            (parsed config gone what_is_left.pieces owner promises graph what_is_left.holds (what_is_left.sized sized) what_is_left.none) what_is_left.holds.asking);
       }
 
   -- and they hold it by pieces that can be walked
   pub let_go_walked : HoldsSized config memory → HoldsWalked config gone
-  let_go_walked holds = ∥∥₁_map holds (λ h.
-      let left = lets h.1 h.2 h.3 h.0 h.4 in
-      (h.0, left.pieces, h.2, h.3, left.holds, left.sized h.5, left.none))
+  let_go_walked holds = ∥∥₁_map holds (λ what_holds.
+      let what_is_left = lets what_holds.1 what_holds.2 what_holds.3 what_holds.0 what_holds.4 in
+      (what_holds.0, what_is_left.pieces, what_holds.2, what_holds.3, what_is_left.holds, what_is_left.sized what_holds.5, what_is_left.none))
 
 refuses : (config : Config) (memory : Word → ℕ) (mutator : ℕ) → mutator < config.mutators → memory (Wait mutator) ≢ 0 → (full_from config memory (Answer mutator) ≡ 1) ↔ IsLeft config (packed_in config memory) mutator
 refuses config memory mutator inside waits =
     let after : Word → ℕ = packed_in config memory in
-    let waiting : after (Wait mutator) ≢ 0 = λ none. waits (sym (packed_wait config memory mutator) ∙ none) in
+    let waiting : after (Wait mutator) ≢ 0 = λ no_room. waits (sym (packed_wait config memory mutator) ∙ no_room) in
     let answered = (requests_are_answered config after).answered mutator inside waiting in (
-      λ one. ⊎_elim
-          (λ (room : (r : ℕ) × IsLowestRoom config.region_words (tops_at_turn config after mutator) (asked_in after mutator) config.regions r).
-          let given = answered.given room.0 room.1 in
-          absurd (omega (arith, given, one, config.in_range.least_words)))
-          (λ (none : NoneHasRoom config.region_words (tops_at_turn config after mutator) (asked_in after mutator) config.regions). record { below = inside; waits = waiting; no_room = none })
+      λ full_answer. ⊎_elim
+          (λ (room : (region : ℕ) × IsLowestRoom config.region_words (tops_at_turn config after mutator) (asked_in after mutator) config.regions region).
+          let room_given = answered.given room.0 room.1 in
+          absurd (omega (arith, room_given, full_answer, config.in_range.least_words)))
+          (λ (no_room : NoneHasRoom config.region_words (tops_at_turn config after mutator) (asked_in after mutator) config.regions). record { below = inside; waits = waiting; no_room = no_room })
           answered.either,
-      λ left. answered.full left.no_room,
+      λ is_left. answered.full is_left.no_room,
     )
 
 pub refuses_left : (config : Config) (memory after : Word → ℕ) → after ≡ full config memory → RefusesTheLeft config memory after
-refuses_left config memory after is t inside waits =
-    let wait : let_go config memory (Wait t) ≡ memory (Wait t) = let_go_same (Wait t) (λ is. is) config memory (seat_count config.mutators config.helpers) in
-    let one = refuses config (let_go config memory) t inside (λ none. waits (sym wait ∙ none)) in
-    let same : after (Answer t) ≡ full config memory (Answer t) = ap (λ k. k (Answer t)) is in
-    (λ e. one.0 (sym same ∙ e), λ left. same ∙ one.1 left)
+refuses_left config memory after after_cycle thread inside waits =
+    let wait : let_go config memory (Wait thread) ≡ memory (Wait thread) = let_go_same (Wait thread) (λ after_cycle. after_cycle) config memory (seat_count config.mutators config.helpers) in
+    let refused_if_left = refuses config (let_go config memory) thread inside (λ zero_wait. waits (sym wait ∙ zero_wait)) in
+    let same_answer : after (Answer thread) ≡ full config memory (Answer thread) = ap (λ state. state (Answer thread)) after_cycle in
+    (λ is_refused. refused_if_left.0 (sym same_answer ∙ is_refused), λ is_left. same_answer ∙ refused_if_left.1 is_left)

@@ -46,9 +46,9 @@ calm memory word = memory word
 
 -- the words after each request of so many threads that was left was refused
 abbrev pub refused_below : ℕ → (Word → ℕ) → Word → ℕ
-refused_below n memory (Answer mutator) = if nat_lt mutator n then (if memory (Wait mutator) == 0 then memory (Answer mutator) else 1) else memory (Answer mutator)
-refused_below n memory (Wait mutator) = if nat_lt mutator n then 0 else memory (Wait mutator)
-refused_below n memory word = memory word
+refused_below mutators memory (Answer mutator) = if nat_lt mutator mutators then (if memory (Wait mutator) == 0 then memory (Answer mutator) else 1) else memory (Answer mutator)
+refused_below mutators memory (Wait mutator) = if nat_lt mutator mutators then 0 else memory (Wait mutator)
+refused_below mutators memory word = memory word
 
 -- a list after each number of a range of places was changed
 abbrev pub IsChanged : (from to : ℕ) → (ℕ → ℕ) → (before after : List ℕ) → Type 0

@@ -10,24 +10,24 @@ use Rattle.graph_placing.proofs.TextShown.{shown_pin}
 
 -- what pin slots hold, by the text
 none_named : (held : Option Pinned) → name_in held ≡ None → held ≡ None
-none_named None is = refl
-none_named (Some held) is = absurd (cc)
+none_named None no_name = refl
+none_named (Some held) no_name = absurd (cc)
 
 module _ (text : Text) (threads : ℕ) (graph : Graph) (shows : ShowsGraph text threads graph) where
   pub nothing_pinned : length text.roots ≡ threads → PinsNothing text → HoldsNothing threads graph
-  nothing_pinned long none zero slot low high small = absurd (omega (arith, low))
-  nothing_pinned long none (suc m) slot low high small =
-      none_named (graph.pin (suc m) slot) (sym (shown_pin text threads graph shows m slot (omega (arith, high)) small) ∙ none (suc m) slot low (omega (arith, high, long)) small)
+  nothing_pinned same_length pins_nothing zero slot low high small = absurd (omega (arith, low))
+  nothing_pinned same_length pins_nothing (suc mutator) slot low high small =
+      none_named (graph.pin (suc mutator) slot) (sym (shown_pin text threads graph shows mutator slot (omega (arith, high)) small) ∙ pins_nothing (suc mutator) slot low (omega (arith, high, same_length)) small)
 
   pub nothing_held : length text.roots ≡ threads → HoldsNothing threads graph → PinsNothing text
-  nothing_held long none zero slot low high small = absurd (omega (arith, low))
-  nothing_held long none (suc m) slot low high small =
-      shown_pin text threads graph shows m slot (omega (arith, high, long)) small ∙ ap name_in (none (suc m) slot low (omega (arith, high, long)) small)
+  nothing_held same_length holds_nothing zero slot low high small = absurd (omega (arith, low))
+  nothing_held same_length holds_nothing (suc mutator) slot low high small =
+      shown_pin text threads graph shows mutator slot (omega (arith, high, same_length)) small ∙ ap name_in (holds_nothing (suc mutator) slot low (omega (arith, high, same_length)) small)
 
 -- a test of pin slots that does not fail
 pub not_pinned : (text : Text) → ((PinsNothing text → ⊥) → ⊥) → PinsNothing text
 not_pinned text never thread slot low high small = by_slot (pin_of text thread slot) refl
   where
-    by_slot : (held : Reference) → pin_of text thread slot ≡ held → pin_of text thread slot ≡ None
-    by_slot None is = is
-    by_slot (Some name) is = absurd (never (λ none. let empty = none thread slot low high small in cc))
+    by_slot : (held_name : Reference) → pin_of text thread slot ≡ held_name → pin_of text thread slot ≡ None
+    by_slot None pin_holds = pin_holds
+    by_slot (Some name) pin_holds = absurd (never (λ pins_nothing. let empty = pins_nothing thread slot low high small in cc))

@@ -33,9 +33,9 @@ pub text_objects : (text : Text) (counts : List ℕ) → (text_graph text counts
 unfolding graph_of
 text_objects text counts = refl
 
-pub text_root : (text : Text) (counts : List ℕ) (m index : ℕ) → (text_graph text counts).root (suc m) index ≡ root_of text (suc m) index
+pub text_root : (text : Text) (counts : List ℕ) (mutator index : ℕ) → (text_graph text counts).root (suc mutator) index ≡ root_of text (suc mutator) index
 unfolding graph_of
-text_root text counts m index = let back : m ≡ suc m - 1 = omega arith in ap (λ (k : ℕ). get_or (get_or text.roots k []) index None) back
+text_root text counts mutator index = let mutator_back : mutator ≡ suc mutator - 1 = omega arith in ap (λ (any_mutator : ℕ). get_or (get_or text.roots any_mutator []) index None) mutator_back
 
 pub text_count : (text : Text) (counts : List ℕ) (index : ℕ) → (text_graph text counts).count (suc index) ≡ slice_index counts index
 unfolding graph_of
@@ -43,15 +43,15 @@ text_count text counts index = refl
 
 -- an object is that of a row of its name
 pub row_found : (rows : List Row) (name : Name) (object : Object) (row : Row) → object_in rows name ≡ Some object → (index : ℕ) × (index < length rows) × ((get_or rows index row).name ≡ name)
-row_found [] name object row is = absurd (none-some object is)
-row_found (other_row ∷ rows) name object row is = ⊎_elim
-    (λ (same : same_name name other_row.name ≡ true). (0, omega arith, sym (same_name-true name other_row.name same)))
-    (λ (other : same_name name other_row.name ≡ false).
-    let rest = row_found rows name object row (sym (cond-false (same_name name other_row.name) (Some (row_object other_row)) (object_in rows name) other) ∙ is) in
-    (suc rest.0, omega (arith, rest.1), rest.2))
-    (cases_Bool (same_name name other_row.name))
+row_found [] name object row object_found = absurd (none-some object object_found)
+row_found (first_row ∷ rows) name object row object_found = ⊎_elim
+    (λ (names_agree : same_name name first_row.name ≡ true). (0, omega arith, sym (same_name-true name first_row.name names_agree)))
+    (λ (names_differ : same_name name first_row.name ≡ false).
+    let later_found = row_found rows name object row (sym (cond-false (same_name name first_row.name) (Some (row_object first_row)) (object_in rows name) names_differ) ∙ object_found) in
+    (suc later_found.0, omega (arith, later_found.1), later_found.2))
+    (cases_Bool (same_name name first_row.name))
 
-module _ (config : Config) (text : Text) (whole : IsPlaceable config text) (threads : AreOfThreads config.mutators (names_of text)) (counts : List ℕ) (are : AreCountsOf (names_of text) config.mutators counts) where
+module _ (config : Config) (text : Text) (placeable : IsPlaceable config text) (threads : AreOfThreads config.mutators (names_of text)) (counts : List ℕ) (made_counts : AreCountsOf (names_of text) config.mutators counts) where
   abbrev names : List Name
   names = names_of text
 
@@ -66,67 +66,67 @@ module _ (config : Config) (text : Text) (whole : IsPlaceable config text) (thre
 
   -- a thread has made as many objects as have names of it
   count_is : (thread : ℕ) → 1 ≤ thread → thread ≤ config.mutators → new.count thread ≡ names_by names thread
-  count_is zero low high = absurd (omega (arith, low))
-  count_is (suc index) low high =
-      let next : index + 1 ≡ suc index = omega arith in
-      text_count (text_anew text) counts index ∙ are.each index (omega (arith, high)) ∙ ap (names_by names) next
+  count_is zero some_thread thread_within = absurd (omega (arith, some_thread))
+  count_is (suc index) some_thread thread_within =
+      let same_successor : index + 1 ≡ suc index = omega arith in
+      text_count (text_anew text) counts index ∙ made_counts.each index (omega (arith, thread_within)) ∙ ap (names_by names) same_successor
 
   -- The new names are given, where all objects fit.
 
   name_is_given : Fits config text → (name : Name) → Contains names name → IsGiven config new.count (f name)
-  name_is_given fits name there =
-      let within = threads.within name there in
-      let fewer = earlier_fewer names name there in
+  name_is_given fits name name_contained =
+      let thread_within = threads.within name name_contained in
+      let fewer = earlier_fewer names name name_contained in
       record {
-        thread = within;
+        thread = thread_within;
         made = ⊎_elim
-            (λ (none : name.thread < 1). omega (arith, hub_first config.mutators names threads name (omega (arith, none)) there))
-            (λ (some : 1 ≤ name.thread). omega (arith, fewer, count_is name.thread some within))
+            (λ (no_thread : name.thread < 1). omega (arith, hub_first config.mutators names threads name (omega (arith, no_thread)) name_contained))
+            (λ (some_thread : 1 ≤ name.thread). omega (arith, fewer, count_is name.thread some_thread thread_within))
             (cases_lt name.thread 1);
-        by_thread = λ some. omega (arith, fewer, count_is name.thread some within);
-        small = omega (arith, fewer, thread_at_most names name.thread, names_count text, rows_are_few config text whole fits);
+        by_thread = λ some_thread. omega (arith, fewer, count_is name.thread some_thread thread_within);
+        small = omega (arith, fewer, thread_at_most names name.thread, names_count text, rows_are_few config text placeable fits);
       }
 
   are_given : Fits config text → AreGiven config (text_anew text) counts
-  are_given fits k below =
-      let row : k < row_count = omega (arith, below, anew.rows_count f text) in
-      let name : f (row_of text k).name ≡ (row_of (text_anew text) k).name = ap (λ (row : Row). row.name) (sym (anew.row_is f text k row)) in
-      subst (IsGiven config new.count) name (name_is_given fits (row_of text k).name (row_there text k row))
+  are_given fits row_index row_below =
+      let row : row_index < row_count = omega (arith, row_below, anew.rows_count f text) in
+      let same_name_there : f (row_of text row_index).name ≡ (row_of (text_anew text) row_index).name = ap (λ (row : Row). row.name) (sym (anew.row_is f text row_index row)) in
+      subst (IsGiven config new.count) same_name_there (name_is_given fits (row_of text row_index).name (row_there text row_index row))
 
   pub graph_anew : Fits config text → IsGraphOf config (text_anew text) counts new
-  graph_anew fits = is_graph config (text_anew text) counts (anew.placeable_anew config text whole) (are_given fits)
+  graph_anew fits = is_graph config (text_anew text) counts (anew.placeable_anew config text placeable) (are_given fits)
 
   -- It is the graph that the text shows, up to the names.
   module _ (graph : Graph) (shows : ShowsGraph text config.mutators graph) where
     renaming : IsRenaming names f
-    renaming = is_renaming names whole.in_order
+    renaming = is_renaming names placeable.in_order
 
     row_anew : (index : ℕ) → index < row_count → row_of (text_anew text) index ≡ row_renamed f (row_in graph (row_of text index).name)
-    row_anew index below =
-        anew.row_is f text index below ∙ ap (row_renamed f) (shown_row text config.mutators graph shows index below)
+    row_anew index index_below =
+        anew.row_is f text index index_below ∙ ap (row_renamed f) (shown_row text config.mutators graph shows index index_below)
 
     has_object_anew : (name : Name) → IsReachable graph name → new.object (f name) ≡ Some (object_renamed f (named graph (Some name)))
     has_object_anew name reached =
-        let there = shows.reach.all name reached in
-        let k = there.0 in
-        let below : k < row_count = omega (arith, there.1, names_count text) in
-        let is : (row_of text k).name ≡ name = sym (name_of_row text k name below) ∙ there.2 in
-        let row : row_of (text_anew text) k ≡ row_renamed f (row_in graph name) = row_anew k below ∙ ap (λ (name : Name). row_renamed f (row_in graph name)) is in
-        let found = has_object (text_anew text).rows (anew.placeable_anew config text whole).in_order k (bare hub) (omega (arith, below, anew.rows_count f text)) in
+        let found_row = shows.reach.all name reached in
+        let row_index = found_row.0 in
+        let row_below : row_index < row_count = omega (arith, found_row.1, names_count text) in
+        let row_named : (row_of text row_index).name ≡ name = sym (name_of_row text row_index name row_below) ∙ found_row.2 in
+        let row : row_of (text_anew text) row_index ≡ row_renamed f (row_in graph name) = row_anew row_index row_below ∙ ap (λ (name : Name). row_renamed f (row_in graph name)) row_named in
+        let object_found = has_object (text_anew text).rows (anew.placeable_anew config text placeable).in_order row_index (bare hub) (omega (arith, row_below, anew.rows_count f text)) in
         ap (λ (object : Name → Option Object). object (f name)) (text_objects (text_anew text) counts)
-        ∙ subst (λ (row : Row). object_in (text_anew text).rows row.name ≡ Some (row_object row)) row found
+        ∙ subst (λ (row : Row). object_in (text_anew text).rows row.name ≡ Some (row_object row)) row object_found
 
-    from_old : (name : Name) (object : Object) → new.object name ≡ Some object → (other_name : Name) × IsReachable graph other_name × (f other_name ≡ name)
-    from_old name o is =
-        let found = row_found (text_anew text).rows name o (bare hub) (sym (ap (λ (object : Name → Option Object). object name) (text_objects (text_anew text) counts)) ∙ is) in
-        let k = found.0 in
-        let below : k < row_count = omega (arith, found.1, anew.rows_count f text) in
-        ((row_of text k).name, shows.reach.only (row_of text k).name (row_there text k below), ap (λ (row : Row). row.name) (sym (anew.row_is f text k below)) ∙ found.2)
+    from_old : (name : Name) (object : Object) → new.object name ≡ Some object → (old_name : Name) × IsReachable graph old_name × (f old_name ≡ name)
+    from_old name given_object object_found =
+        let found_row = row_found (text_anew text).rows name given_object (bare hub) (sym (ap (λ (object : Name → Option Object). object name) (text_objects (text_anew text) counts)) ∙ object_found) in
+        let row_index = found_row.0 in
+        let row_below : row_index < row_count = omega (arith, found_row.1, anew.rows_count f text) in
+        ((row_of text row_index).name, shows.reach.only (row_of text row_index).name (row_there text row_index row_below), ap (λ (row : Row). row.name) (sym (anew.row_is f text row_index row_below)) ∙ found_row.2)
 
     roots_are : (thread root : ℕ) → 1 ≤ thread → thread ≤ config.mutators → root < 16 → new.root thread root ≡ renamed f (graph.root thread root)
-    roots_are zero root low high small = absurd (omega (arith, low))
-    roots_are (suc m) root low high small =
-        text_root (text_anew text) counts m root ∙ anew.root_is f text (suc m) root ∙ ap (renamed f) (shown_root text config.mutators graph shows m root (omega (arith, high)) small)
+    roots_are zero root some_thread thread_within root_below = absurd (omega (arith, some_thread))
+    roots_are (suc mutator) root some_thread thread_within root_below =
+        text_root (text_anew text) counts mutator root ∙ anew.root_is f text (suc mutator) root ∙ ap (renamed f) (shown_root text config.mutators graph shows mutator root (omega (arith, thread_within)) root_below)
 
     reached_there : (name : Name) → IsReachable graph name → Contains names name
     reached_there name reached = shows.reach.all name reached
@@ -136,17 +136,17 @@ module _ (config : Config) (text : Text) (whole : IsPlaceable config text) (thre
       roots = roots_are;
       objects = has_object_anew;
       no_others = from_old;
-      one_to_one = λ name other_name reached_a reached_b same. renaming.one_to_one name other_name (reached_there name reached_a) (reached_there other_name reached_b) same;
+      one_to_one = λ name other_name reached_a reached_b same_image. renaming.one_to_one name other_name (reached_there name reached_a) (reached_there other_name reached_b) same_image;
       thread = renaming.thread;
       order = λ name other_name reached_a reached_b before. renaming.order name other_name (reached_there name reached_a) (reached_there other_name reached_b) before;
-      counted = λ a reached some.
-          let there = reached_there a reached in
-          let counted = renaming.counted a there in
-          (counted.0, omega (arith, counted.1, count_is a.thread some (threads.within a there)));
-      no_gap = λ thread count some within low high.
-          let found = renaming.no_gap thread count low (omega (arith, high, count_is thread some within)) in
-          (found.0, shows.reach.only found.0 found.1, found.2);
+      counted = λ reached_name reached some_thread.
+          let name_there = reached_there reached_name reached in
+          let counted = renaming.counted reached_name name_there in
+          (counted.0, omega (arith, counted.1, count_is reached_name.thread some_thread (threads.within reached_name name_there)));
+      no_gap = λ thread count some_thread within low high.
+          let no_gap_name = renaming.no_gap thread count low (omega (arith, high, count_is thread some_thread within)) in
+          (no_gap_name.0, shows.reach.only no_gap_name.0 no_gap_name.1, no_gap_name.2);
       hub_stays = λ reached.
-          let none = hub_first config.mutators names threads hub refl (reached_there hub reached) in
-          one_name (f hub) hub refl (omega (arith, none));
+          let none_before = hub_first config.mutators names threads hub refl (reached_there hub reached) in
+          one_name (f hub) hub refl (omega (arith, none_before));
     }

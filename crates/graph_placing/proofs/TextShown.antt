@@ -12,26 +12,26 @@ use Rattle.graph_placing.proofs.Searching.{names_count, name_of_row}
 
 -- each row has a name of the text
 pub row_there : (text : Text) (index : ℕ) → index < length text.rows → Contains (names_of text) (row_of text index).name
-row_there text index below = subst (Contains (names_of text)) (name_of_row text index hub below) (Contains-get_or (names_of text) index hub (omega (arith, below, names_count text)))
+row_there text index index_below = subst (Contains (names_of text)) (name_of_row text index hub index_below) (Contains-get_or (names_of text) index hub (omega (arith, index_below, names_count text)))
 
 module _ (text : Text) (threads : ℕ) (graph : Graph) (shows : ShowsGraph text threads graph) where
   pub shown_row : (index : ℕ) → index < length text.rows → row_of text index ≡ row_in graph (row_of text index).name
-  shown_row index below =
-      ap (λ (rows : List Row). get_or rows index (bare hub)) shows.rows ∙ get_or-map (row_in graph) (names_of text) index hub (bare hub) (omega (arith, below, names_count text))
-      ∙ ap (row_in graph) (name_of_row text index hub below)
+  shown_row index index_below =
+      ap (λ (rows : List Row). get_or rows index (bare hub)) shows.rows ∙ get_or-map (row_in graph) (names_of text) index hub (bare hub) (omega (arith, index_below, names_count text))
+      ∙ ap (row_in graph) (name_of_row text index hub index_below)
 
-  pub shown_root : (other_index index : ℕ) → other_index < threads → index < 16 → root_of text (suc other_index) index ≡ graph.root (suc other_index) index
-  shown_root other_index index below small =
-      let back : suc other_index - 1 ≡ other_index = omega arith in
-      ap (λ (k : ℕ). get_or (get_or text.roots k []) index None) back
-      ∙ ap (λ (rows : List (List Reference)). get_or (get_or rows other_index []) index None) shows.roots
-      ∙ ap (λ (row : List Reference). get_or row index None) (get_or-map-range_with_len (λ thread. map (graph.root thread) (range_with_len 0 16)) 1 threads other_index (suc other_index) [] below (omega arith))
-      ∙ get_or-map-range_with_len (graph.root (suc other_index)) 0 16 index index None small (omega arith)
+  pub shown_root : (mutator index : ℕ) → mutator < threads → index < 16 → root_of text (suc mutator) index ≡ graph.root (suc mutator) index
+  shown_root mutator index mutator_below index_below =
+      let one_back : suc mutator - 1 ≡ mutator = omega arith in
+      ap (λ (any_mutator : ℕ). get_or (get_or text.roots any_mutator []) index None) one_back
+      ∙ ap (λ (rows : List (List Reference)). get_or (get_or rows mutator []) index None) shows.roots
+      ∙ ap (λ (row : List Reference). get_or row index None) (get_or-map-range_with_len (λ thread. map (graph.root thread) (range_with_len 0 16)) 1 threads mutator (suc mutator) [] mutator_below (omega arith))
+      ∙ get_or-map-range_with_len (graph.root (suc mutator)) 0 16 index index None index_below (omega arith)
 
-  pub shown_pin : (other_index index : ℕ) → other_index < threads → index < 4 → pin_of text (suc other_index) index ≡ name_in (graph.pin (suc other_index) index)
-  shown_pin other_index index below small =
-      let back : suc other_index - 1 ≡ other_index = omega arith in
-      ap (λ (k : ℕ). get_or (get_or text.pins k []) index None) back
-      ∙ ap (λ (rows : List (List Reference)). get_or (get_or rows other_index []) index None) shows.pins
-      ∙ ap (λ (row : List Reference). get_or row index None) (get_or-map-range_with_len (λ thread. map (λ slot. name_in (graph.pin thread slot)) (range_with_len 0 4)) 1 threads other_index (suc other_index) [] below (omega arith))
-      ∙ get_or-map-range_with_len (λ slot. name_in (graph.pin (suc other_index) slot)) 0 4 index index None small (omega arith)
+  pub shown_pin : (mutator index : ℕ) → mutator < threads → index < 4 → pin_of text (suc mutator) index ≡ name_in (graph.pin (suc mutator) index)
+  shown_pin mutator index mutator_below index_below =
+      let one_back : suc mutator - 1 ≡ mutator = omega arith in
+      ap (λ (any_mutator : ℕ). get_or (get_or text.pins any_mutator []) index None) one_back
+      ∙ ap (λ (rows : List (List Reference)). get_or (get_or rows mutator []) index None) shows.pins
+      ∙ ap (λ (row : List Reference). get_or row index None) (get_or-map-range_with_len (λ thread. map (λ slot. name_in (graph.pin thread slot)) (range_with_len 0 4)) 1 threads mutator (suc mutator) [] mutator_below (omega arith))
+      ∙ get_or-map-range_with_len (λ slot. name_in (graph.pin (suc mutator) slot)) 0 4 index index None index_below (omega arith)

@@ -27,7 +27,7 @@ name_anew names name = record { thread = name.thread; count = earlier_names name
 
 abbrev pub renamed : (Name → Name) → Reference → Reference
 renamed f None = None
-renamed f (Some n) = Some (f n)
+renamed f (Some name) = Some (f name)
 
 abbrev pub row_renamed : (Name → Name) → Row → Row
 row_renamed f row = record { name = f row.name; refs = map (renamed f) row.refs; nums = row.nums }

@@ -10,5 +10,5 @@ use Rattle.graph_placing.specs.NamesAnew.{earlier_names}
 -- the words after the names of the first so many rows were written anew
 unfoldable pub names_written : Config → Text → ℕ → (Word → ℕ) → Word → ℕ
 names_written config text zero memory word = memory word
-names_written config text (suc k) memory word =
-    write (names_written config text k memory) (Heap (address_of config text k + 2)) (name_code (row_of text k).name.thread (earlier_names (names_of text) (row_of text k).name + 1)) word
+names_written config text (suc index) memory word =
+    write (names_written config text index memory) (Heap (address_of config text index + 2)) (name_code (row_of text index).name.thread (earlier_names (names_of text) (row_of text index).name + 1)) word

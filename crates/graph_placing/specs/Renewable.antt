@@ -9,7 +9,7 @@ use Rattle.shen_graph.specs.Valid.{IsValid}
 -- null, the hub, or the name of an object of one of so many threads
 abbrev pub IsOfThreads : ℕ → Reference → Type 0
 IsOfThreads threads None = Unit {0}
-IsOfThreads threads (Some n) = (n ≡ hub) ⊎ ((1 ≤ n.thread) × (n.thread ≤ threads))
+IsOfThreads threads (Some name) = (name ≡ hub) ⊎ ((1 ≤ name.thread) × (name.thread ≤ threads))
 
 -- an object of few fields, whose references are so
 pub record IsShortObject (threads : ℕ) (object : Object) : Type 0 where

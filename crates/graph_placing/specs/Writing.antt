@@ -15,23 +15,23 @@ pub record AreAddresses (config : Config) (text : Text) (addresses : List ℕ) :
 
 -- the words after the first so many of a list were written from an address on
 abbrev pub copied : (address words : ℕ) → List ℕ → (Word → ℕ) → Word → ℕ
-copied address words list memory (Heap other_address) = if nat_le address other_address && nat_lt other_address (address + words) then slice_index list (other_address - address) else memory (Heap other_address)
+copied address words list memory (Heap asked_address) = if nat_le address asked_address && nat_lt asked_address (address + words) then slice_index list (asked_address - address) else memory (Heap asked_address)
 copied address words list memory word = memory word
 
 -- the words after the top of a row's region was raised to where the row's object ends
 abbrev pub with_top : Config → Text → ℕ → (Word → ℕ) → Word → ℕ
-with_top config text k memory = write memory (Top (region_with config (address_of config text k))) (address_of config text k + words_of_row text k - base_of config (region_with config (address_of config text k)))
+with_top config text index memory = write memory (Top (region_with config (address_of config text index))) (address_of config text index + words_of_row text index - base_of config (region_with config (address_of config text index)))
 
 -- the words after the objects of the first so many rows were placed
 unfoldable pub rows_placed : Config → Text → ℕ → Word → ℕ
 rows_placed config text zero word = 0
-rows_placed config text (suc k) (Heap address) = copied (address_of config text k) (words_of_row text k) (words_of_object (word_for config text) (row_of text k)) (rows_placed config text k) (Heap address)
-rows_placed config text (suc k) (Top region) = used_words config text (suc k) region
-rows_placed config text (suc k) word = rows_placed config text k word
+rows_placed config text (suc index) (Heap address) = copied (address_of config text index) (words_of_row text index) (words_of_object (word_for config text) (row_of text index)) (rows_placed config text index) (Heap address)
+rows_placed config text (suc index) (Top region) = used_words config text (suc index) region
+rows_placed config text (suc index) word = rows_placed config text index word
 
 -- the words after the first so many roots of a mutator were stored
 abbrev pub roots_stored : Config → Text → (mutator roots : ℕ) → (Word → ℕ) → Word → ℕ
-roots_stored config text mutator roots memory (Root other_mutator index) = if (other_mutator == mutator) && nat_lt index roots then word_for config text (root_of text (other_mutator + 1) index) else memory (Root other_mutator index)
+roots_stored config text mutator roots memory (Root asked_mutator index) = if (asked_mutator == mutator) && nat_lt index roots then word_for config text (root_of text (asked_mutator + 1) index) else memory (Root asked_mutator index)
 roots_stored config text mutator roots memory word = memory word
 
 -- the words after the roots of so many mutators were stored

@@ -15,45 +15,45 @@ use Rattle.handshake.proofs.Counting.{weight, count_by-cons}
 -- all are outside, the control is idle, and the words say so
 pub shaken_begins : {R : Type 0} (config : Config) (standing : R → Standing) (stage : Stage R) (control : R) → length stage.words ≡ table_words config → length stage.machines ≡ seat_count config.mutators config.helpers
     → slice_get stage.machines (control_seat config) ≡ Some control → standing control ≡ idle
-    → ((seat : ℕ) (r : R) → seat < control_seat config → slice_get stage.machines seat ≡ Some r → standing r ≡ outside)
+    → ((seat : ℕ) (found_machine : R) → seat < control_seat config → slice_get stage.machines seat ≡ Some found_machine → standing found_machine ≡ outside)
     → view config stage.words Pause ≡ 0 → ((seat : ℕ) → seat < control_seat config → view config stage.words (State seat) ≡ 0)
     → IsShaken config standing stage
-shaken_begins {R} c standing s control words machines there is_idle out pause states = record {
-  words = words;
+shaken_begins {R} given_config standing given_stage control machines_counted machines has_control is_idle all_outside pause states = record {
+  words = machines_counted;
   control = control;
-  there = there;
-  seated = λ seat r here. by_seat seat r here (nat_eq seat (control_seat c)) refl;
+  there = has_control;
+  seated = λ seat found_machine machine_there. by_seat seat found_machine machine_there (nat_eq seat (control_seat given_config)) refl;
   pause = pause ∙ sym (ap pause_word is_idle);
-  states = λ seat r below here. states seat below ∙ sym (ap state_word (out seat r below here));
-  checked = λ seat r below here checked. ap is_within (out seat r below here);
+  states = λ seat found_machine before_control machine_there. states seat before_control ∙ sym (ap state_word (all_outside seat found_machine before_control machine_there));
+  checked = λ seat found_machine before_control machine_there checked. ap is_within (all_outside seat found_machine before_control machine_there);
 }
   where
-    by_seat : (seat : ℕ) (r : R) → slice_get s.machines seat ≡ Some r → (holds : Bool) → nat_eq seat (control_seat c) ≡ holds → HasSeat c seat (standing r)
-    by_seat seat r here true is =
-        let e : seat ≡ control_seat c = grind (arith, nat_tests) in
-        let at : slice_get s.machines (control_seat c) ≡ Some r = subst (λ k. slice_get s.machines k ≡ Some r) e here in
-        let same : control ≡ r = cc (at, there) in
-        subst (HasSeat c seat) (sym is_idle ∙ ap standing same) e
-    by_seat seat r here false is =
-        let below : seat < control_seat c = grind (arith, nat_tests, index_in_range s.machines seat r here, machines) in
-        subst (HasSeat c seat) (sym (out seat r below here)) below
+    by_seat : (seat : ℕ) (machine : R) → slice_get given_stage.machines seat ≡ Some machine → (holds : Bool) → nat_eq seat (control_seat given_config) ≡ holds → HasSeat given_config seat (standing machine)
+    by_seat seat machine has_machine true seat_test =
+        let same_seat : seat ≡ control_seat given_config = grind (arith, nat_tests) in
+        let control_machine : slice_get given_stage.machines (control_seat given_config) ≡ Some machine = subst (λ any_seat. slice_get given_stage.machines any_seat ≡ Some machine) same_seat has_machine in
+        let same_machine : control ≡ machine = cc (control_machine, has_control) in
+        subst (HasSeat given_config seat) (sym is_idle ∙ ap standing same_machine) same_seat
+    by_seat seat machine has_machine false seat_test =
+        let seat_below : seat < control_seat given_config = grind (arith, nat_tests, index_in_range given_stage.machines seat machine has_machine, machines) in
+        subst (HasSeat given_config seat) (sym (all_outside seat machine seat_below has_machine)) seat_below
 
 -- as many are counted as stand first
-count_first : {R : Type 0} (p : R → Bool) (xs : List R) (n : ℕ) → n ≤ length xs
-    → ((index : ℕ) (x : R) → index < n → slice_get xs index ≡ Some x → p x ≡ true) → ((index : ℕ) (x : R) → n ≤ index → slice_get xs index ≡ Some x → p x ≡ false)
-    → count_by p xs ≡ n
-count_first p [] n long first others = omega (arith, long)
-count_first p (x ∷ xs) zero long first others =
-    omega (arith, count_by-cons p x xs, ap weight (others 0 x (omega arith) refl), count_first p xs 0 (omega arith) (λ index y below here. absurd (omega (arith, below))) (λ index y above here. others (suc index) y (omega arith) here))
-count_first p (x ∷ xs) (suc n) long first others =
-    omega (arith, count_by-cons p x xs, ap weight (first 0 x (omega arith) refl), count_first p xs n (omega (arith, long)) (λ index y below here. first (suc index) y (omega (arith, below)) here) (λ index y above here. others (suc index) y (omega (arith, above)) here))
+count_first : {R : Type 0} (p : R → Bool) (machines : List R) (count : ℕ) → count ≤ length machines
+    → ((index : ℕ) (machine : R) → index < count → slice_get machines index ≡ Some machine → p machine ≡ true) → ((index : ℕ) (machine : R) → count ≤ index → slice_get machines index ≡ Some machine → p machine ≡ false)
+    → count_by p machines ≡ count
+count_first p [] count long_enough first_counted others_false = omega (arith, long_enough)
+count_first p (machine ∷ machines) zero long_enough first_counted others_false =
+    omega (arith, count_by-cons p machine machines, ap weight (others_false 0 machine (omega arith) refl), count_first p machines 0 (omega arith) (λ index later_machine index_below has_machine. absurd (omega (arith, index_below))) (λ index later_machine index_above has_machine. others_false (suc index) later_machine (omega arith) has_machine))
+count_first p (machine ∷ machines) (suc count) long_enough first_counted others_false =
+    omega (arith, count_by-cons p machine machines, ap weight (first_counted 0 machine (omega arith) refl), count_first p machines count (omega (arith, long_enough)) (λ index later_machine index_below has_machine. first_counted (suc index) later_machine (omega (arith, index_below)) has_machine) (λ index later_machine index_above has_machine. others_false (suc index) later_machine (omega (arith, index_above)) has_machine))
 
 -- no mutator has ended, and the word says how many there are
-pub counted_begins : {R : Type 0} (config : Config) (left : R → Bool) (stage : Stage R) → length stage.words ≡ table_words config → length stage.machines ≡ seat_count config.mutators config.helpers
-    → ((mutator : ℕ) (r : R) → mutator < config.mutators → slice_get stage.machines mutator ≡ Some r → left r ≡ true) → ((mutator : ℕ) (r : R) → config.mutators ≤ mutator → slice_get stage.machines mutator ≡ Some r → left r ≡ false)
-    → view config stage.words Left ≡ config.mutators → AreLeftCounted config left stage
-counted_begins config left stage words machines first others count = record {
-  words = words;
+pub counted_begins : {R : Type 0} (config : Config) (is_left : R → Bool) (stage : Stage R) → length stage.words ≡ table_words config → length stage.machines ≡ seat_count config.mutators config.helpers
+    → ((mutator : ℕ) (machine : R) → mutator < config.mutators → slice_get stage.machines mutator ≡ Some machine → is_left machine ≡ true) → ((mutator : ℕ) (machine : R) → config.mutators ≤ mutator → slice_get stage.machines mutator ≡ Some machine → is_left machine ≡ false)
+    → view config stage.words Left ≡ config.mutators → AreLeftCounted config is_left stage
+counted_begins config is_left stage table_length machines first_left others_false count = record {
+  words = table_length;
   few = omega (arith, machines, config.in_range.most_mutators, config.in_range.most_helpers);
-  counts = count ∙ sym (count_first left stage.machines config.mutators (omega (arith, machines)) first others);
+  counts = count ∙ sym (count_first is_left stage.machines config.mutators (omega (arith, machines)) first_left others_false);
 }

@@ -21,46 +21,46 @@ pub record KeepsWords (config : Config) (old new : List ℕ) : Type 0 where
 
 -- an access of another word keeps them
 pub elsewhere_keeps : (config : Config) (words : List ℕ) (access : Access) → IsElsewhere config access → KeepsWords config words (accessed access words)
-elsewhere_keeps config words access is = record {
+elsewhere_keeps config words access access_elsewhere = record {
   long = length-set _ _ _;
-  pause = get_or-set_other words (table_index access) (word_at config Pause) _ 0 (λ e. is.not_pause (sym e));
-  states = λ seat below.
-      view_word config _ (State seat) below
-      ∙ get_or-set_other words (table_index access) (word_at config (State seat)) _ 0 (λ e. is.not_state seat below (sym e))
-      ∙ sym (view_word config words (State seat) below);
+  pause = get_or-set_other words (table_index access) (word_at config Pause) _ 0 (λ same_index. access_elsewhere.not_pause (sym same_index));
+  states = λ seat seat_below.
+      view_word config _ (State seat) seat_below
+      ∙ get_or-set_other words (table_index access) (word_at config (State seat)) _ 0 (λ same_index. access_elsewhere.not_state seat seat_below (sym same_index))
+      ∙ sym (view_word config words (State seat) seat_below);
 }
 
 -- an access that only reads changes nothing
 pub accessed-load : (words : List ℕ) (access : Access) → is_load access ≡ true → accessed access words ≡ words
-accessed-load words (Load at) is = set-get_or words at 0
-accessed-load words _ is = absurd (cc (is))
+accessed-load words (Load index) only_reads = set-get_or words index 0
+accessed-load words _ only_reads = absurd (cc (only_reads))
 
 pub load_keeps : (config : Config) (words : List ℕ) (access : Access) → is_load access ≡ true → KeepsWords config words (accessed access words)
-load_keeps config words access is = let same = accessed-load words access is in record {
-  long = ap length same;
-  pause = ap (λ ws. view config ws Pause) same;
-  states = λ seat below. ap (λ ws. view config ws (State seat)) same;
+load_keeps config words access only_reads = let same_words = accessed-load words access only_reads in record {
+  long = ap length same_words;
+  pause = ap (λ table. view config table Pause) same_words;
+  states = λ seat seat_below. ap (λ table. view config table (State seat)) same_words;
 }
 
 -- a store into the pause word
 pub pause_stored : (config : Config) (words : List ℕ) (value : ℕ) → length words ≡ table_words config
     → view config (accessed (placed config (touch Pause (stores value))) words) Pause ≡ value
-pause_stored config words value long = view_set config words Pause value Pause long tt
+pause_stored config words value words_long = view_set config words Pause value Pause words_long tt
 
 pub pause_stored_states : (config : Config) (words : List ℕ) (value seat : ℕ) → length words ≡ table_words config
     → view config (accessed (placed config (touch Pause (stores value))) words) (State seat) ≡ view config words (State seat)
-pause_stored_states config words value seat long = view_set config words Pause value (State seat) long tt
+pause_stored_states config words value seat words_long = view_set config words Pause value (State seat) words_long tt
 
 -- a store into a state word
 pub state_stored : (config : Config) (words : List ℕ) (value seat : ℕ) → length words ≡ table_words config → seat < control_seat config
     → view config (accessed (placed config (touch (State seat) (stores value))) words) (State seat) ≡ value
-state_stored config words value seat long below = view_set config words (State seat) value (State seat) long below ∙ cond-true _ _ _ (eq-eqb seat seat refl)
+state_stored config words value seat words_long seat_below = view_set config words (State seat) value (State seat) words_long seat_below ∙ cond-true _ _ _ (eq-eqb seat seat refl)
 
 pub state_stored_pause : (config : Config) (words : List ℕ) (value seat : ℕ) → length words ≡ table_words config → seat < control_seat config
     → view config (accessed (placed config (touch (State seat) (stores value))) words) Pause ≡ view config words Pause
-state_stored_pause config words value seat long below = view_set config words (State seat) value Pause long below
+state_stored_pause config words value seat words_long seat_below = view_set config words (State seat) value Pause words_long seat_below
 
-pub state_stored_other : (config : Config) (words : List ℕ) (value seat other : ℕ) → length words ≡ table_words config → seat < control_seat config → other ≢ seat
-    → view config (accessed (placed config (touch (State seat) (stores value))) words) (State other) ≡ view config words (State other)
-state_stored_other config words value seat other long below apart =
-    view_set config words (State seat) value (State other) long below ∙ cond-false _ _ _ (ne_eqb seat other (λ e. apart (sym e)))
+pub state_stored_other : (config : Config) (words : List ℕ) (value seat other_seat : ℕ) → length words ≡ table_words config → seat < control_seat config → other_seat ≢ seat
+    → view config (accessed (placed config (touch (State seat) (stores value))) words) (State other_seat) ≡ view config words (State other_seat)
+state_stored_other config words value seat other_seat words_long seat_below seats_apart =
+    view_set config words (State seat) value (State other_seat) words_long seat_below ∙ cond-false _ _ _ (ne_eqb seat other_seat (λ same_seat. seats_apart (sym same_seat)))

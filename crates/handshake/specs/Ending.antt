@@ -24,7 +24,7 @@ KeepsEnd config before access after = SaysEnd config access after ⊎ LeavesEnd 
 
 -- an event does so, if it is one
 abbrev pub EventKeepsEnd : {R O : Type 0} → Config → MachineKind R O → (R → Bool) → Stage R → Event O → Type 0
-EventKeepsEnd {R} config kind ended stage e = (r : R) → IsEvent kind stage e r → KeepsEnd config (ended r) (kind.plan r e.order) (λ got. ended (kind.took r e.order got))
+EventKeepsEnd {R} config kind ended stage event = (machine : R) → IsEvent kind stage event machine → KeepsEnd config (ended machine) (kind.plan machine event.order) (λ got. ended (kind.took machine event.order got))
 
 -- each event of a run does so, where it is made
 abbrev pub EachKeepsEnd : {R O : Type 0} → Config → MachineKind R O → (R → Bool) → Stage R → List (Event O) → Type 0
@@ -33,7 +33,7 @@ EachKeepsEnd config kind ended stage (event ∷ rest) = EventKeepsEnd config kin
 
 -- no machine has ended
 abbrev pub NoneHasEnded : {R : Type 0} → (R → Bool) → Stage R → Type 0
-NoneHasEnded {R} ended s = (number : ℕ) (r : R) → slice_get s.machines number ≡ Some r → ended r ≡ false
+NoneHasEnded {R} ended stage = (number : ℕ) (machine : R) → slice_get stage.machines number ≡ Some machine → ended machine ≡ false
 
 -- the word is 1 where a machine has ended, and 0 where none has
 pub record IsEndWord {R : Type 0} (config : Config) (ended : R → Bool) (stage : Stage R) : Type 0 where

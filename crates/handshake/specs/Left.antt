@@ -25,7 +25,7 @@ Counts config before access after = Ends config before access after ⊎ LeavesCo
 
 -- an event does so, if it is one
 abbrev pub EventCounts : {R O : Type 0} → Config → MachineKind R O → (R → Bool) → Stage R → Event O → Type 0
-EventCounts {R} config kind left stage e = (r : R) → IsEvent kind stage e r → Counts config (left r) (kind.plan r e.order) (λ got. left (kind.took r e.order got))
+EventCounts {R} config kind left stage event = (machine : R) → IsEvent kind stage event machine → Counts config (left machine) (kind.plan machine event.order) (λ got. left (kind.took machine event.order got))
 
 -- each event of a run does so, where it is made
 abbrev pub EachCounts : {R O : Type 0} → Config → MachineKind R O → (R → Bool) → Stage R → List (Event O) → Type 0

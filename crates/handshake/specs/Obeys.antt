@@ -20,7 +20,7 @@ pub record IsElsewhere (config : Config) (access : Access) : Type 0 where
 
 -- whether an access only reads
 abbrev pub is_load : Access → Bool
-is_load (Load at) = true
+is_load (Load index) = true
 is_load _ = false
 
 -- an access that may be made outside, also in a pause: it only reads, or is of a word below the image that the handshake
@@ -79,7 +79,7 @@ Obeys config seat inside access next = GoesOn config access next is_within
 Obeys config seat leaves access next = GoesOut config seat access next
 Obeys config seat idle access next = GoesOn config access next is_free
 Obeys config seat stops access next = Stops config access next
-Obeys config seat (checks other) access next = Checks config other access next
+Obeys config seat (checks awaited_seat) access next = Checks config awaited_seat access next
 Obeys config seat works access next = GoesOn config access next is_pausing
 Obeys config seat goes access next = EndsPause config access next
 

@@ -20,7 +20,7 @@ pub record IsShaken {R : Type 0} (config : Config) (standing : R → Standing) (
 
 -- an event obeys, if it is one
 abbrev pub EventObeys : {R O : Type 0} → Config → MachineKind R O → (R → Standing) → Stage R → Event O → Type 0
-EventObeys {R} config kind standing stage e = (r : R) → IsEvent kind stage e r → Obeys config e.number (standing r) (kind.plan r e.order) (λ got. standing (kind.took r e.order got))
+EventObeys {R} config kind standing stage event = (machine : R) → IsEvent kind stage event machine → Obeys config event.number (standing machine) (kind.plan machine event.order) (λ got. standing (kind.took machine event.order got))
 
 -- each event of a run obeys, where it is made
 abbrev pub EachObeys : {R O : Type 0} → Config → MachineKind R O → (R → Standing) → Stage R → List (Event O) → Type 0
@@ -29,7 +29,7 @@ EachObeys config kind standing stage (event ∷ rest) = EventObeys config kind s
 
 -- the control of a stage works in a pause, or has done so and not ended it yet
 abbrev pub IsPausing : {R : Type 0} → Config → (R → Standing) → Stage R → Type 0
-IsPausing {R} c standing s = (r : R) → slice_get s.machines (control_seat c) ≡ Some r → is_pausing (standing r) ≡ true
+IsPausing {R} config standing stage = (machine : R) → slice_get stage.machines (control_seat config) ≡ Some machine → is_pausing (standing machine) ≡ true
 
 -- No mutator or helper is in the heap, and none makes an access to a word of the image but to read it.
 pub record IsStill {R O : Type 0} (config : Config) (kind : MachineKind R O) (standing : R → Standing) (stage : Stage R) : Type 0 where

@@ -54,10 +54,10 @@ is_free _ = false
 
 -- whether the control has found that a seat is out, in this pause
 abbrev pub is_checked : Standing → ℕ → Bool
-is_checked (checks seat) other = nat_lt other seat
-is_checked works other = true
-is_checked goes other = true
-is_checked _ other = false
+is_checked (checks awaited_seat) seat = nat_lt seat awaited_seat
+is_checked works seat = true
+is_checked goes seat = true
+is_checked _ seat = false
 
 -- the seat of the control: the mutators come first, then the helpers
 abbrev pub control_seat : Config → ℕ
@@ -67,7 +67,7 @@ control_seat config = config.mutators + config.helpers
 abbrev pub HasSeat : Config → ℕ → Standing → Type 0
 HasSeat config seat idle = seat ≡ control_seat config
 HasSeat config seat stops = seat ≡ control_seat config
-HasSeat config seat (checks other) = (seat ≡ control_seat config) × (other < control_seat config)
+HasSeat config seat (checks awaited_seat) = (seat ≡ control_seat config) × (awaited_seat < control_seat config)
 HasSeat config seat works = seat ≡ control_seat config
 HasSeat config seat goes = seat ≡ control_seat config
 HasSeat config seat _ = seat < control_seat config

@@ -5,33 +5,33 @@ use Rattle.std.proofs.Math.Seq.{set-append_seam}
 
 -- the first so many are copied
 abbrev pub mixed : {A : Type 0} → ℕ → List A → List A → List A
-mixed i xs ys = take i xs ++ drop i ys
+mixed count xs ys = take count xs ++ drop count ys
 
-pub mixed_more : {A : Type 0} (xs ys : List A) (index : ℕ) (d : A) → length ys ≡ length xs → index < length xs → set (mixed index xs ys) index (get_or xs index d) ≡ mixed (index + 1) xs ys
-mixed_more xs ys index d same low =
-    let x = get_or xs index d in
-    let y = get_or ys index d in
+pub mixed_more : {A : Type 0} (xs ys : List A) (index : ℕ) (default : A) → length ys ≡ length xs → index < length xs → set (mixed index xs ys) index (get_or xs index default) ≡ mixed (index + 1) xs ys
+mixed_more xs ys index default same_length index_below =
+    let own_element = get_or xs index default in
+    let other_element = get_or ys index default in
     let rest = drop (suc index) ys in
-    let long : length (take index xs) ≡ index = length-take-le index xs (omega arith) in
-    let next : suc index ≡ index + 1 = omega arith in
-    ap (λ t. set (take index xs ++ t) index x) (drop-cons ys index d (omega arith))
-    ∙ ap (λ k. set (take index xs ++ y ∷ rest) k x) (sym long)
-    ∙ set-append_seam (take index xs) y rest x
-    ∙ sym (append_assoc (take index xs) (x ∷ []) rest)
-    ∙ ap (λ t. t ++ rest) (sym (take_more xs index d low))
-    ∙ ap (λ k. take (index + 1) xs ++ drop k ys) next
+    let taken_length : length (take index xs) ≡ index = length-take-le index xs (omega arith) in
+    let next_number : suc index ≡ index + 1 = omega arith in
+    ap (λ list. set (take index xs ++ list) index own_element) (drop-cons ys index default (omega arith))
+    ∙ ap (λ place. set (take index xs ++ other_element ∷ rest) place own_element) (sym taken_length)
+    ∙ set-append_seam (take index xs) other_element rest own_element
+    ∙ sym (append_assoc (take index xs) (own_element ∷ []) rest)
+    ∙ ap (λ list. list ++ rest) (sym (take_more xs index default index_below))
+    ∙ ap (λ place. take (index + 1) xs ++ drop place ys) next_number
 
-pub mixed_next : {A : Type 0} (xs ys : List A) (index : ℕ) (d : A) → length ys ≡ length xs → index < length xs → get_or (mixed index xs ys) index d ≡ get_or ys index d
-mixed_next xs ys index d same low =
-    let long : length (take index xs) ≡ index = length-take-le index xs (omega arith) in
-    let none : index - index ≡ 0 = omega arith in
-    get_or-append_right (take index xs) (drop index ys) index index d long (omega arith)
-    ∙ ap (λ other_index. get_or (drop index ys) other_index d) none
-    ∙ ap (λ t. get_or t 0 d) (drop-cons ys index d (omega arith))
+pub mixed_next : {A : Type 0} (xs ys : List A) (index : ℕ) (default : A) → length ys ≡ length xs → index < length xs → get_or (mixed index xs ys) index default ≡ get_or ys index default
+mixed_next xs ys index default same_length index_below =
+    let taken_length : length (take index xs) ≡ index = length-take-le index xs (omega arith) in
+    let no_difference : index - index ≡ 0 = omega arith in
+    get_or-append_right (take index xs) (drop index ys) index index default taken_length (omega arith)
+    ∙ ap (λ other_index. get_or (drop index ys) other_index default) no_difference
+    ∙ ap (λ list. get_or list 0 default) (drop-cons ys index default (omega arith))
 
-pub length-mixed : {A : Type 0} (xs ys : List A) (i : ℕ) → length ys ≡ length xs → i ≤ length xs → length (mixed i xs ys) ≡ length xs
-length-mixed xs ys i same low = omega (arith, length-append (take i xs) (drop i ys), length-take-le i xs low, length-drop i ys)
+pub length-mixed : {A : Type 0} (xs ys : List A) (count : ℕ) → length ys ≡ length xs → count ≤ length xs → length (mixed count xs ys) ≡ length xs
+length-mixed xs ys count same_length count_within = omega (arith, length-append (take count xs) (drop count ys), length-take-le count xs count_within, length-drop count ys)
 
-pub mixed_all : {A : Type 0} (xs ys : List A) (i : ℕ) → length ys ≡ length xs → length xs ≤ i → mixed i xs ys ≡ xs
-mixed_all xs ys i same high =
-    ap (λ t. t ++ drop i ys) (take_all i xs high) ∙ ap (λ t. xs ++ t) (drop_all i ys (omega arith)) ∙ append-nil xs
+pub mixed_all : {A : Type 0} (xs ys : List A) (count : ℕ) → length ys ≡ length xs → length xs ≤ count → mixed count xs ys ≡ xs
+mixed_all xs ys count same_length count_covers =
+    ap (λ list. list ++ drop count ys) (take_all count xs count_covers) ∙ ap (λ list. xs ++ list) (drop_all count ys (omega arith)) ∙ append-nil xs

@@ -11,41 +11,41 @@ use Rattle.shen_graph.specs.Reach.IsReachable.{from_root, from_pin, from_field}
 abbrev pub counted : List Row → List (List Reference) → List ℕ → Graph
 counted rows roots counts = graph_of (record { rows = rows; roots = [] ∷ roots; counts = counts; pins = [] })
 
-pub reachable_again : (rows : List Row) (roots : List (List Reference)) (counts more : List ℕ) (name : Name) → IsReachable (counted rows roots counts) name → IsReachable (counted rows roots more) name
+pub reachable_again : (rows : List Row) (roots : List (List Reference)) (counts other_counts : List ℕ) (name : Name) → IsReachable (counted rows roots counts) name → IsReachable (counted rows roots other_counts) name
 unfolding graph_of
-reachable_again rows roots counts more _ (from_root thread root name is) = from_root thread root name is
-reachable_again rows roots counts more _ (from_pin thread slot held is) = absurd cc
-reachable_again rows roots counts more _ (from_field other_name name field before is) = from_field other_name name field (reachable_again rows roots counts more other_name before) is
+reachable_again rows roots counts other_counts _ (from_root thread root name leads) = from_root thread root name leads
+reachable_again rows roots counts other_counts _ (from_pin thread slot pin_held leads) = absurd cc
+reachable_again rows roots counts other_counts _ (from_field from_name name field from_reachable leads) = from_field from_name name field (reachable_again rows roots counts other_counts from_name from_reachable) leads
 
-pub reach_again : (rows : List Row) (roots : List (List Reference)) (counts more : List ℕ) (names : List Name) → IsReach (counted rows roots counts) names → IsReach (counted rows roots more) names
-reach_again rows roots counts more names reach = record {
+pub reach_again : (rows : List Row) (roots : List (List Reference)) (counts other_counts : List ℕ) (names : List Name) → IsReach (counted rows roots counts) names → IsReach (counted rows roots other_counts) names
+reach_again rows roots counts other_counts names reach = record {
   in_order = reach.in_order;
-  all = λ name led. reach.all name (reachable_again rows roots more counts name led);
-  only = λ name there. reachable_again rows roots counts more name (reach.only name there);
+  all = λ name led. reach.all name (reachable_again rows roots other_counts counts name led);
+  only = λ name name_there. reachable_again rows roots counts other_counts name (reach.only name name_there);
 }
 
 abbrev nothing : Object
 nothing = record { refs = []; nums = [] }
 
 -- a field of an object that is there in both
-same_field : (few all : Option Object) → ((object : Object) → few ≡ Some object → all ≡ Some object) → (field : ℕ) (reference : Reference) → slice_get (unwrap_or few nothing).refs field ≡ Some reference → slice_get (unwrap_or all nothing).refs field ≡ Some reference
-same_field None all there field reference is = absurd cc
-same_field (Some object) all there field reference is = subst (λ (found : Option Object). slice_get (unwrap_or found nothing).refs field ≡ Some reference) (sym (there object refl)) is
+same_field : (few full_object : Option Object) → ((object : Object) → few ≡ Some object → full_object ≡ Some object) → (field : ℕ) (reference : Reference) → slice_get (unwrap_or few nothing).refs field ≡ Some reference → slice_get (unwrap_or full_object nothing).refs field ≡ Some reference
+same_field None full_object object_kept field reference field_is = absurd cc
+same_field (Some object) full_object object_kept field reference field_is = subst (λ (found : Option Object). slice_get (unwrap_or found nothing).refs field ≡ Some reference) (sym (object_kept object refl)) field_is
 
 -- fewer rows lead to no more
-pub leads_in_all : (few all : List Row) (roots : List (List Reference)) (counts : List ℕ) → ((name : Name) (object : Object) → object_in few name ≡ Some object → object_in all name ≡ Some object)
-    → (name : Name) → IsReachable (counted few roots counts) name → IsReachable (counted all roots counts) name
+pub leads_in_all : (few all_rows : List Row) (roots : List (List Reference)) (counts : List ℕ) → ((name : Name) (object : Object) → object_in few name ≡ Some object → object_in all_rows name ≡ Some object)
+    → (name : Name) → IsReachable (counted few roots counts) name → IsReachable (counted all_rows roots counts) name
 unfolding graph_of
-leads_in_all few all roots counts there _ (from_root thread root name is) = from_root thread root name is
-leads_in_all few all roots counts there _ (from_pin thread slot held is) = absurd cc
-leads_in_all few all roots counts there _ (from_field other_name name field before is) =
-    from_field other_name name field (leads_in_all few all roots counts there other_name before) (same_field (object_in few other_name) (object_in all other_name) (there other_name) field (Some name) is)
+leads_in_all few all_rows roots counts object_kept _ (from_root thread root name leads) = from_root thread root name leads
+leads_in_all few all_rows roots counts object_kept _ (from_pin thread slot pin_held leads) = absurd cc
+leads_in_all few all_rows roots counts object_kept _ (from_field from_name name field from_reachable leads) =
+    from_field from_name name field (leads_in_all few all_rows roots counts object_kept from_name from_reachable) (same_field (object_in few from_name) (object_in all_rows from_name) (object_kept from_name) field (Some name) leads)
 
 -- and no less, where they have the object of each name to which all lead
-pub leads_in_few : (few all : List Row) (roots : List (List Reference)) (counts : List ℕ) → ((name : Name) → IsReachable (counted all roots counts) name → object_in all name ≡ object_in few name)
-    → (name : Name) → IsReachable (counted all roots counts) name → IsReachable (counted few roots counts) name
+pub leads_in_few : (few all_rows : List Row) (roots : List (List Reference)) (counts : List ℕ) → ((name : Name) → IsReachable (counted all_rows roots counts) name → object_in all_rows name ≡ object_in few name)
+    → (name : Name) → IsReachable (counted all_rows roots counts) name → IsReachable (counted few roots counts) name
 unfolding graph_of
-leads_in_few few all roots counts same _ (from_root thread root name is) = from_root thread root name is
-leads_in_few few all roots counts same _ (from_pin thread slot held is) = absurd cc
-leads_in_few few all roots counts same _ (from_field other_name name field before is) =
-    from_field other_name name field (leads_in_few few all roots counts same other_name before) (subst (λ (found : Option Object). slice_get (unwrap_or found nothing).refs field ≡ Some (Some name)) (same other_name before) is)
+leads_in_few few all_rows roots counts same_objects _ (from_root thread root name leads) = from_root thread root name leads
+leads_in_few few all_rows roots counts same_objects _ (from_pin thread slot pin_held leads) = absurd cc
+leads_in_few few all_rows roots counts same_objects _ (from_field from_name name field from_reachable leads) =
+    from_field from_name name field (leads_in_few few all_rows roots counts same_objects from_name from_reachable) (subst (λ (found : Option Object). slice_get (unwrap_or found nothing).refs field ≡ Some (Some name)) (same_objects from_name from_reachable) leads)

@@ -26,81 +26,81 @@ use Rattle.graph_placing.specs.TextGraph.{row_object, text_graph, IsGraphOf}
 use Rattle.graph_placing.proofs.Searching.{names_count, name_of_row}
 use Rattle.graph_placing.proofs.TextGraphs.{has_object, is_graph}
 
-module _ (config : Config) (counts : List ℕ) (text : Text) (is : IsDump (dumped config counts text)) where
+module _ (config : Config) (counts : List ℕ) (text : Text) (is_dump : IsDump (dumped config counts text)) where
   abbrev graph_then : Graph
   graph_then = graph_in (dumped config counts text)
 
   abbrev row_count : ℕ
   row_count = length text.rows
 
-  row_is : (k : ℕ) → k < row_count → IsRow counts (row_of text k)
-  row_is k below = All-get_or (IsRow counts) text.rows k (bare hub) below is.form.rows
+  row_is : (row_number : ℕ) → row_number < row_count → IsRow counts (row_of text row_number)
+  row_is row_number row_below = All-get_or (IsRow counts) text.rows row_number (bare hub) row_below is_dump.form.rows
 
   -- each row can be reached
   row_reached : (index : ℕ) → index < row_count → IsReachable graph_then (row_of text index).name
-  row_reached index below =
-      let there : get_or (names_of text) index hub ≡ (row_of text index).name = name_of_row text index hub below in
-      subst (IsReachable graph_then) there (is.reach.only (get_or (names_of text) index hub) (Contains-get_or (names_of text) index hub (omega (arith, below, names_count text))))
+  row_reached index row_below =
+      let name_there : get_or (names_of text) index hub ≡ (row_of text index).name = name_of_row text index hub row_below in
+      subst (IsReachable graph_then) name_there (is_dump.reach.only (get_or (names_of text) index hub) (Contains-get_or (names_of text) index hub (omega (arith, row_below, names_count text))))
 
   -- and its object is the graph's
   row_named : (index : ℕ) → index < row_count → named graph_then (Some (row_of text index).name) ≡ row_object (row_of text index)
   unfolding graph_of
-  row_named index below = ap (λ (found : Option Object). unwrap_or found (record { refs = []; nums = [] })) (has_object text.rows is.form.order index (bare hub) below)
+  row_named index row_below = ap (λ (found : Option Object). unwrap_or found (record { refs = []; nums = [] })) (has_object text.rows is_dump.form.order index (bare hub) row_below)
 
   root_is : (thread index : ℕ) → 1 ≤ thread → graph_then.root thread index ≡ root_of text thread index
   unfolding graph_of
-  root_is zero index positive = absurd (omega (arith, positive))
-  root_is (suc thread) index positive = let back : thread ≡ suc thread - 1 = omega arith in ap (λ (k : ℕ). get_or (get_or text.roots k []) index None) back
+  root_is zero index thread_positive = absurd (omega (arith, thread_positive))
+  root_is (suc thread) index thread_positive = let same_thread : thread ≡ suc thread - 1 = omega arith in ap (λ (any_thread : ℕ). get_or (get_or text.roots any_thread []) index None) same_thread
 
   pub placeable : IsPlaceable config text
   placeable = record {
-    threads = is.form.each;
-    sixteen = is.form.roots;
-    in_order = is.form.order;
-    short = λ k below. let fields = (row_is k below).fields in record { refs = fields.few_refs; nums = fields.few_nums };
-    references = λ k i name below names.
-        is.reach.all name (from_field (row_of text k).name name i (row_reached k below) (ap (λ (object : Object). slice_get object.refs i) (row_named k below) ∙ names));
-    roots = λ thread index name some within small names. is.reach.all name (from_root thread index name (root_is thread index some ∙ names));
+    threads = is_dump.form.each;
+    sixteen = is_dump.form.roots;
+    in_order = is_dump.form.order;
+    short = λ row_number row_below. let fields = (row_is row_number row_below).fields in record { refs = fields.few_refs; nums = fields.few_nums };
+    references = λ row_number place name row_below names.
+        is_dump.reach.all name (from_field (row_of text row_number).name name place (row_reached row_number row_below) (ap (λ (object : Object). slice_get object.refs place) (row_named row_number row_below) ∙ names));
+    roots = λ thread index name some_name within small names. is_dump.reach.all name (from_root thread index name (root_is thread index some_name ∙ names));
   }
 
   -- no thread has made too many
   few : (index : ℕ) → get_or counts index 0 < 2 ^ 32
   few index = ⊎_elim
-      (λ (below : index < length counts). let most = All-get_or (λ (x : ℕ). x ≤ most_made) counts index 0 below is.form.counts in omega (arith, most))
-      (λ (past : length counts ≤ index). let none = get_or_past counts index 0 past in omega (arith, none))
+      (λ (index_below : index < length counts). let made_bound = All-get_or (λ (made_count : ℕ). made_count ≤ most_made) counts index 0 index_below is_dump.form.counts in omega (arith, made_bound))
+      (λ (index_past : length counts ≤ index). let none_made = get_or_past counts index 0 index_past in omega (arith, none_made))
       (cases_lt index (length counts))
 
   count_is : (thread : ℕ) → 1 ≤ thread → (text_graph text counts).count thread ≡ get_or counts (thread - 1) 0
   unfolding graph_of
-  count_is zero positive = absurd (omega (arith, positive))
-  count_is (suc thread) positive = let back : thread ≡ suc thread - 1 = omega arith in ap (λ (index : ℕ). get_or counts index 0) back
+  count_is zero thread_positive = absurd (omega (arith, thread_positive))
+  count_is (suc thread) thread_positive = let same_thread : thread ≡ suc thread - 1 = omega arith in ap (λ (index : ℕ). get_or counts index 0) same_thread
 
   is_given : (name : Name) → IsNamed counts name → IsGiven config (text_graph text counts).count name
   is_given name named_by = ⊎_elim
-      (λ (is_hub : name ≡ hub). subst (IsGiven config (text_graph text counts).count) (sym is_hub) (record { thread = omega arith; made = omega arith; by_thread = λ one. absurd (omega (arith, one)); small = omega arith }))
-      (λ (made : IsMadeBy counts name).
-      let count = count_is name.thread made.from_first in
+      (λ (is_hub : name ≡ hub). subst (IsGiven config (text_graph text counts).count) (sym is_hub) (record { thread = omega arith; made = omega arith; by_thread = λ thread_positive. absurd (omega (arith, thread_positive)); small = omega arith }))
+      (λ (name_made : IsMadeBy counts name).
+      let count = count_is name.thread name_made.from_first in
       record {
-        thread = omega (arith, made.to_last, is.form.threads);
-        made = omega (arith, made.to_count, count);
-        by_thread = λ one. omega (arith, made.to_count, count);
-        small = omega (arith, made.to_count, few (name.thread - 1));
+        thread = omega (arith, name_made.to_last, is_dump.form.threads);
+        made = omega (arith, name_made.to_count, count);
+        by_thread = λ thread_positive. omega (arith, name_made.to_count, count);
+        small = omega (arith, name_made.to_count, few (name.thread - 1));
       })
       named_by
 
   graph_is : IsGraphOf config text counts graph_then
-  graph_is = is_graph config text counts placeable (λ k below. is_given (row_of text k).name (row_is k below).name)
+  graph_is = is_graph config text counts placeable (λ row_number row_below. is_given (row_of text row_number).name (row_is row_number row_below).name)
 
-  pub can_begin : (memory : Word → ℕ) → IsPlaced config text memory → ((more : List ℕ) (graph : Graph) → IsGraphOf config text more graph → Represents config memory graph (λ m. nothing)) → CanBeginFrom config memory counts graph_then
-  can_begin memory placed stands = record {
-    stands = stands counts graph_then graph_is;
-    outside = record { pause = placed.others Pause refl; states = λ seat below. placed.others (State seat) refl; left = placed.left };
+  pub can_begin : (memory : Word → ℕ) → IsPlaced config text memory → ((other_counts : List ℕ) (graph : Graph) → IsGraphOf config text other_counts graph → Represents config memory graph (λ m. nothing)) → CanBeginFrom config memory counts graph_then
+  can_begin memory placed graph_stands = record {
+    stands = graph_stands counts graph_then graph_is;
+    outside = record { pause = placed.others Pause refl; states = λ seat seat_below. placed.others (State seat) refl; left = placed.left };
     counts_are = graph_is.counts_are;
   }
 
 -- what follows of an image from two facts of it
-pub of_both : {E : Type 0} (P Q R : Image → Type 0) → ((image : Image) → P image → Q image → R image) → (r : Result Placed E)
-    → IfOk r (λ placed. IfHeap placed P) → IfOk r (λ placed. IfHeap placed Q) → IfOk r (λ placed. IfHeap placed R)
-of_both P Q R so (Ok (Heap image)) one two = so image one two
-of_both P Q R so (Ok TooSmall) one two = tt
-of_both P Q R so (Err e) one two = tt
+pub of_both : {E : Type 0} (P Q R : Image → Type 0) → ((image : Image) → P image → Q image → R image) → (result : Result Placed E)
+    → IfOk result (λ placed. IfHeap placed P) → IfOk result (λ placed. IfHeap placed Q) → IfOk result (λ placed. IfHeap placed R)
+of_both P Q R follows (Ok (Heap image)) first_fact second_fact = follows image first_fact second_fact
+of_both P Q R follows (Ok TooSmall) first_fact second_fact = tt
+of_both P Q R follows (Err error) first_fact second_fact = tt

@@ -54,166 +54,166 @@ pub record IsFormed (threads : ℕ) (graph : Graph) : Type 0 where
 
 -- ---- more objects
 
-more_known : (threads : ℕ) (count more : ℕ → ℕ) (reference : Reference) → ((thread : ℕ) → count thread ≤ more thread) → IsKnown threads count reference → IsKnown threads more reference
-more_known threads count more None up known = tt
-more_known threads count more (Some n) up (inl is) = inl is
-more_known threads count more (Some n) up (inr made) =
-    let higher = up n.thread in
-    inr (record { from_first = made.from_first; to_last = made.to_last; from_one = made.from_one; to_count = omega (arith, made.to_count, higher) })
+more_known : (threads : ℕ) (count count_then : ℕ → ℕ) (reference : Reference) → ((thread : ℕ) → count thread ≤ count_then thread) → IsKnown threads count reference → IsKnown threads count_then reference
+more_known threads count count_then None counts_rise was_known = tt
+more_known threads count count_then (Some name) counts_rise (inl is_hub) = inl is_hub
+more_known threads count count_then (Some name) counts_rise (inr reference_made) =
+    let higher = counts_rise name.thread in
+    inr (record { from_first = reference_made.from_first; to_last = reference_made.to_last; from_one = reference_made.from_one; to_count = omega (arith, reference_made.to_count, higher) })
 
-more_formed : (threads : ℕ) (count more : ℕ → ℕ) (name : Name) (object : Object) → ((thread : ℕ) → count thread ≤ more thread) → IsFormedObject threads count name object → IsFormedObject threads more name object
-more_formed threads count more name object up formed = record {
-  refs = λ k d below. more_known threads count more _ up (formed.refs k d below);
-  few_refs = formed.few_refs;
-  few_nums = formed.few_nums;
-  fit = formed.fit;
-  hub_refs = formed.hub_refs;
-  hub_nums = formed.hub_nums;
+more_formed : (threads : ℕ) (count count_then : ℕ → ℕ) (name : Name) (object : Object) → ((thread : ℕ) → count thread ≤ count_then thread) → IsFormedObject threads count name object → IsFormedObject threads count_then name object
+more_formed threads count count_then name object counts_rise object_formed = record {
+  refs = λ index default index_below. more_known threads count count_then _ counts_rise (object_formed.refs index default index_below);
+  few_refs = object_formed.few_refs;
+  few_nums = object_formed.few_nums;
+  fit = object_formed.fit;
+  hub_refs = object_formed.hub_refs;
+  hub_nums = object_formed.hub_nums;
 }
 
 -- ---- what a reference names
 
 nothing_formed : (threads : ℕ) (count : ℕ → ℕ) (name : Name) → (name ≡ hub → ⊥) → IsFormedObject threads count name (record { refs = []; nums = [] })
-nothing_formed threads count name other = record {
+nothing_formed threads count name not_hub = record {
   refs = All-nil (IsKnown threads count);
   few_refs = omega arith;
   few_nums = omega arith;
   fit = All-nil (λ x. x < 2 ^ 64);
-  hub_refs = λ is. absurd (other is);
-  hub_nums = λ is. absurd (other is);
+  hub_refs = λ hub_name. absurd (not_hub hub_name);
+  hub_nums = λ hub_name. absurd (not_hub hub_name);
 }
 
 -- the object of a name, also where there is none
 pub named_formed : (threads : ℕ) (graph : Graph) (name : Name) → IsFormed threads graph → IsFormedObject threads graph.count name (named graph (Some name))
-named_formed threads graph name formed = by_object (graph.object name) refl
+named_formed threads graph name graph_formed = by_object (graph.object name) refl
   where
     no_object : Object
     no_object = record { refs = []; nums = [] }
 
     by_object : (found : Option Object) → graph.object name ≡ found → IsFormedObject threads graph.count name (unwrap_or found (record { refs = []; nums = [] }))
-    by_object (Some found) is = formed.object name found is
-    by_object None is = nothing_formed threads graph.count name (λ (is_hub : name ≡ hub).
-        let there = formed.hub_there in
-        let none : graph.object hub ≡ None = ap graph.object (sym is_hub) ∙ is in
-        let both : ◌≡◌ {A = Option Object} (Some there.0) None = sym there.1 ∙ none in
+    by_object (Some found) object_found = graph_formed.object name found object_found
+    by_object None object_found = nothing_formed threads graph.count name (λ (is_hub : name ≡ hub).
+        let hub_object = graph_formed.hub_there in
+        let no_hub : graph.object hub ≡ None = ap graph.object (sym is_hub) ∙ object_found in
+        let hub_both : ◌≡◌ {A = Option Object} (Some hub_object.0) None = sym hub_object.1 ∙ no_hub in
         absurd cc)
 
 -- its references
 pub refs_known : (threads : ℕ) (graph : Graph) (reference : Reference) → IsFormed threads graph → All (IsKnown threads graph.count) (named graph reference).refs
-refs_known threads graph None formed = All-nil (IsKnown threads graph.count)
-refs_known threads graph (Some n) formed = (named_formed threads graph n formed).refs
+refs_known threads graph None graph_formed = All-nil (IsKnown threads graph.count)
+refs_known threads graph (Some name) graph_formed = (named_formed threads graph name graph_formed).refs
 
 -- ---- graphs of which one thing is another
 
-known_either : (threads : ℕ) (count : ℕ → ℕ) (holds : Bool) (reference other_reference : Reference) → IsKnown threads count reference → IsKnown threads count other_reference → IsKnown threads count (cond holds reference other_reference)
-known_either threads count true reference other_reference known q = known
-known_either threads count false reference other_reference known q = q
+known_either : (threads : ℕ) (count : ℕ → ℕ) (holds : Bool) (reference second_reference : Reference) → IsKnown threads count reference → IsKnown threads count second_reference → IsKnown threads count (cond holds reference second_reference)
+known_either threads count true reference second_reference first_known second_known = first_known
+known_either threads count false reference second_reference first_known second_known = second_known
 
-root_formed : (threads : ℕ) (graph : Graph) (t index : ℕ) (value : Reference) → 1 ≤ t → t ≤ threads → index < 16 → IsKnown threads graph.count value → IsFormed threads graph → IsFormed threads (with_root graph t index value)
-root_formed threads graph t index value first last low known formed = record {
-  root = λ thread index. known_either threads graph.count _ value (graph.root thread index) known (formed.root thread index);
-  within = λ thread s name is. by_thread thread s name (eqb thread t) (eqb s index) refl refl is;
-  object = formed.object;
-  hub_there = formed.hub_there;
-  pin = formed.pin;
+root_formed : (threads : ℕ) (graph : Graph) (root_thread index : ℕ) (value : Reference) → 1 ≤ root_thread → root_thread ≤ threads → index < 16 → IsKnown threads graph.count value → IsFormed threads graph → IsFormed threads (with_root graph root_thread index value)
+root_formed threads graph root_thread index value from_first to_last index_below value_known graph_formed = record {
+  root = λ thread index. known_either threads graph.count _ value (graph.root thread index) value_known (graph_formed.root thread index);
+  within = λ thread some_index name holds_name. by_thread thread some_index name (eqb thread root_thread) (eqb some_index index) refl refl holds_name;
+  object = graph_formed.object;
+  hub_there = graph_formed.hub_there;
+  pin = graph_formed.pin;
 }
   where
-    by_thread : (thread s : ℕ) (name : Name) (holds other_holds : Bool) → eqb thread t ≡ holds → eqb s index ≡ other_holds → cond (holds && other_holds) value (graph.root thread s) ≡ Some name → IsRootWithin threads thread s
-    by_thread thread s name true true same_t same_r is =
-        let one : thread ≡ t = grind (arith, nat_tests) in
-        let other : s ≡ index = grind (arith, nat_tests) in
+    by_thread : (thread slot : ℕ) (name : Name) (holds index_test : Bool) → eqb thread root_thread ≡ holds → eqb slot index ≡ index_test → cond (holds && index_test) value (graph.root thread slot) ≡ Some name → IsRootWithin threads thread slot
+    by_thread thread slot name true true same_t same_r root_there =
+        let same_thread : thread ≡ root_thread = grind (arith, nat_tests) in
+        let same_slot : slot ≡ index = grind (arith, nat_tests) in
         record { from_first = omega arith; to_last = omega arith; low = omega arith }
-    by_thread thread s name true false same_t same_r is = formed.within thread s name is
-    by_thread thread s name false other_holds same_t same_r is = formed.within thread s name is
+    by_thread thread slot name true false same_t same_r root_there = graph_formed.within thread slot name root_there
+    by_thread thread slot name false index_test same_t same_r root_there = graph_formed.within thread slot name root_there
 
-object_either : (threads : ℕ) (count : ℕ → ℕ) (name other_name : Name) (holds : Bool) (object : Object) (other : Option Object) (other_object : Object) → (holds ≡ true → other_name ≡ name) → IsFormedObject threads count name object
-    → (other ≡ Some other_object → IsFormedObject threads count other_name other_object) → cond holds (Some object) other ≡ Some other_object → IsFormedObject threads count other_name other_object
-object_either threads count name other_name true object other other_object same formed_object q found = subst (IsFormedObject threads count other_name) (same_Some object other_object found) (subst (λ name. IsFormedObject threads count name object) (sym (same refl)) formed_object)
-object_either threads count name other_name false object other other_object same formed_object q found = q found
+object_either : (threads : ℕ) (count : ℕ → ℕ) (name asked_name : Name) (holds : Bool) (object : Object) (old_object : Option Object) (found_object : Object) → (holds ≡ true → asked_name ≡ name) → IsFormedObject threads count name object
+    → (old_object ≡ Some found_object → IsFormedObject threads count asked_name found_object) → cond holds (Some object) old_object ≡ Some found_object → IsFormedObject threads count asked_name found_object
+object_either threads count name asked_name true object old_object found_object same_if_new formed_object old_formed object_found = subst (IsFormedObject threads count asked_name) (same_Some object found_object object_found) (subst (λ name. IsFormedObject threads count name object) (sym (same_if_new refl)) formed_object)
+object_either threads count name asked_name false object old_object found_object same_if_new formed_object old_formed object_found = old_formed object_found
 
-there_either : (holds : Bool) (object : Object) (other : Option Object) → ((other_object : Object) × (other ≡ Some other_object)) → (other_object : Object) × (cond holds (Some object) other ≡ Some other_object)
-there_either true object other there = (object, refl)
-there_either false object other there = there
+there_either : (holds : Bool) (object : Object) (old_object : Option Object) → ((found_object : Object) × (old_object ≡ Some found_object)) → (found_object : Object) × (cond holds (Some object) old_object ≡ Some found_object)
+there_either true object old_object old_there = (object, refl)
+there_either false object old_object old_there = old_there
 
 object_formed : (threads : ℕ) (graph : Graph) (name : Name) (object : Object) → IsFormedObject threads graph.count name object → IsFormed threads graph → IsFormed threads (with_object graph name object)
-object_formed threads graph name object fits formed = record {
-  root = formed.root;
-  within = formed.within;
-  object = λ other_name p e. object_either threads graph.count name other_name (same_name other_name name) object (graph.object other_name) p (λ same. same_name-true other_name name same) fits (λ other. formed.object other_name p other) e;
-  hub_there = there_either (same_name hub name) object (graph.object hub) formed.hub_there;
-  pin = formed.pin;
+object_formed threads graph name object object_fits graph_formed = record {
+  root = graph_formed.root;
+  within = graph_formed.within;
+  object = λ asked_name found_object object_found. object_either threads graph.count name asked_name (same_name asked_name name) object (graph.object asked_name) found_object (λ same_if_new. same_name-true asked_name name same_if_new) object_fits (λ old_there. graph_formed.object asked_name found_object old_there) object_found;
+  hub_there = there_either (same_name hub name) object (graph.object hub) graph_formed.hub_there;
+  pin = graph_formed.pin;
 }
 
-held_either : (threads : ℕ) (count : ℕ → ℕ) (holds : Bool) (found other_found : Option Pinned) → IsKnown threads count (name_in found) → IsKnown threads count (name_in other_found) → IsKnown threads count (name_in (cond holds found other_found))
-held_either threads count true found other_found known q = known
-held_either threads count false found other_found known q = q
+held_either : (threads : ℕ) (count : ℕ → ℕ) (holds : Bool) (found second_found : Option Pinned) → IsKnown threads count (name_in found) → IsKnown threads count (name_in second_found) → IsKnown threads count (name_in (cond holds found second_found))
+held_either threads count true found second_found first_known second_known = first_known
+held_either threads count false found second_found first_known second_known = second_known
 
 -- a pin slot holds something else
-pin_formed : (threads : ℕ) (graph : Graph) (t slot : ℕ) (held : Option Pinned) → IsKnown threads graph.count (name_in held) → IsFormed threads graph → IsFormed threads (with_pin graph t slot held)
-pin_formed threads graph t slot held known formed = record {
-  root = formed.root;
-  within = formed.within;
-  object = formed.object;
-  hub_there = formed.hub_there;
-  pin = λ thread other_slot. held_either threads graph.count (eqb thread t && eqb other_slot slot) held (graph.pin thread other_slot) known (formed.pin thread other_slot);
+pin_formed : (threads : ℕ) (graph : Graph) (pin_thread slot : ℕ) (new_held : Option Pinned) → IsKnown threads graph.count (name_in new_held) → IsFormed threads graph → IsFormed threads (with_pin graph pin_thread slot new_held)
+pin_formed threads graph pin_thread slot new_held held_known graph_formed = record {
+  root = graph_formed.root;
+  within = graph_formed.within;
+  object = graph_formed.object;
+  hub_there = graph_formed.hub_there;
+  pin = λ thread asked_slot. held_either threads graph.count (eqb thread pin_thread && eqb asked_slot slot) new_held (graph.pin thread asked_slot) held_known (graph_formed.pin thread asked_slot);
 }
 
 -- the object that a reference names has other references, as many
 refs_formed : (threads : ℕ) (graph : Graph) (reference : Reference) (field : ℕ) (value : Reference) → IsKnown threads graph.count value → IsFormed threads graph
     → IsFormed threads (with_named graph reference (record { refs = slice_set (named graph reference).refs field value; nums = (named graph reference).nums }))
-refs_formed threads graph None field value known formed = formed
-refs_formed threads graph (Some name) field value known formed =
-    let was = named_formed threads graph name formed in
-    let many = length-set (named graph (Some name)).refs field value in
+refs_formed threads graph None field value value_known graph_formed = graph_formed
+refs_formed threads graph (Some name) field value value_known graph_formed =
+    let old_formed = named_formed threads graph name graph_formed in
+    let refs_length = length-set (named graph (Some name)).refs field value in
     object_formed threads graph name _ (record {
-      refs = All-set (IsKnown threads graph.count) (named graph (Some name)).refs field value known was.refs;
-      few_refs = omega (arith, many, was.few_refs);
-      few_nums = was.few_nums;
-      fit = was.fit;
-      hub_refs = λ is. many ∙ was.hub_refs is;
-      hub_nums = was.hub_nums;
-    }) formed
+      refs = All-set (IsKnown threads graph.count) (named graph (Some name)).refs field value value_known old_formed.refs;
+      few_refs = omega (arith, refs_length, old_formed.few_refs);
+      few_nums = old_formed.few_nums;
+      fit = old_formed.fit;
+      hub_refs = λ hub_name. refs_length ∙ old_formed.hub_refs hub_name;
+      hub_nums = old_formed.hub_nums;
+    }) graph_formed
 
 nums_formed : (threads : ℕ) (graph : Graph) (reference : Reference) (index value : ℕ) → value < 2 ^ 64 → IsFormed threads graph
     → IsFormed threads (with_named graph reference (record { refs = (named graph reference).refs; nums = slice_set (named graph reference).nums index value }))
-nums_formed threads graph None index value fits formed = formed
-nums_formed threads graph (Some name) index value fits formed =
-    let was = named_formed threads graph name formed in
-    let many = length-set (named graph (Some name)).nums index value in
+nums_formed threads graph None index value value_fits graph_formed = graph_formed
+nums_formed threads graph (Some name) index value value_fits graph_formed =
+    let old_formed = named_formed threads graph name graph_formed in
+    let nums_length = length-set (named graph (Some name)).nums index value in
     object_formed threads graph name _ (record {
-      refs = was.refs;
-      few_refs = was.few_refs;
-      few_nums = omega (arith, many, was.few_nums);
-      fit = All-set (λ x. x < 2 ^ 64) (named graph (Some name)).nums index value fits was.fit;
-      hub_refs = was.hub_refs;
-      hub_nums = λ is. many ∙ was.hub_nums is;
-    }) formed
+      refs = old_formed.refs;
+      few_refs = old_formed.few_refs;
+      few_nums = omega (arith, nums_length, old_formed.few_nums);
+      fit = All-set (λ x. x < 2 ^ 64) (named graph (Some name)).nums index value value_fits old_formed.fit;
+      hub_refs = old_formed.hub_refs;
+      hub_nums = λ hub_name. nums_length ∙ old_formed.hub_nums hub_name;
+    }) graph_formed
 
 -- a new object of a thread
-fresh_formed : (threads : ℕ) (graph : Graph) (t refs nums : ℕ) → 1 ≤ t → t ≤ threads → refs ≤ 16 → nums ≤ 16 → IsFormed threads graph → IsFormed threads (with_fresh graph t (blank refs nums))
-fresh_formed threads graph t refs nums first last few_refs few_nums formed = record {
-  root = λ thread index. more_known threads graph.count more _ up (formed.root thread index);
-  within = formed.within;
-  object = λ name object e. object_either threads more n name (same_name name n) (blank refs nums) (graph.object name) object (λ same. same_name-true name n same) blank_formed (λ other. more_formed threads graph.count more name object up (formed.object name object other)) e;
-  hub_there = there_either (same_name hub n) (blank refs nums) (graph.object hub) formed.hub_there;
-  pin = λ thread slot. more_known threads graph.count more _ up (formed.pin thread slot);
+fresh_formed : (threads : ℕ) (graph : Graph) (new_thread refs nums : ℕ) → 1 ≤ new_thread → new_thread ≤ threads → refs ≤ 16 → nums ≤ 16 → IsFormed threads graph → IsFormed threads (with_fresh graph new_thread (blank refs nums))
+fresh_formed threads graph new_thread refs nums from_first to_last few_refs few_nums graph_formed = record {
+  root = λ thread index. more_known threads graph.count more _ up (graph_formed.root thread index);
+  within = graph_formed.within;
+  object = λ name object object_found. object_either threads more n name (same_name name n) (blank refs nums) (graph.object name) object (λ names_agree. same_name-true name n names_agree) blank_formed (λ other. more_formed threads graph.count more name object up (graph_formed.object name object other)) object_found;
+  hub_there = there_either (same_name hub n) (blank refs nums) (graph.object hub) graph_formed.hub_there;
+  pin = λ thread slot. more_known threads graph.count more _ up (graph_formed.pin thread slot);
 }
   where
     n : Name
-    n = fresh graph t
+    n = fresh graph new_thread
 
     more : ℕ → ℕ
-    more = (with_fresh graph t (blank refs nums)).count
+    more = (with_fresh graph new_thread (blank refs nums)).count
 
-    either_up : (holds : Bool) (x : ℕ) → x ≤ cond holds (x + 1) x
-    either_up true x = omega arith
-    either_up false x = omega arith
+    either_up : (holds : Bool) (old_count : ℕ) → old_count ≤ cond holds (old_count + 1) old_count
+    either_up true old_count = omega arith
+    either_up false old_count = omega arith
 
     up : (thread : ℕ) → graph.count thread ≤ more thread
-    up thread = either_up (eqb thread t) (graph.count thread)
+    up thread = either_up (eqb thread new_thread) (graph.count thread)
 
     other : n ≡ hub → ⊥
-    other is = absurd (omega (arith, first, ap (λ (name : Name). name.thread) is))
+    other new_is_hub = absurd (omega (arith, from_first, ap (λ (name : Name). name.thread) new_is_hub))
 
     blank_formed : IsFormedObject threads more n (blank refs nums)
     blank_formed = record {
@@ -221,86 +221,86 @@ fresh_formed threads graph t refs nums first last few_refs few_nums formed = rec
       few_refs = let null : Reference = None in omega (arith, few_refs, length-replicate refs null);
       few_nums = omega (arith, few_nums, length-replicate {A = ℕ} nums 0);
       fit = All-replicate (λ x. x < 2 ^ 64) nums 0 (omega arith);
-      hub_refs = λ is. absurd (other is);
-      hub_nums = λ is. absurd (other is);
+      hub_refs = λ new_is_hub. absurd (other new_is_hub);
+      hub_nums = λ new_is_hub. absurd (other new_is_hub);
     }
 
 -- its name is known then
 fresh_known : (threads : ℕ) (graph : Graph) (thread refs nums : ℕ) → 1 ≤ thread → thread ≤ threads → IsKnown threads (with_fresh graph thread (blank refs nums)).count (Some (fresh graph thread))
-fresh_known threads graph thread refs nums first last = inr (record { from_first = first; to_last = last; from_one = omega arith; to_count = counted (eqb thread thread) refl })
+fresh_known threads graph thread refs nums from_first to_last = inr (record { from_first = from_first; to_last = to_last; from_one = omega arith; to_count = counted (eqb thread thread) refl })
   where
     counted : (holds : Bool) → eqb thread thread ≡ holds → graph.count thread + 1 ≤ cond holds (graph.count thread + 1) (graph.count thread)
-    counted true same = omega arith
-    counted false same = absurd (grind (arith, nat_tests))
+    counted true thread_test = omega arith
+    counted false thread_test = absurd (grind (arith, nat_tests))
 
 -- ---- outcomes
 
-on_formed : {A : Type 0} (threads : ℕ) (found : Option A) (graph : Graph) (f : A → Outcome) → IsFormed threads graph → ((v : A) → found ≡ Some v → IsFormed threads (f v).graph) → IsFormed threads (on found graph f).graph
-on_formed threads None graph f formed each = formed
-on_formed threads (Some v) graph f formed each = each v refl
+on_formed : {A : Type 0} (threads : ℕ) (found : Option A) (graph : Graph) (outcome_of : A → Outcome) → IsFormed threads graph → ((value : A) → found ≡ Some value → IsFormed threads (outcome_of value).graph) → IsFormed threads (on found graph outcome_of).graph
+on_formed threads None graph outcome_of graph_formed each_formed = graph_formed
+on_formed threads (Some value) graph outcome_of graph_formed each_formed = each_formed value refl
 
-either_formed : (threads : ℕ) (holds : Bool) (x y : Outcome) → IsFormed threads x.graph → IsFormed threads y.graph → IsFormed threads (cond holds x y).graph
-either_formed threads true x y formed q = formed
-either_formed threads false x y formed q = q
+either_formed : (threads : ℕ) (holds : Bool) (first_outcome second_outcome : Outcome) → IsFormed threads first_outcome.graph → IsFormed threads second_outcome.graph → IsFormed threads (cond holds first_outcome second_outcome).graph
+either_formed threads true first_outcome second_outcome first_formed second_formed = first_formed
+either_formed threads false first_outcome second_outcome first_formed second_formed = second_formed
 
 -- the counts of a graph are those that it has with another object
 with_named-count : (graph : Graph) (reference : Reference) (object : Object) → (with_named graph reference object).count ≡ graph.count
 with_named-count graph None object = refl
-with_named-count graph (Some n) object = refl
+with_named-count graph (Some name) object = refl
 
 outcome_formed : (threads : ℕ) (graph : Graph) (thread : ℕ) (command : Command) → 1 ≤ thread → thread ≤ threads → IsValid command → FitsValue command → IsFormed threads graph → IsFormed threads (outcome graph thread command).graph
-outcome_formed threads graph thread (New dst refs nums) first last valid fits formed =
-    root_formed threads (with_fresh graph thread (blank refs nums)) thread dst (Some (fresh graph thread)) first last valid.0 (fresh_known threads graph thread refs nums first last) (fresh_formed threads graph thread refs nums first last valid.1 valid.2 formed)
-outcome_formed threads graph thread (Get dst src field) first last valid fits formed =
-    on_formed threads (field_at graph thread src field) graph _ formed (λ v there.
-    root_formed threads graph thread dst v first last valid.0 (element_of_all (IsKnown threads graph.count) (named graph (graph.root thread src)).refs field v (refs_known threads graph (graph.root thread src) formed) there) formed)
-outcome_formed threads graph thread (Set obj field val) first last valid fits formed =
-    on_formed threads (field_at graph thread obj field) graph _ formed (λ v there. refs_formed threads graph (graph.root thread obj) field (graph.root thread val) (formed.root thread val) formed)
-outcome_formed threads graph thread (Cas obj field expect val) first last valid fits formed =
-    on_formed threads (field_at graph thread obj field) graph _ formed (λ v there.
-    either_formed threads (same_reference v (graph.root thread expect)) _ _ (refs_formed threads graph (graph.root thread obj) field (graph.root thread val) (formed.root thread val) formed) formed)
-outcome_formed threads graph thread (Xchg dst obj field val) first last valid fits formed =
-    on_formed threads (field_at graph thread obj field) graph _ formed (λ v there.
-    let was = element_of_all (IsKnown threads graph.count) (named graph (graph.root thread obj)).refs field v (refs_known threads graph (graph.root thread obj) formed) there in
+outcome_formed threads graph thread (New dst refs nums) from_first to_last command_valid fits graph_formed =
+    root_formed threads (with_fresh graph thread (blank refs nums)) thread dst (Some (fresh graph thread)) from_first to_last command_valid.0 (fresh_known threads graph thread refs nums from_first to_last) (fresh_formed threads graph thread refs nums from_first to_last command_valid.1 command_valid.2 graph_formed)
+outcome_formed threads graph thread (Get dst src field) from_first to_last command_valid fits graph_formed =
+    on_formed threads (field_at graph thread src field) graph _ graph_formed (λ found_value value_there.
+    root_formed threads graph thread dst found_value from_first to_last command_valid.0 (element_of_all (IsKnown threads graph.count) (named graph (graph.root thread src)).refs field found_value (refs_known threads graph (graph.root thread src) graph_formed) value_there) graph_formed)
+outcome_formed threads graph thread (Set obj field val) from_first to_last command_valid fits graph_formed =
+    on_formed threads (field_at graph thread obj field) graph _ graph_formed (λ found_value value_there. refs_formed threads graph (graph.root thread obj) field (graph.root thread val) (graph_formed.root thread val) graph_formed)
+outcome_formed threads graph thread (Cas obj field expect val) from_first to_last command_valid fits graph_formed =
+    on_formed threads (field_at graph thread obj field) graph _ graph_formed (λ found_value value_there.
+    either_formed threads (same_reference found_value (graph.root thread expect)) _ _ (refs_formed threads graph (graph.root thread obj) field (graph.root thread val) (graph_formed.root thread val) graph_formed) graph_formed)
+outcome_formed threads graph thread (Xchg dst obj field val) from_first to_last command_valid fits graph_formed =
+    on_formed threads (field_at graph thread obj field) graph _ graph_formed (λ found_value value_there.
+    let old_known = element_of_all (IsKnown threads graph.count) (named graph (graph.root thread obj)).refs field found_value (refs_known threads graph (graph.root thread obj) graph_formed) value_there in
     let swapped = with_field graph thread obj field (graph.root thread val) in
-    root_formed threads swapped thread dst v first last valid.0
-    (subst (λ count. IsKnown threads count v) (sym (with_named-count graph (graph.root thread obj) _)) was)
-    (refs_formed threads graph (graph.root thread obj) field (graph.root thread val) (formed.root thread val) formed))
-outcome_formed threads graph thread (Rd obj index) first last valid fits formed = on_formed threads (number_at graph thread obj index) graph _ formed (λ v there. formed)
-outcome_formed threads graph thread (Wr obj index value) first last valid fits formed =
-    on_formed threads (number_at graph thread obj index) graph _ formed (λ v there. nums_formed threads graph (graph.root thread obj) index value fits formed)
-outcome_formed threads graph thread (Copy dst src) first last valid fits formed = root_formed threads graph thread dst (graph.root thread src) first last valid.0 (formed.root thread src) formed
-outcome_formed threads graph thread (Drop dst) first last valid fits formed = root_formed threads graph thread dst None first last valid tt formed
-outcome_formed threads graph thread (Same a b) first last valid fits formed = formed
-outcome_formed threads graph thread Gc first last valid fits formed = formed
-outcome_formed threads graph thread (Pin slot obj) first last valid fits formed = formed
-outcome_formed threads graph thread (Unpin slot) first last valid fits formed = on_formed threads (graph.pin thread slot) graph _ formed (λ v there. pin_formed threads graph thread slot None tt formed)
+    root_formed threads swapped thread dst found_value from_first to_last command_valid.0
+    (subst (λ count. IsKnown threads count found_value) (sym (with_named-count graph (graph.root thread obj) _)) old_known)
+    (refs_formed threads graph (graph.root thread obj) field (graph.root thread val) (graph_formed.root thread val) graph_formed))
+outcome_formed threads graph thread (Rd obj index) from_first to_last command_valid fits graph_formed = on_formed threads (number_at graph thread obj index) graph _ graph_formed (λ found_value value_there. graph_formed)
+outcome_formed threads graph thread (Wr obj index value) from_first to_last command_valid fits graph_formed =
+    on_formed threads (number_at graph thread obj index) graph _ graph_formed (λ found_value value_there. nums_formed threads graph (graph.root thread obj) index value fits graph_formed)
+outcome_formed threads graph thread (Copy dst src) from_first to_last command_valid fits graph_formed = root_formed threads graph thread dst (graph.root thread src) from_first to_last command_valid.0 (graph_formed.root thread src) graph_formed
+outcome_formed threads graph thread (Drop dst) from_first to_last command_valid fits graph_formed = root_formed threads graph thread dst None from_first to_last command_valid tt graph_formed
+outcome_formed threads graph thread (Same first_root second_root) from_first to_last command_valid fits graph_formed = graph_formed
+outcome_formed threads graph thread Gc from_first to_last command_valid fits graph_formed = graph_formed
+outcome_formed threads graph thread (Pin slot obj) from_first to_last command_valid fits graph_formed = graph_formed
+outcome_formed threads graph thread (Unpin slot) from_first to_last command_valid fits graph_formed = on_formed threads (graph.pin thread slot) graph _ graph_formed (λ found_value value_there. pin_formed threads graph thread slot None tt graph_formed)
 
 -- what a command pins is known
 pinned_known : (threads : ℕ) (graph : Graph) (thread : ℕ) (command : Command) → IsFormed threads graph → IsKnown threads graph.count (pinned_by graph thread command)
-pinned_known threads graph thread (New dst refs nums) formed = tt
-pinned_known threads graph thread (Get dst src field) formed = tt
-pinned_known threads graph thread (Set obj field val) formed = tt
-pinned_known threads graph thread (Cas obj field expect val) formed = tt
-pinned_known threads graph thread (Xchg dst obj field val) formed = tt
-pinned_known threads graph thread (Rd obj index) formed = tt
-pinned_known threads graph thread (Wr obj index value) formed = tt
-pinned_known threads graph thread (Copy dst src) formed = tt
-pinned_known threads graph thread (Drop dst) formed = tt
-pinned_known threads graph thread (Same a b) formed = tt
-pinned_known threads graph thread Gc formed = tt
-pinned_known threads graph thread (Pin slot obj) formed = known_either threads graph.count (is_some (graph.pin thread slot)) None (graph.root thread obj) tt (formed.root thread obj)
-pinned_known threads graph thread (Unpin slot) formed = tt
+pinned_known threads graph thread (New dst refs nums) graph_formed = tt
+pinned_known threads graph thread (Get dst src field) graph_formed = tt
+pinned_known threads graph thread (Set obj field val) graph_formed = tt
+pinned_known threads graph thread (Cas obj field expect val) graph_formed = tt
+pinned_known threads graph thread (Xchg dst obj field val) graph_formed = tt
+pinned_known threads graph thread (Rd obj index) graph_formed = tt
+pinned_known threads graph thread (Wr obj index value) graph_formed = tt
+pinned_known threads graph thread (Copy dst src) graph_formed = tt
+pinned_known threads graph thread (Drop dst) graph_formed = tt
+pinned_known threads graph thread (Same first_root second_root) graph_formed = tt
+pinned_known threads graph thread Gc graph_formed = tt
+pinned_known threads graph thread (Pin slot obj) graph_formed = known_either threads graph.count (is_some (graph.pin thread slot)) None (graph.root thread obj) tt (graph_formed.root thread obj)
+pinned_known threads graph thread (Unpin slot) graph_formed = tt
 
 -- ---- histories
 
 pub opening_formed : (threads : ℕ) → IsFormed threads (opening threads)
 opening_formed threads = record {
-  root = λ t r. known_either threads (λ _. 0) _ (Some hub) None (inl refl) tt;
-  within = λ t r n is. grind (arith, nat_tests);
-  object = λ name o e. object_either threads (λ _. 0) hub name (same_name name hub) (blank 16 0) None o (λ same. same_name-true name hub same) hub_formed (λ none. absurd cc) e;
+  root = λ thread root. known_either threads (λ _. 0) _ (Some hub) None (inl refl) tt;
+  within = λ thread root root_name root_there. grind (arith, nat_tests);
+  object = λ name object object_found. object_either threads (λ _. 0) hub name (same_name name hub) (blank 16 0) None object (λ same_names. same_name-true name hub same_names) hub_formed (λ no_object. absurd cc) object_found;
   hub_there = (blank 16 0, refl);
-  pin = λ t s. tt;
+  pin = λ thread slot. tt;
 }
   where
     hub_formed : IsFormedObject threads (λ _. 0) hub (blank 16 0)
@@ -309,20 +309,20 @@ opening_formed threads = record {
       few_refs = omega arith;
       few_nums = omega arith;
       fit = All-nil (λ x. x < 2 ^ 64);
-      hub_refs = λ is. refl;
-      hub_nums = λ is. refl;
+      hub_refs = λ hub_name. refl;
+      hub_nums = λ hub_name. refl;
     }
 
-entry_formed : (threads regions region_words : ℕ) (graph : Graph) (entry : Entry) (other_graph : Graph) → IsEntryInRange threads entry → IsLegal regions region_words graph entry.thread entry.command entry.reply other_graph → IsFormed threads graph → IsFormed threads other_graph
-entry_formed threads regions region_words graph entry other_graph range (inl told) formed =
-    subst (IsFormed threads) (sym (ap (λ (o : Outcome). o.graph) told.1)) (outcome_formed threads graph entry.thread entry.command range.from_first range.to_last range.valid range.fits formed)
-entry_formed threads regions region_words graph entry other_graph range (inr (inl full)) formed = subst (IsFormed threads) (sym full.2) formed
-entry_formed threads regions region_words graph entry other_graph range (inr (inr pinning)) formed =
-    let known = subst (IsKnown threads graph.count) pinning.pins (pinned_known threads graph entry.thread entry.command formed) in
-    subst (IsFormed threads) (sym pinning.graph) (pin_formed threads graph entry.thread (slot_of entry.command) (Some (record { name = pinning.name; place = pinning.place })) known formed)
+entry_formed : (threads regions region_words : ℕ) (graph : Graph) (entry : Entry) (graph_after : Graph) → IsEntryInRange threads entry → IsLegal regions region_words graph entry.thread entry.command entry.reply graph_after → IsFormed threads graph → IsFormed threads graph_after
+entry_formed threads regions region_words graph entry graph_after range (inl told_reply) graph_formed =
+    subst (IsFormed threads) (sym (ap (λ (some_outcome : Outcome). some_outcome.graph) told_reply.1)) (outcome_formed threads graph entry.thread entry.command range.from_first range.to_last range.valid range.fits graph_formed)
+entry_formed threads regions region_words graph entry graph_after range (inr (inl heap_full)) graph_formed = subst (IsFormed threads) (sym heap_full.2) graph_formed
+entry_formed threads regions region_words graph entry graph_after range (inr (inr pinning)) graph_formed =
+    let pinned_name_known = subst (IsKnown threads graph.count) pinning.pins (pinned_known threads graph entry.thread entry.command graph_formed) in
+    subst (IsFormed threads) (sym pinning.graph) (pin_formed threads graph entry.thread (slot_of entry.command) (Some (record { name = pinning.name; place = pinning.place })) pinned_name_known graph_formed)
 
 pub history_formed : (threads regions region_words : ℕ) (graph : Graph) (entries : List Entry) → EachIsLegal regions region_words graph entries → All (IsEntryInRange threads) entries → IsFormed threads graph → IsFormed threads (after graph entries)
-history_formed threads regions region_words graph [] legal range formed = formed
-history_formed threads regions region_words graph (entry ∷ entries) legal range formed =
+history_formed threads regions region_words graph [] legal range graph_formed = graph_formed
+history_formed threads regions region_words graph (entry ∷ entries) legal range graph_formed =
     history_formed threads regions region_words (after_entry graph entry) entries legal.1 (All-tail (IsEntryInRange threads) entry entries range)
-    (entry_formed threads regions region_words graph entry (after_entry graph entry) (All-head (IsEntryInRange threads) entry entries range) legal.0 formed)
+    (entry_formed threads regions region_words graph entry (after_entry graph entry) (All-head (IsEntryInRange threads) entry entries range) legal.0 graph_formed)

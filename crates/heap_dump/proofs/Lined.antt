@@ -34,42 +34,42 @@ pub stroke_word : IsWord (codes "/")
 stroke_word = record { no_space = refl; no_end = refl }
 
 dotted_word : (xs ys : List ℕ) → IsWord xs → IsWord ys → IsWord (xs ++ codes "." ++ ys)
-dotted_word xs ys word other = record {
-  no_space = free_both 32 (xs ++ codes ".") ys (free_both 32 xs (codes ".") word.no_space refl) other.no_space;
-  no_end = free_both 10 (xs ++ codes ".") ys (free_both 10 xs (codes ".") word.no_end refl) other.no_end;
+dotted_word xs ys word second_word = record {
+  no_space = free_both 32 (xs ++ codes ".") ys (free_both 32 xs (codes ".") word.no_space refl) second_word.no_space;
+  no_end = free_both 10 (xs ++ codes ".") ys (free_both 10 xs (codes ".") word.no_end refl) second_word.no_end;
 }
 
 pub name_is_word : (name : Name) → name.thread < 2 ^ 64 → name.count < 2 ^ 64 → IsWord (name_word name)
-name_is_word name thread count = dotted_word (decimal name.thread) (decimal name.count) (decimal_word name.thread thread) (decimal_word name.count count)
+name_is_word name thread_small count = dotted_word (decimal name.thread) (decimal name.count) (decimal_word name.thread thread_small) (decimal_word name.count count)
 
-dump_reference_word : (w : List ℕ) (reference : Reference) → IsDumpReference w reference → IsWord w
-dump_reference_word w None dump_reference = subst IsWord (sym dump_reference) dash_word
-dump_reference_word w (Some n) dump_reference =
-    let first : IsWord dump_reference.0 = record { no_space = free_digits 32 dump_reference.0 (omega arith) (number_digits dump_reference.0 dump_reference.2); no_end = free_digits 10 dump_reference.0 (omega arith) (number_digits dump_reference.0 dump_reference.2) } in
-    let second : IsWord dump_reference.1 = record { no_space = free_digits 32 dump_reference.1 (omega arith) (number_digits dump_reference.1 dump_reference.3); no_end = free_digits 10 dump_reference.1 (omega arith) (number_digits dump_reference.1 dump_reference.3) } in
-    subst IsWord (sym dump_reference.4) (dotted_word dump_reference.0 dump_reference.1 first second)
+dump_reference_word : (word : List ℕ) (reference : Reference) → IsDumpReference word reference → IsWord word
+dump_reference_word word None dump_reference = subst IsWord (sym dump_reference) dash_word
+dump_reference_word word (Some name) dump_reference =
+    let name_is_word : IsWord dump_reference.0 = record { no_space = free_digits 32 dump_reference.0 (omega arith) (number_digits dump_reference.0 dump_reference.2); no_end = free_digits 10 dump_reference.0 (omega arith) (number_digits dump_reference.0 dump_reference.2) } in
+    let second_word : IsWord dump_reference.1 = record { no_space = free_digits 32 dump_reference.1 (omega arith) (number_digits dump_reference.1 dump_reference.3); no_end = free_digits 10 dump_reference.1 (omega arith) (number_digits dump_reference.1 dump_reference.3) } in
+    subst IsWord (sym dump_reference.4) (dotted_word dump_reference.0 dump_reference.1 name_is_word second_word)
 
-pub references_are_words : (ws : List (List ℕ)) (references : List Reference) → AreReferences ws references → AllByRecursion IsWord ws
+pub references_are_words : (words : List (List ℕ)) (references : List Reference) → AreReferences words references → AllByRecursion IsWord words
 references_are_words [] [] references = tt
-references_are_words [] (reference ∷ other_references) references = absurd references
-references_are_words (w ∷ ws) [] references = absurd references
-references_are_words (w ∷ ws) (reference ∷ other_references) references = (dump_reference_word w reference references.0, references_are_words ws other_references references.1)
+references_are_words [] (reference ∷ later_references) references = absurd references
+references_are_words (word ∷ words) [] references = absurd references
+references_are_words (word ∷ words) (reference ∷ later_references) references = (dump_reference_word word reference references.0, references_are_words words later_references references.1)
 
 pub words_both : (xs ys : List (List ℕ)) → AllByRecursion IsWord xs → AllByRecursion IsWord ys → AllByRecursion IsWord (xs ++ ys)
-words_both [] ys all b = b
-words_both (x ∷ xs) ys all b = (all.0, words_both xs ys all.1 b)
+words_both [] ys left_words right_words = right_words
+words_both (x ∷ xs) ys left_words right_words = (left_words.0, words_both xs ys left_words.1 right_words)
 
-pub numbers_are_words : (ns : List ℕ) → All (λ n. n < 2 ^ 64) ns → AllByRecursion IsWord (map decimal ns)
-numbers_are_words [] h = tt
-numbers_are_words (n ∷ ns) h = (decimal_word n (All-head (λ n. n < 2 ^ 64) n ns h), numbers_are_words ns (All-tail (λ n. n < 2 ^ 64) n ns h))
+pub numbers_are_words : (given_numbers : List ℕ) → All (λ number. number < 2 ^ 64) given_numbers → AllByRecursion IsWord (map decimal given_numbers)
+numbers_are_words [] all_small = tt
+numbers_are_words (number ∷ given_numbers) all_small = (decimal_word number (All-head (λ number. number < 2 ^ 64) number given_numbers all_small), numbers_are_words given_numbers (All-tail (λ number. number < 2 ^ 64) number given_numbers all_small))
 
 -- ---- the words of a line that is spelled so, and back
 
-pub line_words : (text xs : List ℕ) (ws : List (List ℕ)) → AllByRecursion IsWord (xs ∷ ws) → Spells text (line_of (xs ∷ ws)) → parts 32 text ≡ xs ∷ ws
-line_words text xs ws all spells = ap (parts 32) (same_before_end text (join_with_byte 32 (xs ∷ ws)) newline spells) ∙ parts_again xs ws all
+pub line_words : (text word : List ℕ) (later_words : List (List ℕ)) → AllByRecursion IsWord (word ∷ later_words) → Spells text (line_of (word ∷ later_words)) → parts 32 text ≡ word ∷ later_words
+line_words text word later_words all_words spells = ap (parts 32) (same_before_end text (join_with_byte 32 (word ∷ later_words)) newline spells) ∙ parts_again word later_words all_words
 
-pub words_line : (text : List ℕ) (ws : List (List ℕ)) → parts 32 text ≡ ws → Spells text (line_of ws)
-words_line text ws same = ap (λ (t : List ℕ). t ++ newline ∷ []) (joined text ws same)
+pub words_line : (text : List ℕ) (words : List (List ℕ)) → parts 32 text ≡ words → Spells text (line_of words)
+words_line text words same_words = ap (λ (line : List ℕ). line ++ newline ∷ []) (joined text words same_words)
 
 pub object_title : IsWord (codes "object")
 object_title = record { no_space = refl; no_end = refl }
@@ -80,42 +80,42 @@ roots_title = record { no_space = refl; no_end = refl }
 pub trace_title : IsWord (codes "trace")
 trace_title = record { no_space = refl; no_end = refl }
 
-pub object_words : (text : List ℕ) (row : Row) (ws : List (List ℕ)) → row.name.thread < 2 ^ 64 → row.name.count < 2 ^ 64 → AreReferences ws row.refs → All (λ n. n < 2 ^ 64) row.nums
-    → Spells text (line_of (codes "object" ∷ name_word row.name ∷ (ws ++ codes "/" ∷ map decimal row.nums))) → parts 32 text ≡ codes "object" ∷ name_word row.name ∷ (ws ++ codes "/" ∷ map decimal row.nums)
-object_words text row ws thread count are fit spells =
-    line_words text (codes "object") (name_word row.name ∷ (ws ++ codes "/" ∷ map decimal row.nums))
-    (object_title, (name_is_word row.name thread count, words_both ws (codes "/" ∷ map decimal row.nums) (references_are_words ws row.refs are) (stroke_word, numbers_are_words row.nums fit))) spells
+pub object_words : (text : List ℕ) (row : Row) (words : List (List ℕ)) → row.name.thread < 2 ^ 64 → row.name.count < 2 ^ 64 → AreReferences words row.refs → All (λ number. number < 2 ^ 64) row.nums
+    → Spells text (line_of (codes "object" ∷ name_word row.name ∷ (words ++ codes "/" ∷ map decimal row.nums))) → parts 32 text ≡ codes "object" ∷ name_word row.name ∷ (words ++ codes "/" ∷ map decimal row.nums)
+object_words text row words thread_small count spelled nums_fit spells =
+    line_words text (codes "object") (name_word row.name ∷ (words ++ codes "/" ∷ map decimal row.nums))
+    (object_title, (name_is_word row.name thread_small count, words_both words (codes "/" ∷ map decimal row.nums) (references_are_words words row.refs spelled) (stroke_word, numbers_are_words row.nums nums_fit))) spells
 
-pub roots_words : (text : List ℕ) (thread : ℕ) (roots : List Reference) (ws : List (List ℕ)) → thread < 2 ^ 64 → AreReferences ws roots → Spells text (line_of (codes "roots" ∷ decimal thread ∷ ws)) → parts 32 text ≡ codes "roots" ∷ decimal thread ∷ ws
-roots_words text thread roots ws low are spells = line_words text (codes "roots") (decimal thread ∷ ws) (roots_title, (decimal_word thread low, references_are_words ws roots are)) spells
+pub roots_words : (text : List ℕ) (thread : ℕ) (roots : List Reference) (words : List (List ℕ)) → thread < 2 ^ 64 → AreReferences words roots → Spells text (line_of (codes "roots" ∷ decimal thread ∷ words)) → parts 32 text ≡ codes "roots" ∷ decimal thread ∷ words
+roots_words text thread roots words thread_small spelled spells = line_words text (codes "roots") (decimal thread ∷ words) (roots_title, (decimal_word thread thread_small, references_are_words words roots spelled)) spells
 
 pub mark_words : (text : List ℕ) → Spells text (line_of (codes "trace" ∷ [])) → parts 32 text ≡ codes "trace" ∷ []
 mark_words text spells = line_words text (codes "trace") [] (trace_title, tt) spells
 
-pub object_is_no_roots : (words ws : List (List ℕ)) → codes "object" ∷ words ≡ codes "roots" ∷ ws → ⊥
-object_is_no_roots words ws same = let first = (cons_injective 111 114 _ _ (cons_injective (codes "object") (codes "roots") words ws same).0).0 in omega (arith, first)
+pub object_is_no_roots : (words later_words : List (List ℕ)) → codes "object" ∷ words ≡ codes "roots" ∷ later_words → ⊥
+object_is_no_roots words later_words same_words = let same_letter = (cons_injective 111 114 _ _ (cons_injective (codes "object") (codes "roots") words later_words same_words).0).0 in omega (arith, same_letter)
 
-pub object_is_no_mark : (words ws : List (List ℕ)) → codes "object" ∷ words ≡ codes "trace" ∷ ws → ⊥
-object_is_no_mark words ws same = let first = (cons_injective 111 116 _ _ (cons_injective (codes "object") (codes "trace") words ws same).0).0 in omega (arith, first)
+pub object_is_no_mark : (words later_words : List (List ℕ)) → codes "object" ∷ words ≡ codes "trace" ∷ later_words → ⊥
+object_is_no_mark words later_words same_words = let same_letter = (cons_injective 111 116 _ _ (cons_injective (codes "object") (codes "trace") words later_words same_words).0).0 in omega (arith, same_letter)
 
-pub roots_is_no_mark : (words ws : List (List ℕ)) → codes "roots" ∷ words ≡ codes "trace" ∷ ws → ⊥
-roots_is_no_mark words ws same = let first = (cons_injective 114 116 _ _ (cons_injective (codes "roots") (codes "trace") words ws same).0).0 in omega (arith, first)
+pub roots_is_no_mark : (words later_words : List (List ℕ)) → codes "roots" ∷ words ≡ codes "trace" ∷ later_words → ⊥
+roots_is_no_mark words later_words same_words = let same_letter = (cons_injective 114 116 _ _ (cons_injective (codes "roots") (codes "trace") words later_words same_words).0).0 in omega (arith, same_letter)
 
 -- ---- the order of names
 
 pub names_held : (rows : List Row) → map (λ (row : Row). row.name) (map held_row rows) ≡ map (λ (row : Row). row.name) rows
 names_held [] = refl
-names_held (row ∷ rows) = ap (λ (ns : List Name). row.name ∷ ns) (names_held rows)
+names_held (row ∷ rows) = ap (λ (listed_names : List Name). row.name ∷ listed_names) (names_held rows)
 
 pub order_more : (names : List Name) (name : Name) → InOrder names → IsBehindLast names name → InOrder (names ++ name ∷ [])
-order_more [] name order behind = tt
-order_more (other_name ∷ []) name order behind = (behind, tt)
-order_more (m ∷ k ∷ ns) name order behind = (order.0, order_more (k ∷ ns) name order.1 behind)
+order_more [] name order name_behind = tt
+order_more (last_name ∷ []) name order name_behind = (name_behind, tt)
+order_more (first_name ∷ next_name ∷ later_names) name order name_behind = (order.0, order_more (next_name ∷ later_names) name order.1 name_behind)
 
 pub order_behind : (names : List Name) (name : Name) → InOrder (names ++ name ∷ []) → IsBehindLast names name
 order_behind [] name order = tt
-order_behind (other_name ∷ []) name order = order.0
-order_behind (m ∷ k ∷ ns) name order = order_behind (k ∷ ns) name order.1
+order_behind (last_name ∷ []) name order = order.0
+order_behind (first_name ∷ next_name ∷ later_names) name order = order_behind (next_name ∷ later_names) name order.1
 
 pub names_more : (rows : List Row) (row : Row) → map (λ (row : Row). row.name) (rows ++ row ∷ []) ≡ map (λ (row : Row). row.name) rows ++ row.name ∷ []
 names_more rows row = map-append (λ (row : Row). row.name) rows (row ∷ [])
@@ -123,27 +123,27 @@ names_more rows row = map-append (λ (row : Row). row.name) rows (row ∷ [])
 -- ---- room
 
 abbrev is_separator : ℕ → ℕ
-is_separator b = cond ((b == 32) || (b == 10)) 1 0
+is_separator byte = cond ((byte == 32) || (byte == 10)) 1 0
 
-more_separators : (b : ℕ) (text : List ℕ) → separators (b ∷ text) ≡ is_separator b + separators text
-more_separators b text = sum_by-cons is_separator b text
+more_separators : (byte : ℕ) (text : List ℕ) → separators (byte ∷ text) ≡ is_separator byte + separators text
+more_separators byte text = sum_by-cons is_separator byte text
 
-cut_room : (b : ℕ) (text : List ℕ) (first : List ℕ) (rest : List (List ℕ)) → parts 32 text ≡ first ∷ rest → length (parts 32 text) ≤ separators text + 1 → (holds : Bool) → (b == 32) ≡ holds
-    → length (cond holds ([] ∷ parts 32 text) (onto_first b (parts 32 text))) ≤ is_separator b + separators text + 1
-cut_room b text first rest cut less true e = rw e (omega (arith, less))
-cut_room b text first rest cut less false e =
-    let sizes = ap (λ (ws : List (List ℕ)). length (onto_first b ws)) cut in
-    let whole = ap length cut in
-    omega (arith, less, sizes, whole)
+cut_room : (byte : ℕ) (text : List ℕ) (first : List ℕ) (rest : List (List ℕ)) → parts 32 text ≡ first ∷ rest → length (parts 32 text) ≤ separators text + 1 → (holds : Bool) → (byte == 32) ≡ holds
+    → length (cond holds ([] ∷ parts 32 text) (onto_first byte (parts 32 text))) ≤ is_separator byte + separators text + 1
+cut_room byte text first rest cut fewer_parts true tested = rw tested (omega (arith, fewer_parts))
+cut_room byte text first rest cut fewer_parts false tested =
+    let sizes = ap (λ (cut_words : List (List ℕ)). length (onto_first byte cut_words)) cut in
+    let cut_length = ap length cut in
+    omega (arith, fewer_parts, sizes, cut_length)
 
 pub parts_room : (text : List ℕ) → length (parts 32 text) ≤ separators text + 1
 parts_room [] = omega arith
-parts_room (b ∷ text) =
-    let here = cut_room b text (take (count_before 32 text) text) (parts_behind 32 (drop (count_before 32 text) text)) (cut_parts 32 text) (parts_room text) (b == 32) refl in
-    omega (arith, here, more_separators b text)
+parts_room (byte ∷ text) =
+    let room_here = cut_room byte text (take (count_before 32 text) text) (parts_behind 32 (drop (count_before 32 text) text)) (cut_parts 32 text) (parts_room text) (byte == 32) refl in
+    omega (arith, room_here, more_separators byte text)
 
-pub separators_line : (text behind : List ℕ) → separators (text ++ 10 ∷ behind) ≡ separators text + 1 + separators behind
-separators_line text behind =
-    let whole = sum_by-append is_separator text (10 ∷ behind) in
-    let last = more_separators 10 behind in
-    omega (arith, whole, last)
+pub separators_line : (text later_bytes : List ℕ) → separators (text ++ 10 ∷ later_bytes) ≡ separators text + 1 + separators later_bytes
+separators_line text later_bytes =
+    let all_separators = sum_by-append is_separator text (10 ∷ later_bytes) in
+    let last_separators = more_separators 10 later_bytes in
+    omega (arith, all_separators, last_separators)

@@ -11,14 +11,14 @@ by_order : (a b : ℕ) → ((a ≤ b → ⊥) → ⊥) → a ≤ b
 by_order a b never = by_case (cases_lt b a)
   where
     by_case : (b < a) ⊎ (a ≤ b) → a ≤ b
-    by_case (inl less) = absurd (never (λ h. absurd (omega (arith, less, h))))
-    by_case (inr fits) = fits
+    by_case (inl less) = absurd (never (λ not_below. absurd (omega (arith, less, not_below))))
+    by_case (inr a_fits) = a_fits
 
-pub answered_fits : (r : Result Continued NoMemory) (a b : ℕ) → ((a ≤ b → ⊥) → r ≡ Ok TooSmall) → IfOk r (λ resumed. IfAnswered resumed (λ answer. a ≤ b))
-answered_fits (Err e) a b small = tt
-answered_fits (Ok (Answered answer)) a b small = by_order a b (λ h. let e = small h in absurd cc)
-answered_fits (Ok Unfinished) a b small = tt
-answered_fits (Ok TooSmall) a b small = tt
+pub answered_fits : (result : Result Continued NoMemory) (a b : ℕ) → ((a ≤ b → ⊥) → result ≡ Ok TooSmall) → IfOk result (λ resumed. IfAnswered resumed (λ answer. a ≤ b))
+answered_fits (Err refused) a b small_result = tt
+answered_fits (Ok (Answered answer)) a b small_result = by_order a b (λ in_order. let refused = small_result in_order in absurd cc)
+answered_fits (Ok Unfinished) a b small_result = tt
+answered_fits (Ok TooSmall) a b small_result = tt
 
-pub unfinished_fits : (r : Result Continued NoMemory) (a b : ℕ) → ((a ≤ b → ⊥) → r ≡ Ok TooSmall) → r ≡ Ok Unfinished → a ≤ b
-unfinished_fits r a b small is = by_order a b (λ h. let e = small h in absurd cc)
+pub unfinished_fits : (result : Result Continued NoMemory) (a b : ℕ) → ((a ≤ b → ⊥) → result ≡ Ok TooSmall) → result ≡ Ok Unfinished → a ≤ b
+unfinished_fits result a b small_result is_unfinished = by_order a b (λ in_order. let refused = small_result in_order in absurd cc)

@@ -33,11 +33,11 @@ body_leads : (dump : Dumped) (lines : List TraceLine) (turns : List (List Item))
     → Leads (Behind (Commands run_version dump.config)) (flat_map line lines ++ flat_map schedule_line turns) [] (length lines + length turns) (Behind (body_stage run_version dump.config (ltb 0 (length turns))))
 body_leads dump lines turns in_lines in_turns =
     let config = dump.config in
-    let here = Behind (Commands run_version config) in
-    let last = Behind (body_stage run_version config (ltb 0 (length turns))) in
+    let begin_stage = Behind (Commands run_version config) in
+    let last_stage = Behind (body_stage run_version config (ltb 0 (length turns))) in
     let later = flat_map schedule_line turns in
-    let two : Leads here later [] (length turns) last = subst (λ (bs : List ℕ). Leads here bs [] (length turns) last) (append-nil later) (behind_first config turns [] in_turns) in
-    leads_both here here last (flat_map line lines ++ later) later [] (length lines) (length turns) (behind_lines config lines later in_lines) two
+    let turns_lead : Leads begin_stage later [] (length turns) last_stage = subst (λ (bytes : List ℕ). Leads begin_stage bytes [] (length turns) last_stage) (append-nil later) (behind_first config turns [] in_turns) in
+    leads_both begin_stage begin_stage last_stage (flat_map line lines ++ later) later [] (length lines) (length turns) (behind_lines config lines later in_lines) turns_lead
 
 abbrev body_of : (lines : List TraceLine) (turns : List (List Item)) → List ℕ
 body_of lines turns = flat_map line lines ++ flat_map schedule_line turns
@@ -45,18 +45,18 @@ body_of lines turns = flat_map line lines ++ flat_map schedule_line turns
 -- the lines of the bytes up to the line `trace`
 to_mark : (bytes : List ℕ) (dump : Dumped) (scripts : List (List Command)) (items : List Item) → (resumes : Resumes bytes dump scripts items) → Leads Version bytes (mark_line ++ body_of resumes.lines resumes.turns) (lines_of dump) (Listed dump)
 to_mark bytes dump scripts items resumes =
-    subst (λ (bs : List ℕ). Leads Version bs (mark_line ++ body_of resumes.lines resumes.turns) (lines_of dump) (Listed dump)) (sym resumes.spelled) (dump_leads dump (mark_line ++ body_of resumes.lines resumes.turns) resumes.dump)
+    subst (λ (given_bytes : List ℕ). Leads Version given_bytes (mark_line ++ body_of resumes.lines resumes.turns) (lines_of dump) (Listed dump)) (sym resumes.spelled) (dump_leads dump (mark_line ++ body_of resumes.lines resumes.turns) resumes.dump)
 
 to_end : (bytes : List ℕ) (dump : Dumped) (scripts : List (List Command)) (items : List Item) → (resumes : Resumes bytes dump scripts items)
     → Leads Version bytes [] (lines_of dump + (1 + (length resumes.lines + length resumes.turns))) (Behind (body_stage run_version dump.config (ltb 0 (length resumes.turns))))
 to_end bytes dump scripts items resumes =
     let body = body_of resumes.lines resumes.turns in
-    let behind = Behind (Commands run_version dump.config) in
-    let last = Behind (body_stage run_version dump.config (ltb 0 (length resumes.turns))) in
-    leads_both Version (Listed dump) last bytes (mark_line ++ body) [] (lines_of dump) (1 + (length resumes.lines + length resumes.turns)) (to_mark bytes dump scripts items resumes)
-    (leads_both (Listed dump) behind last (mark_line ++ body) body [] 1 (length resumes.lines + length resumes.turns) (mark_leads dump body resumes.dump) (body_leads dump resumes.lines resumes.turns resumes.in_range resumes.turns_in_range))
+    let begin_stage = Behind (Commands run_version dump.config) in
+    let last_stage = Behind (body_stage run_version dump.config (ltb 0 (length resumes.turns))) in
+    leads_both Version (Listed dump) last_stage bytes (mark_line ++ body) [] (lines_of dump) (1 + (length resumes.lines + length resumes.turns)) (to_mark bytes dump scripts items resumes)
+    (leads_both (Listed dump) begin_stage last_stage (mark_line ++ body) body [] 1 (length resumes.lines + length resumes.turns) (mark_leads dump body resumes.dump) (body_leads dump resumes.lines resumes.turns resumes.in_range resumes.turns_in_range))
 
-body_ends : (config : Config) (some : Bool) → cause_of (body_stage run_version config some) ([] ∷ []) ≡ None
+body_ends : (config : Config) (has_turns : Bool) → cause_of (body_stage run_version config has_turns) ([] ∷ []) ≡ None
 unfolding cause_of
 body_ends config true = refl
 body_ends config false = refl
@@ -64,32 +64,32 @@ body_ends config false = refl
 pub never_both : (bytes : List ℕ) (dump : Dumped) (scripts : List (List Command)) (items : List Item) (n : ℕ) (why : Why) → Resumes bytes dump scripts items → DumpStopsAt bytes n why → ⊥
 never_both bytes dump scripts items n why reads stops =
     let led = to_end bytes dump scripts items reads in
-    let at = body_stage run_version dump.config (ltb 0 (length reads.turns)) in
-    let none = body_ends dump.config (ltb 0 (length reads.turns)) in
-    let one = dump_end Version Version led.texts stops.before (Behind at) stops.stage ([] ∷ []) stops.from_it (inl refl) tt led.lead stops.lead (sym led.cut ∙ stops.lines) (inr (at, refl, refl, none)) (inl (why, stops.cause)) in
-    let causes = one.causes in
+    let end_stage = body_stage run_version dump.config (ltb 0 (length reads.turns)) in
+    let no_cause = body_ends dump.config (ltb 0 (length reads.turns)) in
+    let dump_stops = dump_end Version Version led.texts stops.before (Behind end_stage) stops.stage ([] ∷ []) stops.from_it (inl refl) tt led.lead stops.lead (sym led.cut ∙ stops.lines) (inr (end_stage, refl, refl, no_cause)) (inl (why, stops.cause)) in
+    let causes = dump_stops.causes in
     absurd cc
 
 -- ---- one dump
 
 -- before the line `trace`
-listing : (xs : List (List ℕ)) (stage : DumpStage) (dump : Dumped) → DumpLead stage xs (Listed dump) → IsDumping stage
-listing xs (Behind stage) dump lead = absurd (never_back xs stage dump lead)
-listing xs Version dump lead = tt
-listing xs Heap dump lead = tt
-listing xs (Threads config) dump lead = tt
-listing xs (Counts config) dump lead = tt
-listing xs (Listed other_dump) dump lead = tt
+listing : (later_texts : List (List ℕ)) (stage : DumpStage) (dump : Dumped) → DumpLead stage later_texts (Listed dump) → IsDumping stage
+listing later_texts (Behind stage) dump lead = absurd (never_back later_texts stage dump lead)
+listing later_texts Version dump lead = tt
+listing later_texts Heap dump lead = tt
+listing later_texts (Threads config) dump lead = tt
+listing later_texts (Counts config) dump lead = tt
+listing later_texts (Listed other_dump) dump lead = tt
 
 -- behind the line `trace` no dump goes on
-no_dump : (dump : Dumped) (text : List ℕ) (rest : List (List ℕ)) (next : DumpStage) (other_dump : Dumped) → IsWithin (Listed dump) → IsDump dump → Spells text mark_line → DumpFollows (Listed dump) text next → DumpLead next rest (Listed other_dump) → ⊥
-no_dump dump text rest next other_dump within is mark dump_follows lead =
-    let same = listed_once dump text next (Behind (Commands run_version dump.config)) within dump_follows (inr (inr (is, mark, refl))) in
-    never_back rest (Commands run_version dump.config) other_dump (subst (λ (stage : DumpStage). DumpLead stage rest (Listed other_dump)) same lead)
+no_dump : (dump : Dumped) (text : List ℕ) (rest : List (List ℕ)) (next_stage : DumpStage) (other_dump : Dumped) → IsWithin (Listed dump) → IsDump dump → Spells text mark_line → DumpFollows (Listed dump) text next_stage → DumpLead next_stage rest (Listed other_dump) → ⊥
+no_dump dump text rest next_stage other_dump dump_within is_dump mark dump_follows lead =
+    let same_stage = listed_once dump text next_stage (Behind (Commands run_version dump.config)) dump_within dump_follows (inr (inr (is_dump, mark, refl))) in
+    never_back rest (Commands run_version dump.config) other_dump (subst (λ (stage : DumpStage). DumpLead stage rest (Listed other_dump)) same_stage lead)
 
 listed_same : (dump other_dump : Dumped) → Same (Listed dump) (Listed other_dump) → dump ≡ other_dump
 listed_same dump other_dump (inl x) = cc
-listed_same dump other_dump (inr x) = absurd (let same : Listed dump ≡ Threads x.0 = x.2 in no_heap dump x.0 same)
+listed_same dump other_dump (inr x) = absurd (let same_stage : Listed dump ≡ Threads x.0 = x.2 in no_heap dump x.0 same_stage)
   where
     no_heap : (dump : Dumped) (config : Config) → Listed dump ≡ Threads config → ⊥
     no_heap dump config other_dump = absurd cc
@@ -98,56 +98,56 @@ record OneMark (dump other_dump : Dumped) (p q : List (List ℕ)) : Type 0 where
   pub dumps : dump ≡ other_dump
   pub rests : p ≡ q
 
-marks_once : (stage other_stage : DumpStage) (xs ys : List (List ℕ)) (dump other_dump : Dumped) (text : List ℕ) (p q : List (List ℕ)) → Same stage other_stage → IsWithin stage → IsDump dump → IsDump other_dump → Spells text mark_line → DumpLead stage xs (Listed dump) → DumpLead other_stage ys (Listed other_dump)
-    → xs ++ text ∷ p ≡ ys ++ text ∷ q → OneMark dump other_dump p q
-marks_once stage other_stage [] [] dump other_dump text p q same within is also mark one other eq =
-    record { dumps = listed_same dump other_dump (subst (λ (stage : DumpStage). Same (Listed dump) stage) other (subst (λ (stage : DumpStage). Same stage other_stage) one same)); rests = (cons_injective text text p q eq).1 }
-marks_once stage other_stage [] (y ∷ ys) dump other_dump text p q same within is also mark one other eq =
-    let first = (cons_injective text y p (ys ++ text ∷ q) eq).0 in
-    let f : DumpFollows (Listed dump) text other.0 = subst (λ (stage : DumpStage). DumpFollows stage text other.0) one (carry stage other_stage text other.0 same (subst (λ (u : List ℕ). DumpFollows other_stage u other.0) (sym first) other.1)) in
-    absurd (no_dump dump text ys other.0 other_dump (subst IsWithin one within) is mark f other.2)
-marks_once stage other_stage (x ∷ xs) [] dump e text p q same within is also mark one other eq =
-    let first = (cons_injective x text (xs ++ text ∷ p) q eq).0 in
-    let f : DumpFollows (Listed e) text one.0 = subst (λ (stage : DumpStage). DumpFollows stage text one.0) other (carry other_stage stage text one.0 (same_back stage other_stage same) (subst (λ (u : List ℕ). DumpFollows stage u one.0) first one.1)) in
-    absurd (no_dump e text xs one.0 dump (within_listed stage other_stage e same other within) also mark f one.2)
+marks_once : (stage other_stage : DumpStage) (xs ys : List (List ℕ)) (dump other_dump : Dumped) (text : List ℕ) (first_rest second_rest : List (List ℕ)) → Same stage other_stage → IsWithin stage → IsDump dump → IsDump other_dump → Spells text mark_line → DumpLead stage xs (Listed dump) → DumpLead other_stage ys (Listed other_dump)
+    → xs ++ text ∷ first_rest ≡ ys ++ text ∷ second_rest → OneMark dump other_dump first_rest second_rest
+marks_once stage other_stage [] [] dump other_dump text first_rest second_rest stages_alike stage_is_within is_dump also mark first_lead second_lead same_texts =
+    record { dumps = listed_same dump other_dump (subst (λ (stage : DumpStage). Same (Listed dump) stage) second_lead (subst (λ (stage : DumpStage). Same stage other_stage) first_lead stages_alike)); rests = (cons_injective text text first_rest second_rest same_texts).1 }
+marks_once stage other_stage [] (y ∷ ys) dump other_dump text first_rest second_rest stages_alike stage_is_within is_dump also mark first_lead second_lead same_texts =
+    let same_text = (cons_injective text y first_rest (ys ++ text ∷ second_rest) same_texts).0 in
+    let follows : DumpFollows (Listed dump) text second_lead.0 = subst (λ (stage : DumpStage). DumpFollows stage text second_lead.0) first_lead (carry stage other_stage text second_lead.0 stages_alike (subst (λ (given_text : List ℕ). DumpFollows other_stage given_text second_lead.0) (sym same_text) second_lead.1)) in
+    absurd (no_dump dump text ys second_lead.0 other_dump (subst IsWithin first_lead stage_is_within) is_dump mark follows second_lead.2)
+marks_once stage other_stage (x ∷ xs) [] dump second_dump text first_rest second_rest stages_alike stage_is_within is_dump also mark first_lead second_lead same_texts =
+    let same_text = (cons_injective x text (xs ++ text ∷ first_rest) second_rest same_texts).0 in
+    let follows : DumpFollows (Listed second_dump) text first_lead.0 = subst (λ (stage : DumpStage). DumpFollows stage text first_lead.0) second_lead (carry other_stage stage text first_lead.0 (same_back stage other_stage stages_alike) (subst (λ (given_text : List ℕ). DumpFollows stage given_text first_lead.0) same_text first_lead.1)) in
+    absurd (no_dump second_dump text xs first_lead.0 dump (within_listed stage other_stage second_dump stages_alike second_lead stage_is_within) also mark follows first_lead.2)
   where
-    within_listed : (stage other_stage : DumpStage) (e : Dumped) → Same stage other_stage → other_stage ≡ Listed e → IsWithin stage → IsWithin (Listed e)
-    within_listed stage other_stage e (inl x) is within = subst IsWithin (x ∙ is) within
-    within_listed stage other_stage e (inr x) is within = absurd (no_heap e x.1 (sym is ∙ x.3))
+    within_listed : (stage other_stage : DumpStage) (listed_dump : Dumped) → Same stage other_stage → other_stage ≡ Listed listed_dump → IsWithin stage → IsWithin (Listed listed_dump)
+    within_listed stage other_stage listed_dump (inl x) is_listed stage_within = subst IsWithin (x ∙ is_listed) stage_within
+    within_listed stage other_stage listed_dump (inr x) is_listed stage_within = absurd (no_heap listed_dump x.1 (sym is_listed ∙ x.3))
       where
         no_heap : (dump : Dumped) (config : Config) → Listed dump ≡ Threads config → ⊥
-        no_heap dump config e = absurd cc
-marks_once stage other_stage (other_text ∷ rest) (y ∷ ys) dump other_dump text p q same within is also mark one other eq =
-    let first = cons_injective other_text y (rest ++ text ∷ p) (ys ++ text ∷ q) eq in
-    let f : DumpFollows stage other_text other.0 = subst (λ (u : List ℕ). DumpFollows stage u other.0) (sym first.0) (carry stage other_stage y other.0 same other.1) in
-    marks_once one.0 other.0 rest ys dump other_dump text p q (follows_once stage other_text one.0 other.0 (listing (other_text ∷ rest) stage dump one) within one.1 f) (within_next stage other_text one.0 within one.1) is also mark one.2 other.2 first.1
+        no_heap dump config same_stage = absurd cc
+marks_once stage other_stage (first_text ∷ rest) (y ∷ ys) dump other_dump text first_rest second_rest stages_alike stage_is_within is_dump also mark first_lead second_lead same_texts =
+    let same_text = cons_injective first_text y (rest ++ text ∷ first_rest) (ys ++ text ∷ second_rest) same_texts in
+    let follows : DumpFollows stage first_text second_lead.0 = subst (λ (given_text : List ℕ). DumpFollows stage given_text second_lead.0) (sym same_text.0) (carry stage other_stage y second_lead.0 stages_alike second_lead.1) in
+    marks_once first_lead.0 second_lead.0 rest ys dump other_dump text first_rest second_rest (follows_once stage first_text first_lead.0 second_lead.0 (listing (first_text ∷ rest) stage dump first_lead) stage_is_within first_lead.1 follows) (within_next stage first_text first_lead.0 stage_is_within first_lead.1) is_dump also mark first_lead.2 second_lead.2 same_text.1
 
-same_bytes : (a b : List ℕ) → parts 10 a ≡ parts 10 b → a ≡ b
-same_bytes a b same = sym (join_with_byte-slice_split 10 a) ∙ ap (join_with_byte 10) same ∙ join_with_byte-slice_split 10 b
+same_bytes : (first_bytes second_bytes : List ℕ) → parts 10 first_bytes ≡ parts 10 second_bytes → first_bytes ≡ second_bytes
+same_bytes first_bytes second_bytes same_parts = sym (join_with_byte-slice_split 10 first_bytes) ∙ ap (join_with_byte 10) same_parts ∙ join_with_byte-slice_split 10 second_bytes
 
 -- bytes are read as one dump at most
-pub read_once : (bytes : List ℕ) (dump other_dump : Dumped) (scripts other_scripts : List (List Command)) (is js : List Item) → Resumes bytes dump scripts is → Resumes bytes other_dump other_scripts js → IsSameReading dump scripts is other_dump other_scripts js
-read_once bytes dump other_dump scripts other_scripts is js resumes q =
-    let one = to_mark bytes dump scripts is resumes in
-    let two = to_mark bytes other_dump other_scripts js q in
-    let rest = body_of resumes.lines resumes.turns in
-    let after = body_of q.lines q.turns in
-    let m = codes "trace" in
-    let cut_one : parts 10 bytes ≡ one.texts ++ m ∷ parts 10 rest = one.cut ∙ ap (λ (ts : List (List ℕ)). one.texts ++ ts) (mark_cut rest) in
-    let cut_two : parts 10 bytes ≡ two.texts ++ m ∷ parts 10 after = two.cut ∙ ap (λ (ts : List (List ℕ)). two.texts ++ ts) (mark_cut after) in
-    let same = marks_once Version Version one.texts two.texts dump other_dump m (parts 10 rest) (parts 10 after) (inl refl) tt resumes.dump q.dump refl one.lead two.lead (sym cut_one ∙ cut_two) in
-    let c = dump.config in
-    let config : c ≡ other_dump.config = ap (λ (dump : Dumped). dump.config) same.dumps in
-    let bodies : rest ≡ after = same_bytes rest after same.rests in
-    let in_lines = subst (λ (config : Config). AllByRecursion (IsLine run_version config.mutators) q.lines) (sym config) q.in_range in
-    let in_turns = subst (λ (config : Config). AllByRecursion (IsScheduleLine config) q.turns) (sym config) q.turns_in_range in
-    let lines = lines_once run_version c.mutators resumes.lines q.lines (flat_map schedule_line resumes.turns) (flat_map schedule_line q.turns) (omega (arith, c.in_range.most_mutators)) resumes.in_range in_lines (turns_behind resumes.turns) (turns_behind q.turns) bodies in
-    let turns = turns_once c resumes.turns q.turns resumes.turns_in_range in_turns lines.1 in
+pub read_once : (bytes : List ℕ) (dump other_dump : Dumped) (scripts other_scripts : List (List Command)) (items other_items : List Item) → Resumes bytes dump scripts items → Resumes bytes other_dump other_scripts other_items → IsSameReading dump scripts items other_dump other_scripts other_items
+read_once bytes dump other_dump scripts other_scripts items other_items resumes other_resumes =
+    let first_marks = to_mark bytes dump scripts items resumes in
+    let second_marks = to_mark bytes other_dump other_scripts other_items other_resumes in
+    let first_body = body_of resumes.lines resumes.turns in
+    let other_body = body_of other_resumes.lines other_resumes.turns in
+    let mark = codes "trace" in
+    let cut_one : parts 10 bytes ≡ first_marks.texts ++ mark ∷ parts 10 first_body = first_marks.cut ∙ ap (λ (given_texts : List (List ℕ)). first_marks.texts ++ given_texts) (mark_cut first_body) in
+    let cut_two : parts 10 bytes ≡ second_marks.texts ++ mark ∷ parts 10 other_body = second_marks.cut ∙ ap (λ (given_texts : List (List ℕ)). second_marks.texts ++ given_texts) (mark_cut other_body) in
+    let same_marks = marks_once Version Version first_marks.texts second_marks.texts dump other_dump mark (parts 10 first_body) (parts 10 other_body) (inl refl) tt resumes.dump other_resumes.dump refl first_marks.lead second_marks.lead (sym cut_one ∙ cut_two) in
+    let dump_config = dump.config in
+    let config : dump_config ≡ other_dump.config = ap (λ (dump : Dumped). dump.config) same_marks.dumps in
+    let bodies : first_body ≡ other_body = same_bytes first_body other_body same_marks.rests in
+    let in_lines = subst (λ (config : Config). AllByRecursion (IsLine run_version config.mutators) other_resumes.lines) (sym config) other_resumes.in_range in
+    let in_turns = subst (λ (config : Config). AllByRecursion (IsScheduleLine config) other_resumes.turns) (sym config) other_resumes.turns_in_range in
+    let lines = lines_once run_version dump_config.mutators resumes.lines other_resumes.lines (flat_map schedule_line resumes.turns) (flat_map schedule_line other_resumes.turns) (omega (arith, dump_config.in_range.most_mutators)) resumes.in_range in_lines (turns_behind resumes.turns) (turns_behind other_resumes.turns) bodies in
+    let turns = turns_once dump_config resumes.turns other_resumes.turns resumes.turns_in_range in_turns lines.1 in
     record {
-      dump = same.dumps;
-      scripts = resumes.by_thread ∙ ap (scripts_of c.mutators) lines.0 ∙ ap (λ (config : Config). scripts_of config.mutators q.lines) config ∙ sym q.by_thread;
-      items = resumes.in_order ∙ ap items_of turns ∙ sym q.in_order;
+      dump = same_marks.dumps;
+      scripts = resumes.by_thread ∙ ap (scripts_of dump_config.mutators) lines.0 ∙ ap (λ (config : Config). scripts_of config.mutators other_resumes.lines) config ∙ sym other_resumes.by_thread;
+      items = resumes.in_order ∙ ap items_of turns ∙ sym other_resumes.in_order;
     }
   where
-    mark_cut : (rest : List ℕ) → parts 10 (mark_line ++ rest) ≡ codes "trace" ∷ parts 10 rest
-    mark_cut rest = parts_at 10 (codes "trace") rest refl
+    mark_cut : (first_body : List ℕ) → parts 10 (mark_line ++ first_body) ≡ codes "trace" ∷ parts 10 first_body
+    mark_cut first_body = parts_at 10 (codes "trace") first_body refl

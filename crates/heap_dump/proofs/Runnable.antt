@@ -20,18 +20,18 @@ module _ (bytes : List ℕ) (dump : Dumped) (scripts : List (List Command)) (ite
   count_read = ap length reads.by_thread ∙ count_scripts dump.config.mutators reads.lines
 
   few_commands : (mutator : ℕ) → mutator < dump.config.mutators → length (get_or (scripts_of dump.config.mutators reads.lines) mutator []) + most_made < most_objects
-  few_commands mutator below =
+  few_commands mutator mutator_below =
       let lines = flat_map line reads.lines in
       let turns = flat_map schedule_line reads.turns in
-      omega (arith, short_script dump.config.mutators reads.lines mutator below, reads.short, ap length reads.spelled, length-append (dump_text dump) (mark_line ++ (lines ++ turns)), length-append mark_line (lines ++ turns), length-append lines turns)
+      omega (arith, short_script dump.config.mutators reads.lines mutator mutator_below, reads.short, ap length reads.spelled, length-append (dump_text dump) (mark_line ++ (lines ++ turns)), length-append mark_line (lines ++ turns), length-append lines turns)
 
   pub runnable_read : All IsRunnableAfter scripts
   runnable_read =
       subst (All IsRunnableAfter) (sym reads.by_thread)
-      (All-from_get_or IsRunnableAfter (scripts_of dump.config.mutators reads.lines) [] (λ t within.
+      (All-from_get_or IsRunnableAfter (scripts_of dump.config.mutators reads.lines) [] (λ thread within.
       let count = count_scripts dump.config.mutators reads.lines in
-      let below : t < dump.config.mutators = omega (arith, within, count) in
-      (valid_script run_version dump.config.mutators reads.lines t reads.in_range below, few_commands t below)))
+      let mutator_below : thread < dump.config.mutators = omega (arith, within, count) in
+      (valid_script run_version dump.config.mutators reads.lines thread reads.in_range mutator_below, few_commands thread mutator_below)))
 
   pub items_read : All (IsInSeats dump.config) items
   items_read = subst (All (IsInSeats dump.config)) (sym reads.in_order) (items_in_seats dump.config reads.turns reads.turns_in_range)

@@ -20,17 +20,17 @@ leads_none stage bytes = record { texts = []; cut = refl; count = refl; lead = r
 pub leads_one : (stage next : DumpStage) (bytes text rest : List ℕ) → parts 10 bytes ≡ text ∷ parts 10 rest → DumpFollows stage text next → Leads stage bytes rest 1 next
 leads_one stage next bytes text rest cut follows = record { texts = text ∷ []; cut = cut; count = refl; lead = (next, follows, refl) }
 
-lead_both : (a b c : DumpStage) (xs ys : List (List ℕ)) → DumpLead a xs b → DumpLead b ys c → DumpLead a (xs ++ ys) c
-lead_both other_stage b c [] ys one other = subst (λ (stage : DumpStage). DumpLead stage ys c) (sym one) other
-lead_both stage other_stage c (x ∷ xs) ys one other = (one.0, one.1, lead_both one.0 other_stage c xs ys one.2 other)
+lead_both : (start_stage middle_stage end_stage : DumpStage) (xs ys : List (List ℕ)) → DumpLead start_stage xs middle_stage → DumpLead middle_stage ys end_stage → DumpLead start_stage (xs ++ ys) end_stage
+lead_both other_stage middle_stage end_stage [] ys first_lead second_lead = subst (λ (stage : DumpStage). DumpLead stage ys end_stage) (sym first_lead) second_lead
+lead_both stage other_stage end_stage (x ∷ xs) ys first_lead second_lead = (first_lead.0, first_lead.1, lead_both first_lead.0 other_stage end_stage xs ys first_lead.2 second_lead)
 
 -- some lines, and more
-pub leads_both : (a b c : DumpStage) (bytes rest more : List ℕ) (lines other_lines : ℕ) → Leads a bytes rest lines b → Leads b rest more other_lines c → Leads a bytes more (lines + other_lines) c
-leads_both stage other_stage c bytes rest more lines m one other = record {
-  texts = one.texts ++ other.texts;
-  cut = one.cut ∙ ap (λ (ts : List (List ℕ)). one.texts ++ ts) other.cut ∙ sym (append_assoc one.texts other.texts (parts newline more));
-  count = omega (arith, length-append one.texts other.texts, one.count, other.count);
-  lead = lead_both stage other_stage c one.texts other.texts one.lead other.lead;
+pub leads_both : (start_stage middle_stage end_stage : DumpStage) (bytes rest more : List ℕ) (lines other_lines : ℕ) → Leads start_stage bytes rest lines middle_stage → Leads middle_stage rest more other_lines end_stage → Leads start_stage bytes more (lines + other_lines) end_stage
+leads_both stage other_stage end_stage bytes rest more lines second_lines first_leads second_leads = record {
+  texts = first_leads.texts ++ second_leads.texts;
+  cut = first_leads.cut ∙ ap (λ (texts : List (List ℕ)). first_leads.texts ++ texts) second_leads.cut ∙ sym (append_assoc first_leads.texts second_leads.texts (parts newline more));
+  count = omega (arith, length-append first_leads.texts second_leads.texts, first_leads.count, second_leads.count);
+  lead = lead_both stage other_stage end_stage first_leads.texts second_leads.texts first_leads.lead second_leads.lead;
 }
 
 -- ---- stops
@@ -38,8 +38,8 @@ leads_both stage other_stage c bytes rest more lines m one other = record {
 pub stops_here : (stage : DumpStage) (first : ℕ) (bytes : List ℕ) (why : Why) → StopsFor stage (parts newline bytes) why → StopsAt stage first bytes first why
 stops_here stage first bytes why cause = record { rest = bytes; lines = 0; at = stage; led = leads_none stage bytes; number = omega arith; cause = cause }
 
-pub stops_behind : (stage other_stage : DumpStage) (first later : ℕ) (bytes rest : List ℕ) (lines n : ℕ) (why : Why) → Leads stage bytes rest lines other_stage → later ≡ first + lines → StopsAt other_stage later rest n why → StopsAt stage first bytes n why
-stops_behind stage other_stage first later bytes rest lines n why led number stops = record {
+pub stops_behind : (stage other_stage : DumpStage) (first later : ℕ) (bytes rest : List ℕ) (lines line : ℕ) (why : Why) → Leads stage bytes rest lines other_stage → later ≡ first + lines → StopsAt other_stage later rest line why → StopsAt stage first bytes line why
+stops_behind stage other_stage first later bytes rest lines line why led number stops = record {
   rest = stops.rest;
   lines = lines + stops.lines;
   at = stops.at;
@@ -59,50 +59,50 @@ IsDumping (Behind stage) = ⊥
 
 -- the bytes end there
 pub ends_here : (stage : DumpStage) (bytes text : List ℕ) → IsDumping stage → parts 10 bytes ≡ text ∷ [] → StopsFor stage (parts newline bytes) (ends_by text)
-ends_here Version bytes text is cut = subst (λ (ts : List (List ℕ)). StopsFor Version ts (ends_by text)) (sym cut) refl
-ends_here Heap bytes text is cut = subst (λ (ts : List (List ℕ)). StopsFor Heap ts (ends_by text)) (sym cut) refl
-ends_here (Threads config) bytes text is cut = subst (λ (ts : List (List ℕ)). StopsFor (Threads config) ts (ends_by text)) (sym cut) refl
-ends_here (Counts config) bytes text is cut = subst (λ (ts : List (List ℕ)). StopsFor (Counts config) ts (ends_by text)) (sym cut) refl
-ends_here (Listed dump) bytes text is cut = subst (λ (ts : List (List ℕ)). StopsFor (Listed dump) ts (ends_by text)) (sym cut) refl
-ends_here (Behind stage) bytes text is cut = absurd is
+ends_here Version bytes text is_dumping cut = subst (λ (texts : List (List ℕ)). StopsFor Version texts (ends_by text)) (sym cut) refl
+ends_here Heap bytes text is_dumping cut = subst (λ (texts : List (List ℕ)). StopsFor Heap texts (ends_by text)) (sym cut) refl
+ends_here (Threads config) bytes text is_dumping cut = subst (λ (texts : List (List ℕ)). StopsFor (Threads config) texts (ends_by text)) (sym cut) refl
+ends_here (Counts config) bytes text is_dumping cut = subst (λ (texts : List (List ℕ)). StopsFor (Counts config) texts (ends_by text)) (sym cut) refl
+ends_here (Listed dump) bytes text is_dumping cut = subst (λ (texts : List (List ℕ)). StopsFor (Listed dump) texts (ends_by text)) (sym cut) refl
+ends_here (Behind stage) bytes text is_dumping cut = absurd is_dumping
 
 -- the parts of bytes are one at least
-pub some_part : (rest : List ℕ) → (text : List ℕ) × (more : List (List ℕ)) × (parts 10 rest ≡ text ∷ more)
+pub some_part : (rest : List ℕ) → (text : List ℕ) × (later_texts : List (List ℕ)) × (parts 10 rest ≡ text ∷ later_texts)
 some_part rest = (_, _, cut_parts 10 rest)
 
 -- no line of the kind stands there
 pub refused_here : (stage : DumpStage) (bytes text rest : List ℕ) → IsDumping stage → parts 10 bytes ≡ text ∷ parts 10 rest → ((next : DumpStage) → DumpFollows stage text next → ⊥) → StopsFor stage (parts newline bytes) DumpWanted
-refused_here stage bytes text rest is cut none =
-    let some = some_part rest in
-    let whole = cut ∙ ap (λ (ts : List (List ℕ)). text ∷ ts) some.2 in
-    subst (λ (ts : List (List ℕ)). StopsFor stage ts DumpWanted) (sym whole) (by_stage stage is none some.0 some.1)
+refused_here stage bytes text rest is_dumping cut follows_none =
+    let first_part = some_part rest in
+    let whole_parts = cut ∙ ap (λ (texts : List (List ℕ)). text ∷ texts) first_part.2 in
+    subst (λ (texts : List (List ℕ)). StopsFor stage texts DumpWanted) (sym whole_parts) (by_stage stage is_dumping follows_none first_part.0 first_part.1)
   where
-    by_stage : (other_stage : DumpStage) → IsDumping other_stage → ((next : DumpStage) → DumpFollows other_stage text next → ⊥) → (t : List ℕ) (more : List (List ℕ)) → StopsFor other_stage (text ∷ t ∷ more) DumpWanted
-    by_stage Version dumping no_more t more = (refl, no_more)
-    by_stage Heap dumping no_more t more = (refl, no_more)
-    by_stage (Threads c) dumping no_more t more = (refl, no_more)
-    by_stage (Counts c) dumping no_more t more = (refl, no_more)
-    by_stage (Listed d) dumping no_more t more = (refl, no_more)
-    by_stage (Behind other_stage) dumping no_more t more = absurd dumping
+    by_stage : (other_stage : DumpStage) → IsDumping other_stage → ((next : DumpStage) → DumpFollows other_stage text next → ⊥) → (next_text : List ℕ) (later_texts : List (List ℕ)) → StopsFor other_stage (text ∷ next_text ∷ later_texts) DumpWanted
+    by_stage Version dumping no_more next_text later_texts = (refl, no_more)
+    by_stage Heap dumping no_more next_text later_texts = (refl, no_more)
+    by_stage (Threads config) dumping no_more next_text later_texts = (refl, no_more)
+    by_stage (Counts config) dumping no_more next_text later_texts = (refl, no_more)
+    by_stage (Listed dump) dumping no_more next_text later_texts = (refl, no_more)
+    by_stage (Behind other_stage) dumping no_more next_text later_texts = absurd dumping
 
 -- ---- lines by their words
 
-pub on_ok : {T E P : Type 0} (r : Result T E) → false ≡ is_err r → OnOk r P → P
-on_ok (Ok x) same h = h
-on_ok (Err f) same h = absurd (false≢true same)
+pub on_ok : {T E P : Type 0} (result : Result T E) → false ≡ is_err result → OnOk result P → P
+on_ok (Ok value) not_error when_ok = when_ok
+on_ok (Err fault) not_error when_ok = absurd (false≢true not_error)
 
 pub no_line : (bytes first end : List ℕ) → parts 10 bytes ≡ first ∷ parts_behind 10 end → length end ≡ 0 → (text rest : List ℕ) → parts 10 bytes ≡ text ∷ parts 10 rest → ⊥
-no_line bytes first [] cut none text rest other =
-    let sizes = ap length (sym cut ∙ other) in
-    let some = ap length (cut_parts 10 rest) in
-    omega (arith, sizes, some)
-no_line bytes first (b ∷ end) cut none text rest other = absurd (omega (arith, none))
+no_line bytes first [] cut nothing_left text rest cut_text =
+    let sizes = ap length (sym cut ∙ cut_text) in
+    let parts_length = ap length (cut_parts 10 rest) in
+    omega (arith, sizes, parts_length)
+no_line bytes first (byte ∷ end) cut nothing_left text rest cut_text = absurd (omega (arith, nothing_left))
 
-pub line_behind : (bytes first end behind : List ℕ) (b : ℕ) → parts 10 bytes ≡ first ∷ parts_behind 10 end → end ≡ b ∷ behind → parts 10 bytes ≡ first ∷ parts 10 behind
-line_behind bytes first end behind b cut is = cut ∙ ap (λ (e : List ℕ). first ∷ parts_behind 10 e) is
+pub line_behind : (bytes first_line end behind : List ℕ) (byte : ℕ) → parts 10 bytes ≡ first_line ∷ parts_behind 10 end → end ≡ byte ∷ behind → parts 10 bytes ≡ first_line ∷ parts 10 behind
+line_behind bytes first_line end behind byte cut end_is = cut ∙ ap (λ (any_end : List ℕ). first_line ∷ parts_behind 10 any_end) end_is
 
-pub same_line : (bytes a b c d : List ℕ) → parts 10 bytes ≡ a ∷ parts 10 c → parts 10 bytes ≡ b ∷ parts 10 d → (a ≡ b) × (parts 10 c ≡ parts 10 d)
-same_line bytes a b c d one other = cons_injective a b (parts 10 c) (parts 10 d) (sym one ∙ other)
+pub same_line : (bytes first_line second_line first_rest second_rest : List ℕ) → parts 10 bytes ≡ first_line ∷ parts 10 first_rest → parts 10 bytes ≡ second_line ∷ parts 10 second_rest → (first_line ≡ second_line) × (parts 10 first_rest ≡ parts 10 second_rest)
+same_line bytes first_line second_line first_rest second_rest first_cut second_cut = cons_injective first_line second_line (parts 10 first_rest) (parts 10 second_rest) (sym first_cut ∙ second_cut)
 
 pub other_word : (text word title : List ℕ) (rest words : List (List ℕ)) → parts 32 text ≡ word ∷ rest → parts 32 text ≡ title ∷ words → word ≡ title
-other_word text word title rest words one other = (cons_injective word title rest words (sym one ∙ other)).0
+other_word text word title rest words first_cut second_cut = (cons_injective word title rest words (sym first_cut ∙ second_cut)).0

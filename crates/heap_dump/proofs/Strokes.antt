@@ -7,69 +7,69 @@ use Rattle.heap_dump.specs.DumpLines.{IsDumpReference, AreReferences}
 use Rattle.heap_dump.proofs.References.{dotted}
 
 -- a stroke is no reference
-stroke : (w : List ℕ) (reference : Reference) → IsDumpReference w reference → w ≡ codes "/" → ⊥
-stroke w None dump_reference is = let e = (cons_injective 45 47 [] [] (sym dump_reference ∙ is)).0 in absurd (omega (arith, e))
-stroke w (Some name) dump_reference is =
-    let e : codes "/" ∷ [] ≡ dump_reference.0 ∷ dump_reference.1 ∷ [] = sym (ap (parts 46) is) ∙ dotted w name dump_reference in
-    let sizes = ap length e in
+stroke : (word : List ℕ) (reference : Reference) → IsDumpReference word reference → word ≡ codes "/" → ⊥
+stroke word None dump_reference stroke_word = let parts_same = (cons_injective 45 47 [] [] (sym dump_reference ∙ stroke_word)).0 in absurd (omega (arith, parts_same))
+stroke word (Some name) dump_reference stroke_word =
+    let parts_same : codes "/" ∷ [] ≡ dump_reference.0 ∷ dump_reference.1 ∷ [] = sym (ap (parts 46) stroke_word) ∙ dotted word name dump_reference in
+    let sizes = ap length parts_same in
     absurd (omega (arith, sizes))
 
-pub references_more : (ws : List (List ℕ)) (references : List Reference) (w : List ℕ) (reference : Reference) → AreReferences ws references → IsDumpReference w reference → AreReferences (ws ++ w ∷ []) (references ++ reference ∷ [])
-references_more [] [] w reference are is = (is, tt)
-references_more [] (other_reference ∷ references) w reference are is = absurd are
-references_more (v ∷ ws) [] w reference are is = absurd are
-references_more (v ∷ ws) (other_reference ∷ references) w reference are is = (are.0, references_more ws references w reference are.1 is)
+pub references_more : (words : List (List ℕ)) (references : List Reference) (word : List ℕ) (reference : Reference) → AreReferences words references → IsDumpReference word reference → AreReferences (words ++ word ∷ []) (references ++ reference ∷ [])
+references_more [] [] word reference are_spelled spells_it = (spells_it, tt)
+references_more [] (first_reference ∷ references) word reference are_spelled spells_it = absurd are_spelled
+references_more (first_word ∷ words) [] word reference are_spelled spells_it = absurd are_spelled
+references_more (first_word ∷ words) (first_reference ∷ references) word reference are_spelled spells_it = (are_spelled.0, references_more words references word reference are_spelled.1 spells_it)
 
 -- what stands behind the first of the references
 pub data Follows (w : List ℕ) (many all : ℕ) : Type 0 where
   is_stroke : w ≡ codes "/" → Follows w many all
   is_another : (reference : Reference) → IsDumpReference w reference → many < all → Follows w many all
 
-pub follows : (ws vs : List (List ℕ)) (references other_references : List Reference) (w : List ℕ) (rest more : List (List ℕ)) → AreReferences ws references → AreReferences vs other_references
-    → ws ++ w ∷ rest ≡ vs ++ codes "/" ∷ more → Follows w (length references) (length other_references)
-follows [] [] [] [] w rest more references b same = is_stroke (cons_injective w (codes "/") rest more same).0
-follows [] [] [] (reference ∷ other_references) w rest more references b same = absurd b
-follows [] (v ∷ vs) [] [] w rest more references b same = absurd b
-follows [] (v ∷ vs) [] (reference ∷ other_references) w rest more references b same =
-    is_another reference (subst (λ (t : List ℕ). IsDumpReference t reference) (sym (cons_injective w v rest (vs ++ codes "/" ∷ more) same).0) b.0) (omega arith)
-follows [] vs (reference ∷ other_references) references w rest more a b same = absurd a
-follows (u ∷ ws) vs [] references w rest more a b same = absurd a
-follows (u ∷ ws) [] (reference ∷ other_references) [] w rest more references b same = absurd (stroke u reference references.0 (cons_injective u (codes "/") (ws ++ w ∷ rest) more same).0)
-follows (u ∷ ws) [] (reference ∷ other_references) (other_reference ∷ qs) w rest more references b same = absurd b
-follows (u ∷ ws) (v ∷ vs) (reference ∷ other_references) [] w rest more references b same = absurd b
-follows (u ∷ ws) (v ∷ vs) (reference ∷ other_references) (other_reference ∷ qs) w rest more references b same =
-    by_rest (follows ws vs other_references qs w rest more references.1 b.1 (cons_injective u v (ws ++ w ∷ rest) (vs ++ codes "/" ∷ more) same).1)
+pub follows : (first_words second_words : List (List ℕ)) (references other_references : List Reference) (word : List ℕ) (rest later_words : List (List ℕ)) → AreReferences first_words references → AreReferences second_words other_references
+    → first_words ++ word ∷ rest ≡ second_words ++ codes "/" ∷ later_words → Follows word (length references) (length other_references)
+follows [] [] [] [] word rest later_words references second_spelled same_words = is_stroke (cons_injective word (codes "/") rest later_words same_words).0
+follows [] [] [] (reference ∷ other_references) word rest later_words references second_spelled same_words = absurd second_spelled
+follows [] (second_word ∷ second_words) [] [] word rest later_words references second_spelled same_words = absurd second_spelled
+follows [] (second_word ∷ second_words) [] (reference ∷ other_references) word rest later_words references second_spelled same_words =
+    is_another reference (subst (λ (any_text : List ℕ). IsDumpReference any_text reference) (sym (cons_injective word second_word rest (second_words ++ codes "/" ∷ later_words) same_words).0) second_spelled.0) (omega arith)
+follows [] second_words (reference ∷ other_references) references word rest later_words first_spelled second_spelled same_words = absurd first_spelled
+follows (first_word ∷ first_words) second_words [] references word rest later_words first_spelled second_spelled same_words = absurd first_spelled
+follows (first_word ∷ first_words) [] (reference ∷ other_references) [] word rest later_words references second_spelled same_words = absurd (stroke first_word reference references.0 (cons_injective first_word (codes "/") (first_words ++ word ∷ rest) later_words same_words).0)
+follows (first_word ∷ first_words) [] (reference ∷ other_references) (second_reference ∷ later_references) word rest later_words references second_spelled same_words = absurd second_spelled
+follows (first_word ∷ first_words) (second_word ∷ second_words) (reference ∷ other_references) [] word rest later_words references second_spelled same_words = absurd second_spelled
+follows (first_word ∷ first_words) (second_word ∷ second_words) (reference ∷ other_references) (second_reference ∷ later_references) word rest later_words references second_spelled same_words =
+    by_rest (follows first_words second_words other_references later_references word rest later_words references.1 second_spelled.1 (cons_injective first_word second_word (first_words ++ word ∷ rest) (second_words ++ codes "/" ∷ later_words) same_words).1)
   where
-    by_rest : Follows w (length other_references) (length qs) → Follows w (length (reference ∷ other_references)) (length (other_reference ∷ qs))
-    by_rest (is_stroke h) = is_stroke h
-    by_rest (is_another p h low) = is_another p h (omega (arith, low))
+    by_rest : Follows word (length other_references) (length later_references) → Follows word (length (reference ∷ other_references)) (length (second_reference ∷ later_references))
+    by_rest (is_stroke spelled) = is_stroke spelled
+    by_rest (is_another next_reference spelled length_below) = is_another next_reference spelled (omega (arith, length_below))
 
 -- references alone have no stroke among them
-pub no_stroke : (ws vs : List (List ℕ)) (references other_references : List Reference) (more : List (List ℕ)) → AreReferences ws references → AreReferences vs other_references → ws ≡ vs ++ codes "/" ∷ more → ⊥
-no_stroke [] [] references other_references more a b same = absurd (let sizes = ap length same in omega (arith, sizes))
-no_stroke [] (v ∷ vs) references other_references more a b same = absurd (let sizes = ap length same in omega (arith, sizes))
-no_stroke (u ∷ ws) vs [] references more a b same = absurd a
-no_stroke (u ∷ ws) [] (reference ∷ other_references) references more a b same = stroke u reference a.0 (cons_injective u (codes "/") ws more same).0
-no_stroke (u ∷ ws) (v ∷ vs) (reference ∷ other_references) [] more references b same = absurd b
-no_stroke (u ∷ ws) (v ∷ vs) (reference ∷ other_references) (other_reference ∷ rest) more references b same = no_stroke ws vs other_references rest more references.1 b.1 (cons_injective u v ws (vs ++ codes "/" ∷ more) same).1
+pub no_stroke : (first_words second_words : List (List ℕ)) (references other_references : List Reference) (later_words : List (List ℕ)) → AreReferences first_words references → AreReferences second_words other_references → first_words ≡ second_words ++ codes "/" ∷ later_words → ⊥
+no_stroke [] [] references other_references later_words first_spelled second_spelled same_words = absurd (let sizes = ap length same_words in omega (arith, sizes))
+no_stroke [] (second_word ∷ second_words) references other_references later_words first_spelled second_spelled same_words = absurd (let sizes = ap length same_words in omega (arith, sizes))
+no_stroke (first_word ∷ first_words) second_words [] references later_words first_spelled second_spelled same_words = absurd first_spelled
+no_stroke (first_word ∷ first_words) [] (reference ∷ other_references) references later_words first_spelled second_spelled same_words = stroke first_word reference first_spelled.0 (cons_injective first_word (codes "/") first_words later_words same_words).0
+no_stroke (first_word ∷ first_words) (second_word ∷ second_words) (reference ∷ other_references) [] later_words references second_spelled same_words = absurd second_spelled
+no_stroke (first_word ∷ first_words) (second_word ∷ second_words) (reference ∷ other_references) (second_reference ∷ rest) later_words references second_spelled same_words = no_stroke first_words second_words other_references rest later_words references.1 second_spelled.1 (cons_injective first_word second_word first_words (second_words ++ codes "/" ∷ later_words) same_words).1
 
 -- behind the same references up to a stroke stand the same words
-pub same_behind : (ws vs : List (List ℕ)) (references other_references : List Reference) (more rest : List (List ℕ)) → AreReferences ws references → AreReferences vs other_references
-    → ws ++ codes "/" ∷ more ≡ vs ++ codes "/" ∷ rest → (ws ≡ vs) × (more ≡ rest)
-same_behind [] [] references other_references more rest a b same = (refl, (cons_injective (codes "/") (codes "/") more rest same).1)
-same_behind [] (v ∷ vs) references [] more rest a b same = absurd b
-same_behind [] (v ∷ vs) references (reference ∷ other_references) more rest a b same = absurd (stroke v reference b.0 (sym (cons_injective (codes "/") v more (vs ++ codes "/" ∷ rest) same).0))
-same_behind (u ∷ ws) [] [] references more rest a b same = absurd a
-same_behind (u ∷ ws) [] (reference ∷ other_references) references more rest a b same = absurd (stroke u reference a.0 (cons_injective u (codes "/") (ws ++ codes "/" ∷ more) rest same).0)
-same_behind (u ∷ ws) (v ∷ vs) [] references more rest a b same = absurd a
-same_behind (u ∷ ws) (v ∷ vs) (reference ∷ other_references) [] more rest references b same = absurd b
-same_behind (u ∷ ws) (v ∷ vs) (reference ∷ other_references) (other_reference ∷ qs) more rest references b same =
-    let here = cons_injective u v (ws ++ codes "/" ∷ more) (vs ++ codes "/" ∷ rest) same in
-    let later = same_behind ws vs other_references qs more rest references.1 b.1 here.1 in
-    (ap (λ (t : List ℕ). t ∷ ws) here.0 ∙ ap (λ (ts : List (List ℕ)). v ∷ ts) later.0, later.1)
+pub same_behind : (first_words second_words : List (List ℕ)) (references other_references : List Reference) (later_words rest : List (List ℕ)) → AreReferences first_words references → AreReferences second_words other_references
+    → first_words ++ codes "/" ∷ later_words ≡ second_words ++ codes "/" ∷ rest → (first_words ≡ second_words) × (later_words ≡ rest)
+same_behind [] [] references other_references later_words rest first_spelled second_spelled same_words = (refl, (cons_injective (codes "/") (codes "/") later_words rest same_words).1)
+same_behind [] (second_word ∷ second_words) references [] later_words rest first_spelled second_spelled same_words = absurd second_spelled
+same_behind [] (second_word ∷ second_words) references (reference ∷ other_references) later_words rest first_spelled second_spelled same_words = absurd (stroke second_word reference second_spelled.0 (sym (cons_injective (codes "/") second_word later_words (second_words ++ codes "/" ∷ rest) same_words).0))
+same_behind (first_word ∷ first_words) [] [] references later_words rest first_spelled second_spelled same_words = absurd first_spelled
+same_behind (first_word ∷ first_words) [] (reference ∷ other_references) references later_words rest first_spelled second_spelled same_words = absurd (stroke first_word reference first_spelled.0 (cons_injective first_word (codes "/") (first_words ++ codes "/" ∷ later_words) rest same_words).0)
+same_behind (first_word ∷ first_words) (second_word ∷ second_words) [] references later_words rest first_spelled second_spelled same_words = absurd first_spelled
+same_behind (first_word ∷ first_words) (second_word ∷ second_words) (reference ∷ other_references) [] later_words rest references second_spelled same_words = absurd second_spelled
+same_behind (first_word ∷ first_words) (second_word ∷ second_words) (reference ∷ other_references) (second_reference ∷ later_references) later_words rest references second_spelled same_words =
+    let parts_same = cons_injective first_word second_word (first_words ++ codes "/" ∷ later_words) (second_words ++ codes "/" ∷ rest) same_words in
+    let later = same_behind first_words second_words other_references later_references later_words rest references.1 second_spelled.1 parts_same.1 in
+    (ap (λ (any_text : List ℕ). any_text ∷ first_words) parts_same.0 ∙ ap (λ (ts : List (List ℕ)). second_word ∷ ts) later.0, later.1)
 
-pub length_refs : (ws : List (List ℕ)) (references : List Reference) → AreReferences ws references → length ws ≡ length references
+pub length_refs : (words : List (List ℕ)) (references : List Reference) → AreReferences words references → length words ≡ length references
 length_refs [] [] references = refl
-length_refs [] (reference ∷ other_references) references = absurd references
-length_refs (w ∷ ws) [] references = absurd references
-length_refs (w ∷ ws) (reference ∷ other_references) references = ap suc (length_refs ws other_references references.1)
+length_refs [] (reference ∷ later_references) references = absurd references
+length_refs (word ∷ words) [] references = absurd references
+length_refs (word ∷ words) (reference ∷ later_references) references = ap suc (length_refs words later_references references.1)

@@ -56,57 +56,57 @@ pub record IsHeapOf (config other_config : Config) : Type 0 where
 
 -- digits with no needless zero in front, of any number
 abbrev pub IsNumeral : List ℕ → Type 0
-IsNumeral w = is_plain_number w ≡ true
+IsNumeral word = is_plain_number word ≡ true
 
 -- The word for a reference: a dash for null; two numbers with a dot between for a name. The numbers may be of any size.
 abbrev pub IsDumpReference : List ℕ → Reference → Type 0
-IsDumpReference w None = w ≡ codes "-"
-IsDumpReference w (Some n) =
-    (thread : List ℕ) × (count : List ℕ) × IsNumeral thread × IsNumeral count × (w ≡ thread ++ codes "." ++ count)
-    × (n.thread ≡ digits_value 10 thread) × (n.count ≡ digits_value 10 count)
+IsDumpReference word None = word ≡ codes "-"
+IsDumpReference word (Some name) =
+    (thread : List ℕ) × (count : List ℕ) × IsNumeral thread × IsNumeral count × (word ≡ thread ++ codes "." ++ count)
+    × (name.thread ≡ digits_value 10 thread) × (name.count ≡ digits_value 10 count)
 
 abbrev pub AreReferences : List (List ℕ) → List Reference → Type 0
 AreReferences [] [] = Unit {0}
 AreReferences [] (reference ∷ references) = ⊥
-AreReferences (w ∷ ws) [] = ⊥
-AreReferences (w ∷ ws) (reference ∷ references) = IsDumpReference w reference × AreReferences ws references
+AreReferences (word ∷ words) [] = ⊥
+AreReferences (word ∷ words) (reference ∷ references) = IsDumpReference word reference × AreReferences words references
 
 -- An object's line: its fields and its name are in range, and its name is behind all before. It may name anything.
 abbrev pub ObjectFollows : Dumped → List ℕ → DumpStage → Type 0
-ObjectFollows dump text next =
+ObjectFollows dump text next_stage =
     (row : Row) × (words : List (List ℕ)) × (dump.roots ≡ []) × IsRow dump.counts row × InOrder (names_in (with_row dump row)) × AreReferences words row.refs
-    × Spells text (line_of (codes "object" ∷ name_word row.name ∷ (words ++ codes "/" ∷ map decimal row.nums))) × (next ≡ Listed (with_row dump row))
+    × Spells text (line_of (codes "object" ∷ name_word row.name ∷ (words ++ codes "/" ∷ map decimal row.nums))) × (next_stage ≡ Listed (with_row dump row))
 
 -- the line of the roots of the next thread, which may name anything
 abbrev pub RootsFollow : Dumped → List ℕ → DumpStage → Type 0
-RootsFollow dump text next =
+RootsFollow dump text next_stage =
     (roots : List Reference) × (words : List (List ℕ)) × (length dump.roots < dump.config.mutators) × (length roots ≡ 16) × AreReferences words roots
-    × Spells text (line_of (codes "roots" ∷ decimal (length dump.roots + 1) ∷ words)) × (next ≡ Listed (with_roots dump roots))
+    × Spells text (line_of (codes "roots" ∷ decimal (length dump.roots + 1) ∷ words)) × (next_stage ≡ Listed (with_roots dump roots))
 
 -- the line `trace`, behind a whole dump
 abbrev pub MarkFollows : Dumped → List ℕ → DumpStage → Type 0
-MarkFollows dump text next = IsDump dump × Spells text mark_line × (next ≡ Behind (Commands run_version dump.config))
+MarkFollows dump text next_stage = IsDump dump × Spells text mark_line × (next_stage ≡ Behind (Commands run_version dump.config))
 
 -- this text, with the end of its line, may stand there, and what is to stand on the next line
 abbrev pub DumpFollows : DumpStage → List ℕ → DumpStage → Type 0
-DumpFollows Version text next = Spells text (titled (codes "dump") (1 ∷ [])) × (next ≡ Heap)
-DumpFollows Heap text next = (config : Config) × IsNarrow config × Spells text (heap_line config) × (next ≡ Threads config)
-DumpFollows (Threads sizes) text next = (config : Config) × IsHeapOf sizes config × Spells text (threads_line config) × (next ≡ Counts config)
-DumpFollows (Counts config) text next =
+DumpFollows Version text next_stage = Spells text (titled (codes "dump") (1 ∷ [])) × (next_stage ≡ Heap)
+DumpFollows Heap text next_stage = (config : Config) × IsNarrow config × Spells text (heap_line config) × (next_stage ≡ Threads config)
+DumpFollows (Threads sizes) text next_stage = (config : Config) × IsHeapOf sizes config × Spells text (threads_line config) × (next_stage ≡ Counts config)
+DumpFollows (Counts config) text next_stage =
     (counts : List ℕ) × (length counts ≡ config.mutators) × All (λ n. n ≤ most_made) counts × Spells text (titled (codes "counts") counts)
-    × (next ≡ Listed (record { config = config; counts = counts; rows = []; roots = [] }))
-DumpFollows (Listed dump) text next = ObjectFollows dump text next ⊎ (RootsFollow dump text next ⊎ MarkFollows dump text next)
-DumpFollows (Behind stage) text next = (after : LineStage) × LineFollows stage text after × (next ≡ Behind after)
+    × (next_stage ≡ Listed (record { config = config; counts = counts; rows = []; roots = [] }))
+DumpFollows (Listed dump) text next_stage = ObjectFollows dump text next_stage ⊎ (RootsFollow dump text next_stage ⊎ MarkFollows dump text next_stage)
+DumpFollows (Behind stage) text next_stage = (after : LineStage) × LineFollows stage text after × (next_stage ≡ Behind after)
 
 -- these lines follow one on the other
 abbrev pub DumpLead : DumpStage → List (List ℕ) → DumpStage → Type 0
 DumpLead stage [] end = stage ≡ end
-DumpLead stage (text ∷ texts) end = (next : DumpStage) × DumpFollows stage text next × DumpLead next texts end
+DumpLead stage (text ∷ texts) end = (next_stage : DumpStage) × DumpFollows stage text next_stage × DumpLead next_stage texts end
 
 -- the bytes end before the line `trace`: within a line, or behind one
 abbrev pub ends_by : List ℕ → Why
 ends_by [] = DumpWanted
-ends_by (b ∷ text) = EndOfLine
+ends_by (byte ∷ text) = EndOfLine
 
 -- The first of these lines, the last of which has no end, may not stand there, and why. Behind the line `trace` it is the first
 -- cause that holds for a line of a trace.
@@ -114,7 +114,7 @@ abbrev pub StopsFor : DumpStage → List (List ℕ) → Why → Type 0
 StopsFor (Behind stage) texts why = cause_of stage texts ≡ Some why
 StopsFor stage [] why = ⊥
 StopsFor stage (text ∷ []) why = why ≡ ends_by text
-StopsFor stage (text ∷ next ∷ more) why = (why ≡ DumpWanted) × ((after : DumpStage) → DumpFollows stage text after → ⊥)
+StopsFor stage (text ∷ next_text ∷ rest) why = (why ≡ DumpWanted) × ((after : DumpStage) → DumpFollows stage text after → ⊥)
 
 -- Line n, counted from 1, is the first that is at fault, and why.
 pub record DumpStopsAt (bytes : List ℕ) (n : ℕ) (why : Why) : Type 0 where

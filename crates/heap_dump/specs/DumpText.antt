@@ -15,7 +15,7 @@ sizes_head config =
 
 -- the line of the roots of a thread, counted from 1
 abbrev pub roots_line_in : List (List Reference) → ℕ → List ℕ
-roots_line_in roots t = roots_line t (λ index. slice_index_or (slice_index_or roots (t - 1) []) index None)
+roots_line_in roots thread = roots_line thread (λ index. slice_index_or (slice_index_or roots (thread - 1) []) index None)
 
 -- the head, a line of how many objects each thread made, a line for each object, and a line for the roots of each thread; the
 -- last two as in an answer

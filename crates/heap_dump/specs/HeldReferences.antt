@@ -16,7 +16,7 @@ held_name name = if fits name then name else nameless
 
 abbrev pub held : Reference → Reference
 held None = None
-held (Some n) = Some (held_name n)
+held (Some name) = Some (held_name name)
 
 abbrev pub held_row : Row → Row
 held_row row = record { name = row.name; refs = map held row.refs; nums = row.nums }

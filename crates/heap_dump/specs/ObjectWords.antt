@@ -33,7 +33,7 @@ pub record AreRowWords (counts : List ℕ) (words : List (List ℕ)) (r : Row) :
 abbrev pub IsBehindLast : List Name → Name → Type 0
 IsBehindLast [] name = Unit {0}
 IsBehindLast (other_name ∷ []) name = IsBefore other_name name
-IsBehindLast (m ∷ k ∷ ns) name = IsBehindLast (k ∷ ns) name
+IsBehindLast (first_name ∷ second_name ∷ later_names) name = IsBehindLast (second_name ∷ later_names) name
 
 -- the hub has 16 references and no number
 abbrev pub HasHubFields : Row → Type 0

@@ -25,4 +25,4 @@ pub record StopsAt (stage : DumpStage) (first : ℕ) (bytes : List ℕ) (n : ℕ
 
 -- a fault that names that line
 abbrev pub IsStop : DumpStage → ℕ → List ℕ → TraceFault → Type 0
-IsStop stage first bytes fault = (n : ℕ) × (why : Why) × (fault ≡ BadLine n why) × StopsAt stage first bytes n why
+IsStop stage first bytes fault = (line : ℕ) × (why : Why) × (fault ≡ BadLine line why) × StopsAt stage first bytes line why

@@ -14,7 +14,7 @@ use Rattle.step_core.specs.Fit.{IsWholeImage}
 
 -- a word that is fit for the control as a machine is fit for the control
 pub fit_for_control : (config : Config) (phase : ℕ) (spot : ControlSpot) (image : List ℕ) (got : ℕ) → IsWholeImage config phase spot image got → UnitGoesOn config spot got → fits_with config spot phase image got
-fit_for_control config phase (LoadWord index extent) image got whole goes = λ last.
-    ∥∥₁_elim (whole last) (can_collect_prop config (extent_after phase index extent got) (image_view config (loaded_all config image got)))
-    (λ h. part_of_some_can config (extent_after phase index extent got) h.0 (loaded_all config image got) h.1 h.2 h.4 h.5 h.6)
-fit_for_control config phase _ image got whole goes = goes
+fit_for_control config phase (LoadWord index extent) image got whole_image unit_goes = λ is_last.
+    ∥∥₁_elim (whole_image is_last) (can_collect_prop config (extent_after phase index extent got) (image_view config (loaded_all config image got)))
+    (λ whole_found. part_of_some_can config (extent_after phase index extent got) whole_found.0 (loaded_all config image got) whole_found.1 whole_found.2 whole_found.4 whole_found.5 whole_found.6)
+fit_for_control config phase _ image got whole_image unit_goes = unit_goes

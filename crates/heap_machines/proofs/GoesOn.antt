@@ -51,8 +51,8 @@ abbrev InCall : Spot → Type 0
 InCall spot = is_between_calls spot ≡ false
 
 either : (holds : Bool) (spot other_spot : Spot) → InCall spot → InCall other_spot → InCall (if holds then spot else other_spot)
-either true spot other_spot one other = one
-either false spot other_spot one other = other
+either true spot other_spot first_goes second_goes = first_goes
+either false spot other_spot first_goes second_goes = second_goes
 
 in_enter : (next : Entered) (spot : EnterSpot) → InCall (after_enter next spot)
 in_enter Call Inside = refl
@@ -70,7 +70,7 @@ in_first_spot _ = refl
 in_roots : (command : Command) (first second third : ℕ) → InCall (after_roots command first second third)
 in_roots (Copy dst src) first second third = refl
 in_roots (Pin slot obj) first second third = refl
-in_roots (Same a b) first second third = refl
+in_roots (Same first_root second_root) first second third = refl
 in_roots _ first second third = refl
 
 in_first : (command : Command) (first : ℕ) → InCall (after_first command first)
@@ -160,7 +160,7 @@ in_pin value command pin.Store got = refl
 
 in_make : (config : Config) (seat made : ℕ) (command : Command) (spot : MakeSpot) (got : ℕ) → InCall (make_next config seat made command spot got)
 in_make config seat made command (make.Taking take) got = in_take (take_next config command take got)
-in_make config seat made command (make.StoreWord address done) got = refl
+in_make config seat made command (make.StoreWord address words_done) got = refl
 in_make config seat made command (make.StoreRoot address) got = refl
 
 in_wait : (seat made : ℕ) (spot : WaitSpot) (got : ℕ) → InCall (wait_next seat made spot got)
@@ -169,21 +169,21 @@ in_wait seat made _ got = refl
 
 -- a call that is in progress goes on, but where its mutator leaves
 pub call_goes_on : (config : Config) (mutator : Mutating) (got : ℕ) (spot : Spot) → is_between_calls spot ≡ false → given_at spot ≡ None → is_between_calls (next_at config mutator Nothing got spot).spot ≡ false
-call_goes_on config mutator got Rest busy none = absurd (cc (busy))
-call_goes_on config mutator got (Ended reply) busy none = absurd (cc (busy))
-call_goes_on config mutator got Gone busy none = absurd (cc (busy))
-call_goes_on config mutator got (Entering spot next) busy none = in_enter next (enter_next spot got)
-call_goes_on config mutator got LoadPhase busy none = refl
-call_goes_on config mutator got LoadSet busy none = in_first_spot mutator.kept.command
-call_goes_on config mutator got (Loading spot) busy none = in_load mutator.kept.phase mutator.kept.command spot got
-call_goes_on config mutator got (OnField object spot) busy none = in_field config mutator.kept.phase mutator.kept.cset object spot got
-call_goes_on config mutator got (Resolving address spot next) busy none = in_resolve address next (resolves.next_at config address mutator.kept.phase spot got)
-call_goes_on config mutator got (Recording spot address next) busy none = in_remember address next (satb.next_at spot got)
-call_goes_on config mutator got (OnNumber object refs spot) busy none = in_numbers spot got
-call_goes_on config mutator got (Showing value spot) busy none = in_show value spot got
-call_goes_on config mutator got (StoreRoot value) busy none = refl
-call_goes_on config mutator got (Making spot) busy none = in_make config mutator.seat mutator.made mutator.kept.command spot got
-call_goes_on config mutator got AskCycle busy none = refl
-call_goes_on config mutator got (Pinning value spot) busy none = in_pin value mutator.kept.command spot got
-call_goes_on config mutator got (Waiting spot) busy none = in_wait mutator.seat mutator.made spot got
-call_goes_on config mutator got (Leave reply) busy none = absurd (cc (none))
+call_goes_on config mutator got Rest spot_busy none_given = absurd (cc (spot_busy))
+call_goes_on config mutator got (Ended reply) spot_busy none_given = absurd (cc (spot_busy))
+call_goes_on config mutator got Gone spot_busy none_given = absurd (cc (spot_busy))
+call_goes_on config mutator got (Entering spot next) spot_busy none_given = in_enter next (enter_next spot got)
+call_goes_on config mutator got LoadPhase spot_busy none_given = refl
+call_goes_on config mutator got LoadSet spot_busy none_given = in_first_spot mutator.kept.command
+call_goes_on config mutator got (Loading spot) spot_busy none_given = in_load mutator.kept.phase mutator.kept.command spot got
+call_goes_on config mutator got (OnField object spot) spot_busy none_given = in_field config mutator.kept.phase mutator.kept.cset object spot got
+call_goes_on config mutator got (Resolving address spot next) spot_busy none_given = in_resolve address next (resolves.next_at config address mutator.kept.phase spot got)
+call_goes_on config mutator got (Recording spot address next) spot_busy none_given = in_remember address next (satb.next_at spot got)
+call_goes_on config mutator got (OnNumber object refs spot) spot_busy none_given = in_numbers spot got
+call_goes_on config mutator got (Showing value spot) spot_busy none_given = in_show value spot got
+call_goes_on config mutator got (StoreRoot value) spot_busy none_given = refl
+call_goes_on config mutator got (Making spot) spot_busy none_given = in_make config mutator.seat mutator.made mutator.kept.command spot got
+call_goes_on config mutator got AskCycle spot_busy none_given = refl
+call_goes_on config mutator got (Pinning value spot) spot_busy none_given = in_pin value mutator.kept.command spot got
+call_goes_on config mutator got (Waiting spot) spot_busy none_given = in_wait mutator.seat mutator.made spot got
+call_goes_on config mutator got (Leave reply) spot_busy none_given = absurd (cc (none_given))

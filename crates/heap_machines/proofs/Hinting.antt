@@ -15,20 +15,20 @@ hint_back (Some address) = refl
 
 -- so a machine goes on with just that
 pub helped : (config : Config) (hint : Option ℕ) (helper : Helping) → helping_by config (hinting hint) helper ≡ help_hinted config hint helper
-helped config hint helper = ap (λ o. help_hinted config o helper) (hint_back hint)
+helped config hint helper = ap (λ known_hint. help_hinted config known_hint helper) (hint_back hint)
 
 pub controlled : (config : Config) (hint : Option ℕ) (control : Controlling) → controlling_by config (hinting hint) control ≡ control_hinted config hint control
-controlled config hint control = ap (λ o. control_hinted config o control) (hint_back hint)
+controlled config hint control = ap (λ known_hint. control_hinted config known_hint control) (hint_back hint)
 
 -- where it has a turn under a hint it has not ended
-pub goes_with_hint : (working gone : Bool) → (working && (if gone then false else true)) ≡ true → gone ≡ false
-goes_with_hint working false goes = refl
-goes_with_hint true true goes = absurd (cc (goes))
-goes_with_hint false true goes = absurd (cc (goes))
+pub goes_with_hint : (working has_gone : Bool) → (working && (if has_gone then false else true)) ≡ true → has_gone ≡ false
+goes_with_hint working false has_turn = refl
+goes_with_hint true true has_turn = absurd (cc (has_turn))
+goes_with_hint false true has_turn = absurd (cc (has_turn))
 
 -- who takes a hint has loaded no image
 pub whole_with_hint : (config : Config) (hint : Option ℕ) (control : Controlling) (got : ℕ) → IsWholeImage config control.phase control.spot control.image got
     → IsWholeImage config (control_hinted config hint control).phase (control_hinted config hint control).spot (control_hinted config hint control).image got
-whole_with_hint config None control got whole = whole
-whole_with_hint config (Some address) control got whole =
-    by_unit config (λ spot next. IsWholeImage config control.phase spot control.image got → IsWholeImage config control.phase next control.image got) (Some address) (λ spot same. same) (λ at same. tt) control.spot whole
+whole_with_hint config None control got whole_image = whole_image
+whole_with_hint config (Some address) control got whole_image =
+    by_unit config (λ spot next. IsWholeImage config control.phase spot control.image got → IsWholeImage config control.phase next control.image got) (Some address) (λ spot same_image. same_image) (λ unit_spot same_image. tt) control.spot whole_image

@@ -20,29 +20,29 @@ use Rattle.heap_machines.proofs.Turns.{begins_at_rest}
 abbrev pub HasNames : Machine → (script replies : ℕ) → Type 0
 HasNames machine script replies = made_of_machine machine + script < most_objects + (replies + at_hand_of machine)
 
-module _ (change : Change) (config : Config) (order : Order) (got : ℕ) (machine : Machine) (script replies : ℕ) (names : HasNames machine script replies) where
+module _ (change : Change) (config : Config) (order : Order) (got : ℕ) (machine : Machine) (script replies : ℕ) (names_held : HasNames machine script replies) where
   -- after a step that gives no reply
   pub names_on : reply_of_step machine ≡ None → HasNames (machine_after change config order got machine) script replies
-  names_on none = let step = none_after change config order got machine none in omega (arith, step, names)
+  names_on no_reply = let step = none_after change config order got machine no_reply in omega (arith, step, names_held)
 
   -- and after one whose reply was noted
   pub names_noted : (reply : Reply) → reply_of_step machine ≡ Some reply → HasNames (machine_after change config order got machine) script (replies + 1)
   names_noted reply gives =
       let step = given_after change config order got machine reply gives in
-      let made = step.made in
+      let step_made = step.made in
       let at_hand_before = step.was_at_hand in
-      omega (arith, made, at_hand_before, names)
+      omega (arith, step_made, at_hand_before, names_held)
 
 -- the command that follows in its script can be given
 pub command_fits : (machine : Machine) (script : List Command) (replies : ℕ) → All IsValid script → HasNames machine (length script) replies → may_begin machine ≡ true
     → IfSome (slice_get script replies) (λ command. IsValid command × (made_of_machine machine < most_objects))
-command_fits machine script replies commands names may = by_next (slice_get script replies) refl
+command_fits machine script replies commands names_held free_to_begin = by_next (slice_get script replies) refl
   where
     by_next : (found : Option Command) → slice_get script replies ≡ found → IfSome found (λ command. IsValid command × (made_of_machine machine < most_objects))
-    by_next None here = tt
-    by_next (Some command) here = (
-      element_of_all IsValid script replies command commands here,
-      (let more = slice_get_within script replies command here in
-          let none = rest_at_hand machine (begins_at_rest machine may) in
-          omega (arith, names, more, none)),
+    by_next None script_gives = tt
+    by_next (Some command) script_gives = (
+      element_of_all IsValid script replies command commands script_gives,
+      (let script_goes = slice_get_within script replies command script_gives in
+          let none_at_hand = rest_at_hand machine (begins_at_rest machine free_to_begin) in
+          omega (arith, names_held, script_goes, none_at_hand)),
     )

@@ -17,12 +17,12 @@ pub text_unpinned : (text : Text) (counts : List ℕ) (thread slot : ℕ) → (t
 unfolding graph_of
 text_unpinned text counts thread slot = refl
 
-pub placed_can_begin : (config : Config) (text : Text) (counts : List ℕ) (memory : Word → ℕ) → IsPlaced config (text_anew text) memory → Represents config memory (text_graph (text_anew text) counts) (λ m. nothing)
+pub placed_can_begin : (config : Config) (text : Text) (counts : List ℕ) (memory : Word → ℕ) → IsPlaced config (text_anew text) memory → Represents config memory (text_graph (text_anew text) counts) (λ number. nothing)
     → CanBeginFrom config memory counts (text_graph (text_anew text) counts)
-placed_can_begin config text counts memory placed stands = record {
-  stands = stands;
-  outside = record { pause = placed.others Pause refl; states = λ seat below. placed.others (State seat) refl; left = placed.left };
-  counts_are = λ m below.
-      let next : m + 1 ≡ suc m = omega arith in
-      ap (text_graph (text_anew text) counts).count next ∙ text_count (text_anew text) counts m;
+placed_can_begin config text counts memory placed graph_stands = record {
+  stands = graph_stands;
+  outside = record { pause = placed.others Pause refl; states = λ seat number_below. placed.others (State seat) refl; left = placed.left };
+  counts_are = λ number number_below.
+      let next_number : number + 1 ≡ suc number = omega arith in
+      ap (text_graph (text_anew text) counts).count next_number ∙ text_count (text_anew text) counts number;
 }

@@ -25,7 +25,7 @@ pub next_out : (seats : ℕ) (memory : Word → ℕ) → write (words_left_out s
 next_out seats memory = fun_ext (λ word. next_at seats memory word)
 
 -- a seat that there is not has no word
-all_out : (below : Bool) (x : ℕ) → (if below then 0 else (if below then x else 0)) ≡ 0
+all_out : (is_below : Bool) (x : ℕ) → (if is_below then 0 else (if is_below then x else 0)) ≡ 0
 all_out true x = refl
 all_out false x = refl
 

@@ -50,60 +50,60 @@ role_stays change config order got _ = refl
 
 -- only a mutator rests between calls
 pub rest_is_mutating : (machine : Machine) → is_resting machine ≡ true → is_mutating machine ≡ true
-rest_is_mutating (mutating mutator) rest = refl
-rest_is_mutating _ rest = absurd cc
+rest_is_mutating (mutating mutator) machine_rests = refl
+rest_is_mutating _ machine_rests = absurd cc
 
 -- whom no command is for does the same whatever would follow
 pub order_alike : (machine : Machine) (found other_found : Option Command) → is_mutating machine ≡ false → order_for found machine ≡ order_for other_found machine
-order_alike (mutating mutator) found other_found other = absurd cc
-order_alike _ found other_found other = refl
+order_alike (mutating mutator) found other_found not_mutating = absurd cc
+order_alike _ found other_found not_mutating = refl
 
 -- who may be given a command rests
 pub begins_at_rest : (machine : Machine) → may_begin machine ≡ true → is_resting machine ≡ true
-begins_at_rest (mutating mutator) may = by_spot mutator.spot may
+begins_at_rest (mutating mutator) free_to_begin = by_spot mutator.spot free_to_begin
   where
     by_spot : (spot : Spot) → takes_commands spot ≡ true → is_between_calls spot ≡ true
-    by_spot Rest may = refl
-    by_spot (Ended reply) may = refl
-    by_spot _ may = absurd cc
-begins_at_rest _ may = absurd cc
+    by_spot Rest free_to_begin = refl
+    by_spot (Ended reply) free_to_begin = refl
+    by_spot _ free_to_begin = absurd cc
+begins_at_rest _ free_to_begin = absurd cc
 
 -- whether it has a turn then
 pub turn_is_some : (machine : Machine) (next : Option Command) (holds : Bool) → may_begin machine ≡ false → takes_of machine Nothing ≡ holds → is_some (order_for next machine) ≡ holds
-turn_is_some machine next holds busy takes = ap is_some (turn_in_call machine next busy) ∙ by_takes (takes_of machine Nothing) ∙ takes
+turn_is_some machine next holds machine_busy takes = ap is_some (turn_in_call machine next machine_busy) ∙ by_takes (takes_of machine Nothing) ∙ takes
   where
     by_takes : (other_holds : Bool) → is_some (if◌then◌else◌ {A = Option Order} other_holds (Some Nothing) None) ≡ other_holds
     by_takes true = refl
     by_takes false = refl
 
 pub turn_at_rest : (machine : Machine) (next : Option Command) → may_begin machine ≡ true → order_for next machine ≡ Some (next_order next)
-turn_at_rest (mutating mutator) next rest = rw rest refl
-turn_at_rest _ next rest = absurd cc
+turn_at_rest (mutating mutator) next machine_free = rw machine_free refl
+turn_at_rest _ next machine_free = absurd cc
 
 -- between two calls nothing is done without an order
 pub rest_takes : (machine : Machine) → is_resting machine ≡ true → takes_of machine Nothing ≡ false
-rest_takes (mutating mutator) rest = by_spot mutator.spot rest
+rest_takes (mutating mutator) machine_rests = by_spot mutator.spot machine_rests
   where
     by_spot : (spot : Spot) → is_between_calls spot ≡ true → takes_at spot mutator.made Nothing ≡ false
-    by_spot Rest rest = refl
-    by_spot (Ended reply) rest = refl
-    by_spot Gone rest = refl
-    by_spot _ rest = absurd cc
-rest_takes _ rest = absurd cc
+    by_spot Rest spot_rests = refl
+    by_spot (Ended reply) spot_rests = refl
+    by_spot Gone spot_rests = refl
+    by_spot _ spot_rests = absurd cc
+rest_takes _ machine_rests = absurd cc
 
 -- a mutator in a call goes on with it
 goes_on_in_call : (spot : Spot) (next : Option Command) → is_between_calls spot ≡ false
     → ◌≡◌ {A = Option Order} (if takes_commands spot then Some (next_order next) else (if is_between_calls spot then None else Some Nothing)) (Some Nothing)
-goes_on_in_call Rest next busy = absurd (cc (busy))
-goes_on_in_call (Ended reply) next busy = absurd (cc (busy))
-goes_on_in_call Gone next busy = absurd (cc (busy))
-goes_on_in_call _ next busy = refl
+goes_on_in_call Rest next spot_busy = absurd (cc (spot_busy))
+goes_on_in_call (Ended reply) next spot_busy = absurd (cc (spot_busy))
+goes_on_in_call Gone next spot_busy = absurd (cc (spot_busy))
+goes_on_in_call _ next spot_busy = refl
 
 -- where its next access stands
 pub stands_in_call : (mutator : Mutating) (next : Option Command) (place : Place) → is_between_calls mutator.spot ≡ false → is_machine_at place (mutating mutator) (order_for next (mutating mutator)) ≡ same_place (place_at Nothing mutator.spot) place
-stands_in_call mutator next place busy = ap (is_machine_at place (mutating mutator)) (goes_on_in_call mutator.spot next busy)
+stands_in_call mutator next place spot_busy = ap (is_machine_at place (mutating mutator)) (goes_on_in_call mutator.spot next spot_busy)
 
 -- a mutator that is not idle and has no order is in a call
 pub busy_without_order : (holds : Bool) (order : Order) → order ≡ Nothing → holds && is_nothing order ≡ false → holds ≡ false
-busy_without_order true order none busy = absurd (let same : is_nothing order ≡ true = ap is_nothing none in cc)
-busy_without_order false order none busy = refl
+busy_without_order true order no_order order_busy = absurd (let same_test : is_nothing order ≡ true = ap is_nothing no_order in cc)
+busy_without_order false order no_order order_busy = refl

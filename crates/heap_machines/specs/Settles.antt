@@ -29,7 +29,7 @@ refused_word _ before after = None
 
 -- by an access
 abbrev pub refused_access : Config → List ℕ → Access → Option ℕ
-refused_access config words (Store at value) = refused_word (name_of config at) (slice_index words at) value
+refused_access config words (Store index value) = refused_word (name_of config index) (slice_index words index) value
 refused_access config words _ = None
 
 -- by the next access of the control, which stores the words of a new image

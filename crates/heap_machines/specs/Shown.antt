@@ -15,9 +15,9 @@ use Rattle.heap_machines.specs.declared.machine.Machine.{Machine}
 use Rattle.heap_machines.specs.declared.machine.Machine.TheVariants.{Mutator, Helper, Control}
 
 abbrev pub shown : Machine → actors.Machine
-shown (Mutator m) = actors.mutating (seen.seen m)
-shown (Helper h) = actors.helping (helpers.seen_helper h)
-shown (Control k) = actors.controlling (controls.seen_control k)
+shown (Mutator mutator) = actors.mutating (seen.seen mutator)
+shown (Helper helper) = actors.helping (helpers.seen_helper helper)
+shown (Control control) = actors.controlling (controls.seen_control control)
 
 -- a machine of no heap, which stands where there is none
 abbrev pub no_machine : actors.Machine
@@ -25,15 +25,15 @@ no_machine = actors.fresh_helper 0
 
 -- the order that it was given
 abbrev pub order_of : Machine → Order
-order_of (Mutator m) = seen.order_of m
-order_of (Helper h) = hinting (helpers.hint_of h)
-order_of (Control k) = hinting (controls.hint_of k)
+order_of (Mutator mutator) = seen.order_of mutator
+order_of (Helper helper) = hinting (helpers.hint_of helper)
+order_of (Control control) = hinting (controls.hint_of control)
 
 -- the heap that it is of
 abbrev pub config_of : Machine → Config
-config_of (Mutator m) = seen.config_of m
-config_of (Helper h) = helpers.config_of h
-config_of (Control k) = controls.config_in k
+config_of (Mutator mutator) = seen.config_of mutator
+config_of (Helper helper) = helpers.config_of helper
+config_of (Control control) = controls.config_in control
 
 -- whether it makes a step: it takes the order that it was given
 abbrev pub has_turn : Machine → Bool

@@ -18,22 +18,22 @@ use Rattle.table_heap.proofs.Core.{run_from}
 use Rattle.heap_seats.specs.Going.{ArePartOfHistory}
 use Rattle.heap_seats.specs.Histories.{BeginsRenewable, IsLegalFrom}
 
-pub run_is_legal : (config : Config) (start : Stage Actor) (first : Graph) (begins : Begins config start first) (events : List (Event Order)) → IsLegalFrom config start events first
-run_is_legal config start first begins events =
-    let sound = run_sound pause_image heap_pauses config (run_from config start first begins events) in
-    record { legal = sound.legal; crowded = sound.crowded }
+pub run_is_legal : (config : Config) (start : Stage Actor) (first_graph : Graph) (begins : Begins config start first_graph) (events : List (Event Order)) → IsLegalFrom config start events first_graph
+run_is_legal config start first_graph begins events =
+    let sound_run = run_sound pause_image heap_pauses config (run_from config start first_graph begins events) in
+    record { legal = sound_run.legal; crowded = sound_run.crowded }
 
 calls_of_run : (config : Config) (start : Stage Actor) → ∥ BeginsRenewable config start ∥₁ → (number : ℕ) (actor : Actor) → HasReached (heap_kind config) start number actor → is_resting actor.machine ≡ true → ArePartOfHistory config start (number + 1) actor.calls
-calls_of_run config start some number actor has rest = record {
-  events = has.reached.events;
+calls_of_run config start some_beginning number actor has_reached machine_rests = record {
+  events = has_reached.reached.events;
   history = record {
-    some = some;
-    each = λ first begins.
-        let run : Run config = run_from config start first begins has.reached.events in
-        let here : slice_get (ending pause_image config run).machines number ≡ Some actor = ap (λ s. slice_get s.machines number) has.reached.ends ∙ has.here in
-        record { legal = run_is_legal config start first begins has.reached.events; part = entries_at_rest config run number actor here rest };
+    some = some_beginning;
+    each = λ first_graph begins.
+        let run : Run config = run_from config start first_graph begins has_reached.reached.events in
+        let actor_there : slice_get (ending pause_image config run).machines number ≡ Some actor = ap (λ stage. slice_get stage.machines number) has_reached.reached.ends ∙ has_reached.here in
+        record { legal = run_is_legal config start first_graph begins has_reached.reached.events; part = entries_at_rest config run number actor actor_there machine_rests };
   };
 }
 
 pub calls_are_part : (config : Config) (start : Stage Actor) → ∥ BeginsRenewable config start ∥₁ → (number : ℕ) (actor : Actor) → ∥ HasReached (heap_kind config) start number actor ∥₁ → is_resting actor.machine ≡ true → ∥ ArePartOfHistory config start (number + 1) actor.calls ∥₁
-calls_are_part config start some number actor has rest = ∥∥₁_map has (λ reached. calls_of_run config start some number actor reached rest)
+calls_are_part config start some_beginning number actor has_reached machine_rests = ∥∥₁_map has_reached (λ reached. calls_of_run config start some_beginning number actor reached machine_rests)

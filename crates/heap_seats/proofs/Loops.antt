@@ -35,8 +35,8 @@ pub record GoesOn (first now : Seat) (made : ℕ) : Type 0 where
   pub unmoved : made ≡ 0 → IsAsItWas first now
   pub moved : 0 < made → may_begin (machine_of_seat now) ≡ false
 
-was_then : (first now new : Seat) → IsAsItWas first now → IsAsItWas now new → IsAsItWas first new
-was_then first now new as_it_was two = record { actor = two.actor ∙ as_it_was.actor; machine = two.machine ∙ as_it_was.machine; order = two.order ∙ as_it_was.order; steps = two.steps ∙ as_it_was.steps }
+was_then : (first_seat seat_now new : Seat) → IsAsItWas first_seat seat_now → IsAsItWas seat_now new → IsAsItWas first_seat new
+was_then first_seat seat_now new as_it_was later_same = record { actor = later_same.actor ∙ as_it_was.actor; machine = later_same.machine ∙ as_it_was.machine; order = later_same.order ∙ as_it_was.order; steps = later_same.steps ∙ as_it_was.steps }
 
 pub goes_first : (seat : Seat) → GoesOn seat seat 0
 goes_first seat = record {
@@ -45,12 +45,12 @@ goes_first seat = record {
   doing = refl;
   steps = omega arith;
   went = record { words = []; count = refl; machine = refl; order = refl; each = refl };
-  unmoved = λ none. record { actor = refl; machine = refl; order = refl; steps = refl };
-  moved = λ some. absurd (omega (arith, some));
+  unmoved = λ none_made. record { actor = refl; machine = refl; order = refl; steps = refl };
+  moved = λ some_made. absurd (omega (arith, some_made));
 }
 
-pub same_on : (first now new : Seat) → IsSameSeat first now → IsSameSeat now new → IsSameSeat first new
-same_on first now new same_seat two = record { config = two.config ∙ same_seat.config; number = two.number ∙ same_seat.number; heap = two.heap ∙ same_seat.heap }
+pub same_on : (first_seat seat_now new : Seat) → IsSameSeat first_seat seat_now → IsSameSeat seat_now new → IsSameSeat first_seat new
+same_on first_seat seat_now new same_seat later_same = record { config = later_same.config ∙ same_seat.config; number = later_same.number ∙ same_seat.number; heap = later_same.heap ∙ same_seat.heap }
 
 -- where its heap began
 pub start_is : (seat : Seat) → start_in seat.bundle ≡ start_of_seat seat
@@ -58,41 +58,41 @@ start_is seat = ap start_of_key seat.fits.key
 
 -- whenever no call is in progress, its calls are its part of a legal history
 pub seat_legal : (seat : Seat) → is_resting (machine_of_seat seat) ≡ true → ∥ ArePartOfHistory (config_of seat) (start_of_seat seat) (number_of seat + 1) (calls_of seat) ∥₁
-seat_legal seat rest =
-    let a = in_view seat.bundle seat.number seat.here in
-    let machine : machine_of_seat seat ≡ a.0.machine = at_number seat.bundle seat.number a.0 a.1 in
-    let actor : actor_in seat ≡ a.0 = ap (λ o. unwrap_or o nobody) a.1 in
+seat_legal seat machine_rests =
+    let viewed = in_view seat.bundle seat.number seat.here in
+    let same_machine : machine_of_seat seat ≡ viewed.0.machine = at_number seat.bundle seat.number viewed.0 viewed.1 in
+    let actor : actor_in seat ≡ viewed.0 = ap (λ actor_found. unwrap_or actor_found nobody) viewed.1 in
     let start = start_in seat.bundle in
-    let reached : ∥ HasReached (heap_kind seat.config) start seat.number a.0 ∥₁ = subst (λ (config : Config). ∥ HasReached (heap_kind config) start seat.number a.0 ∥₁) seat.same_config (seat.reached seat.number a.0 a.1) in
+    let reached : ∥ HasReached (heap_kind seat.config) start seat.number viewed.0 ∥₁ = subst (λ (config : Config). ∥ HasReached (heap_kind config) start seat.number viewed.0 ∥₁) seat.same_config (seat.reached seat.number viewed.0 viewed.1) in
     subst (λ (stage : Stage Actor). ∥ ArePartOfHistory seat.config stage (seat.number + 1) (calls_of seat) ∥₁) (start_is seat)
     (subst (λ (actor : Actor). ∥ ArePartOfHistory seat.config start (seat.number + 1) actor.calls ∥₁) (sym actor)
-    (calls_are_part seat.config start seat.renewable seat.number a.0 reached (ap is_resting (sym machine) ∙ rest)))
+    (calls_are_part seat.config start seat.renewable seat.number viewed.0 reached (ap is_resting (sym same_machine) ∙ machine_rests)))
 
 -- the calls after a step
-calls_after : (first now new : Seat) (made : ℕ) (said : Stepped) (told : Option Reply) → GoesOn first now made → HasStepped now new said → given_by said (machine_of_seat new) ≡ told
-    → calls_of new ≡ calls_of first ++ entries_of (number_of first) (doing_in first) told
-calls_after first now new made said told on step given =
-    step.calls ∙ ap (λ (es : List Entry). es ++ entries_of (number_of now) (doing_in now) (given_by said (machine_of_seat new))) on.calls
-    ∙ ap (λ (n : ℕ). calls_of first ++ entries_of n (doing_in now) (given_by said (machine_of_seat new))) on.same.number
-    ∙ ap (λ (command : Command). calls_of first ++ entries_of (number_of first) command (given_by said (machine_of_seat new))) on.doing
-    ∙ ap (λ (found : Option Reply). calls_of first ++ entries_of (number_of first) (doing_in first) found) given
+calls_after : (first_seat seat_now new : Seat) (made : ℕ) (said : Stepped) (told : Option Reply) → GoesOn first_seat seat_now made → HasStepped seat_now new said → given_by said (machine_of_seat new) ≡ told
+    → calls_of new ≡ calls_of first_seat ++ entries_of (number_of first_seat) (doing_in first_seat) told
+calls_after first_seat seat_now new made said told gone_on step given_told =
+    step.calls ∙ ap (λ (entry_list : List Entry). entry_list ++ entries_of (number_of seat_now) (doing_in seat_now) (given_by said (machine_of_seat new))) gone_on.calls
+    ∙ ap (λ (n : ℕ). calls_of first_seat ++ entries_of n (doing_in seat_now) (given_by said (machine_of_seat new))) gone_on.same.number
+    ∙ ap (λ (command : Command). calls_of first_seat ++ entries_of (number_of first_seat) command (given_by said (machine_of_seat new))) gone_on.doing
+    ∙ ap (λ (found : Option Reply). calls_of first_seat ++ entries_of (number_of first_seat) (doing_in first_seat) found) given_told
 
 -- one step more, and there is more to do
-pub goes_more : (first now new : Seat) (made : ℕ) (said : Stepped) → GoesOn first now made → IsSameSeat now new → HasStepped now new said → said ≡ stepped.More → GoesOn first new (made + 1)
-goes_more first now new made said on same step is = record {
-  same = same_on first now new on.same same;
-  calls = calls_after first now new made said None on step (ap (λ (x : Stepped). given_by x (machine_of_seat new)) is) ∙ append-nil (calls_of first);
-  doing = step.doing ∙ on.doing;
-  steps = let steps = step.steps in let before = on.steps in omega (arith, steps, before);
-  went = subst (Went first new (made + 1)) (ap (λ (other_stepped : Stepped). replicate made stepped.More ++ other_stepped ∷ []) is ∙ replicate_more made stepped.More) (went_more first now new made (replicate made stepped.More) said on.same on.went step);
-  unmoved = λ none. absurd (omega (arith, none));
-  moved = λ some.
-      ap may_begin step.machine ∙ busy_step (config_of now) (order_in now) (machine_of_seat now) step.got (sym step.answers ∙ is);
+pub goes_more : (first_seat seat_now new : Seat) (made : ℕ) (said : Stepped) → GoesOn first_seat seat_now made → IsSameSeat seat_now new → HasStepped seat_now new said → said ≡ stepped.More → GoesOn first_seat new (made + 1)
+goes_more first_seat seat_now new made said gone_on same_seat step says_more = record {
+  same = same_on first_seat seat_now new gone_on.same same_seat;
+  calls = calls_after first_seat seat_now new made said None gone_on step (ap (λ (x : Stepped). given_by x (machine_of_seat new)) says_more) ∙ append-nil (calls_of first_seat);
+  doing = step.doing ∙ gone_on.doing;
+  steps = let steps = step.steps in let steps_before = gone_on.steps in omega (arith, steps, steps_before);
+  went = subst (Went first_seat new (made + 1)) (ap (λ (other_stepped : Stepped). replicate made stepped.More ++ other_stepped ∷ []) says_more ∙ replicate_more made stepped.More) (went_more first_seat seat_now new made (replicate made stepped.More) said gone_on.same gone_on.went step);
+  unmoved = λ none_made. absurd (omega (arith, none_made));
+  moved = λ some_made.
+      ap may_begin step.machine ∙ busy_step (config_of seat_now) (order_in seat_now) (machine_of_seat seat_now) step.got (sym step.answers ∙ says_more);
 }
 
 -- the steps that were made where this was told
-made_steps : (first new : Seat) (made before : ℕ) (told : Progress) → steps_in new ≡ steps_in first + made → Went first new made (replicate before stepped.More ++ said_last told) → HasMadeSteps first new told
-made_steps first new made before told steps went = record {
+made_steps : (first_seat new : Seat) (made before : ℕ) (told : Progress) → steps_in new ≡ steps_in first_seat + made → Went first_seat new made (replicate before stepped.More ++ said_last told) → HasMadeSteps first_seat new told
+made_steps first_seat new made before told steps went = record {
   words = went.words;
   before = before;
   count = let count = went.count in omega (arith, steps, count);
@@ -102,54 +102,54 @@ made_steps first new made before told steps went = record {
 }
 
 -- and where a step told it
-made_last : (first now new : Seat) (made : ℕ) (said : Stepped) (told : Progress) → GoesOn first now made → HasStepped now new said → said ∷ [] ≡ said_last told → HasMadeSteps first new told
-made_last first now new made said told on step last =
-    made_steps first new (made + 1) made told (let steps = step.steps in let before = on.steps in omega (arith, steps, before))
-    (subst (λ (xs : List Stepped). Went first new (made + 1) (replicate made stepped.More ++ xs)) last (went_more first now new made (replicate made stepped.More) said on.same on.went step))
+made_last : (first_seat seat_now new : Seat) (made : ℕ) (said : Stepped) (told : Progress) → GoesOn first_seat seat_now made → HasStepped seat_now new said → said ∷ [] ≡ said_last told → HasMadeSteps first_seat new told
+made_last first_seat seat_now new made said told gone_on step last_said =
+    made_steps first_seat new (made + 1) made told (let steps = step.steps in let steps_before = gone_on.steps in omega (arith, steps, steps_before))
+    (subst (λ (said_list : List Stepped). Went first_seat new (made + 1) (replicate made stepped.More ++ said_list)) last_said (went_more first_seat seat_now new made (replicate made stepped.More) said gone_on.same gone_on.went step))
 
 -- ---- helpers and the control
 
 seat_role : (seat : Seat) → is_mutating (machine_of_seat seat) ≡ is_mutator seat
 seat_role seat =
-    let a = in_view seat.bundle seat.number seat.here in
-    ap is_mutating (at_number seat.bundle seat.number a.0 a.1) ∙ role_at seat.bundle seat.number a.0 a.1 ∙ ap (λ (config : Config). nat_lt seat.number config.mutators) seat.same_config
+    let viewed = in_view seat.bundle seat.number seat.here in
+    ap is_mutating (at_number seat.bundle seat.number viewed.0 viewed.1) ∙ role_at seat.bundle seat.number viewed.0 viewed.1 ∙ ap (λ (config : Config). nat_lt seat.number config.mutators) seat.same_config
 
 -- only a mutator has a reply, or may be given an order
 reply_is_mutators : (machine : Machine) (reply : Reply) → reply_in machine ≡ Some reply → is_mutating machine ≡ true
-reply_is_mutators (mutating mutator) reply is = refl
-reply_is_mutators _ reply is = absurd cc
+reply_is_mutators (mutating mutator) reply reply_there = refl
+reply_is_mutators _ reply reply_there = absurd cc
 
 begins_is_mutators : (machine : Machine) → may_begin machine ≡ true → is_mutating machine ≡ true
-begins_is_mutators (mutating mutator) may = refl
-begins_is_mutators _ may = absurd cc
+begins_is_mutators (mutating mutator) can_begin = refl
+begins_is_mutators _ can_begin = absurd cc
 
-may_of_free : (turn may : Bool) → progress_at (state_by turn may) ≡ progress.Idle → may ≡ true
-may_of_free false true is = refl
-may_of_free false false is = absurd cc
-may_of_free true may is = absurd cc
+may_of_free : (turn can_begin : Bool) → progress_at (state_by turn can_begin) ≡ progress.Idle → can_begin ≡ true
+may_of_free false true is_idle = refl
+may_of_free false false is_idle = absurd cc
+may_of_free true can_begin is_idle = absurd cc
 
 told_worker : (told : Progress) (machine : Machine) (turn : Bool) → FitsState told machine (state_by turn (may_begin machine)) → is_mutating machine ≡ false → is_of_worker told ≡ true
-told_worker (progress.Replied reply) machine turn fits other = absurd (false≢true (sym other ∙ reply_is_mutators machine reply fits))
-told_worker progress.Idle machine turn fits other = absurd (false≢true (sym other ∙ begins_is_mutators machine (may_of_free turn (may_begin machine) fits)))
-told_worker progress.More machine turn fits other = refl
-told_worker progress.Again machine turn fits other = refl
-told_worker progress.Ended machine turn fits other = refl
+told_worker (progress.Replied reply) machine turn fits not_mutating = absurd (false≢true (sym not_mutating ∙ reply_is_mutators machine reply fits))
+told_worker progress.Idle machine turn fits not_mutating = absurd (false≢true (sym not_mutating ∙ begins_is_mutators machine (may_of_free turn (may_begin machine) fits)))
+told_worker progress.More machine turn fits not_mutating = refl
+told_worker progress.Again machine turn fits not_mutating = refl
+told_worker progress.Ended machine turn fits not_mutating = refl
 
 seat_worker : (seat : Seat) (told : Progress) → FitsState told (machine_of_seat seat) (state_in seat) → is_mutator seat ≡ false → is_of_worker told ≡ true
-seat_worker seat told fits other = told_worker told (machine_of_seat seat) (has_turn seat.bundle seat.number) fits (seat_role seat ∙ other)
+seat_worker seat told fits not_mutator = told_worker told (machine_of_seat seat) (has_turn seat.bundle seat.number) fits (seat_role seat ∙ not_mutator)
 
 -- ---- where it stops
 
 -- a reply ends it
-pub gone_replied : (first now new : Seat) (made steps : ℕ) (said : Stepped) (reply : Reply) → GoesOn first now made → IsSameSeat now new → HasStepped now new said → said ≡ stepped.Done → reply_in (machine_of_seat new) ≡ Some reply → made < steps
-    → HasGoneOn first new steps (progress.Replied reply)
-gone_replied first now new made steps said reply on same step is replied below = record {
-  same = same_on first now new on.same same;
-  calls = calls_after first now new made said (Some reply) on step (ap (λ (x : Stepped). given_by x (machine_of_seat new)) is ∙ replied);
-  doing = step.doing ∙ on.doing;
-  most = omega (arith, step.steps, on.steps, below);
-  all = λ more. absurd cc;
-  made = made_last first now new made said (progress.Replied reply) on step (ap (λ (x : Stepped). x ∷ []) is);
+pub gone_replied : (first_seat seat_now new : Seat) (made steps : ℕ) (said : Stepped) (reply : Reply) → GoesOn first_seat seat_now made → IsSameSeat seat_now new → HasStepped seat_now new said → said ≡ stepped.Done → reply_in (machine_of_seat new) ≡ Some reply → made < steps
+    → HasGoneOn first_seat new steps (progress.Replied reply)
+gone_replied first_seat seat_now new made steps said reply gone_on same_seat step says_done replied made_below = record {
+  same = same_on first_seat seat_now new gone_on.same same_seat;
+  calls = calls_after first_seat seat_now new made said (Some reply) gone_on step (ap (λ (x : Stepped). given_by x (machine_of_seat new)) says_done ∙ replied);
+  doing = step.doing ∙ gone_on.doing;
+  most = omega (arith, step.steps, gone_on.steps, made_below);
+  all = λ says_more. absurd cc;
+  made = made_last first_seat seat_now new made said (progress.Replied reply) gone_on step (ap (λ (x : Stepped). x ∷ []) says_done);
   told = replied;
   idle = λ idle. absurd cc;
   worker = seat_worker new (progress.Replied reply) replied;
@@ -157,17 +157,17 @@ gone_replied first now new made steps said reply on same step is replied below =
 }
 
 -- and so does a step that waits
-pub gone_again : (first now new : Seat) (made steps : ℕ) (said : Stepped) → GoesOn first now made → IsSameSeat now new → HasStepped now new said → said ≡ stepped.Again → made < steps → HasGoneOn first new steps progress.Again
-gone_again first now new made steps said on same step is below = record {
-  same = same_on first now new on.same same;
-  calls = calls_after first now new made said None on step (ap (λ (x : Stepped). given_by x (machine_of_seat new)) is);
-  doing = step.doing ∙ on.doing;
-  most = omega (arith, step.steps, on.steps, below);
-  all = λ more. absurd cc;
-  made = made_last first now new made said progress.Again on step (ap (λ (x : Stepped). x ∷ []) is);
+pub gone_again : (first_seat seat_now new : Seat) (made steps : ℕ) (said : Stepped) → GoesOn first_seat seat_now made → IsSameSeat seat_now new → HasStepped seat_now new said → said ≡ stepped.Again → made < steps → HasGoneOn first_seat new steps progress.Again
+gone_again first_seat seat_now new made steps said gone_on same_seat step says_again made_below = record {
+  same = same_on first_seat seat_now new gone_on.same same_seat;
+  calls = calls_after first_seat seat_now new made said None gone_on step (ap (λ (x : Stepped). given_by x (machine_of_seat new)) says_again);
+  doing = step.doing ∙ gone_on.doing;
+  most = omega (arith, step.steps, gone_on.steps, made_below);
+  all = λ says_more. absurd cc;
+  made = made_last first_seat seat_now new made said progress.Again gone_on step (ap (λ (x : Stepped). x ∷ []) says_again);
   told = tt;
   idle = λ idle. absurd cc;
-  worker = λ other. refl;
+  worker = λ not_mutator. refl;
   legal = seat_legal new;
 }
 
@@ -188,54 +188,54 @@ none_last AtWork = refl
 none_last Ended = refl
 
 -- it stops where it stands
-stops : (first now : Seat) (made steps : ℕ) (said : Progress) → GoesOn first now made → said ≡ progress_at (state_in now) → made ≤ steps → (said ≡ progress.More → made ≡ steps) → HasGoneOn first now steps said
-stops first now made steps said on is most all = record {
-  same = on.same;
-  calls = on.calls ∙ sym (append-nil (calls_of first)) ∙ ap (λ (found : Option Reply). calls_of first ++ entries_of (number_of first) (doing_in first) found) (sym (ap reply_told is ∙ none_told (state_in now)));
-  doing = on.doing;
-  most = omega (arith, on.steps, most);
-  all = λ more. let count : made ≡ steps = all more in omega (arith, on.steps, count);
+stops : (first_seat seat_now : Seat) (made steps : ℕ) (said : Progress) → GoesOn first_seat seat_now made → said ≡ progress_at (state_in seat_now) → made ≤ steps → (said ≡ progress.More → made ≡ steps) → HasGoneOn first_seat seat_now steps said
+stops first_seat seat_now made steps said gone_on said_state made_within all_made = record {
+  same = gone_on.same;
+  calls = gone_on.calls ∙ sym (append-nil (calls_of first_seat)) ∙ ap (λ (found : Option Reply). calls_of first_seat ++ entries_of (number_of first_seat) (doing_in first_seat) found) (sym (ap reply_told said_state ∙ none_told (state_in seat_now)));
+  doing = gone_on.doing;
+  most = omega (arith, gone_on.steps, made_within);
+  all = λ says_more. let count : made ≡ steps = all_made says_more in omega (arith, gone_on.steps, count);
   made =
-      made_steps first now made made said on.steps
-      (subst (Went first now made) (sym (append-nil (replicate made stepped.More)) ∙ ap (λ (xs : List Stepped). replicate made stepped.More ++ xs) (sym (ap said_last is ∙ none_last (state_in now)))) on.went);
+      made_steps first_seat seat_now made made said gone_on.steps
+      (subst (Went first_seat seat_now made) (sym (append-nil (replicate made stepped.More)) ∙ ap (λ (said_list : List Stepped). replicate made stepped.More ++ said_list) (sym (ap said_last said_state ∙ none_last (state_in seat_now)))) gone_on.went);
   told = fits;
-  idle = λ idle. on.unmoved (none_made (may_of_free (has_turn now.bundle now.number) (may_begin (machine_of_seat now)) (sym is ∙ idle)));
-  worker = seat_worker now said fits;
-  legal = seat_legal now;
+  idle = λ idle. gone_on.unmoved (none_made (may_of_free (has_turn seat_now.bundle seat_now.number) (may_begin (machine_of_seat seat_now)) (sym said_state ∙ idle)));
+  worker = seat_worker seat_now said fits;
+  legal = seat_legal seat_now;
 }
   where
-    fits : FitsState said (machine_of_seat now) (state_in now)
-    fits = subst (λ (p : Progress). FitsState p (machine_of_seat now) (state_in now)) (sym is) (fits_state (machine_of_seat now) (state_in now))
+    fits : FitsState said (machine_of_seat seat_now) (state_in seat_now)
+    fits = subst (λ (any_progress : Progress). FitsState any_progress (machine_of_seat seat_now) (state_in seat_now)) (sym said_state) (fits_state (machine_of_seat seat_now) (state_in seat_now))
 
     -- who is free has made none
-    by_count : (n : ℕ) → (0 < n → may_begin (machine_of_seat now) ≡ false) → may_begin (machine_of_seat now) ≡ true → n ≡ 0
-    by_count zero moved may = refl
-    by_count (suc n) moved may = absurd (false≢true (sym (moved (omega arith)) ∙ may))
+    by_count : (count : ℕ) → (0 < count → may_begin (machine_of_seat seat_now) ≡ false) → may_begin (machine_of_seat seat_now) ≡ true → count ≡ 0
+    by_count zero busy_if_moved can_begin = refl
+    by_count (suc count) busy_if_moved can_begin = absurd (false≢true (sym (busy_if_moved (omega arith)) ∙ can_begin))
 
-    none_made : may_begin (machine_of_seat now) ≡ true → made ≡ 0
-    none_made = by_count made on.moved
+    none_made : may_begin (machine_of_seat seat_now) ≡ true → made ≡ 0
+    none_made = by_count made gone_on.moved
 
 -- all steps are made
-pub gone_all : (first now : Seat) (made steps : ℕ) (said : Progress) → GoesOn first now made → said ≡ progress_at (state_in now) → made ≤ steps → steps ≤ made → HasGoneOn first now steps said
-gone_all first now made steps said on is most least = stops first now made steps said on is most (λ more. omega (arith, most, least))
+pub gone_all : (first_seat seat_now : Seat) (made steps : ℕ) (said : Progress) → GoesOn first_seat seat_now made → said ≡ progress_at (state_in seat_now) → made ≤ steps → steps ≤ made → HasGoneOn first_seat seat_now steps said
+gone_all first_seat seat_now made steps said gone_on said_state made_within steps_made = stops first_seat seat_now made steps said gone_on said_state made_within (λ says_more. omega (arith, made_within, steps_made))
 
-no_more_at : (turn may : Bool) → turn ≡ false → progress_at (state_by turn may) ≡ progress.More → ⊥
-no_more_at false true idle more = absurd cc
-no_more_at false false idle more = absurd cc
-no_more_at true may idle more = absurd cc
+no_more_at : (turn can_begin : Bool) → turn ≡ false → progress_at (state_by turn can_begin) ≡ progress.More → ⊥
+no_more_at false true idle says_more = absurd cc
+no_more_at false false idle says_more = absurd cc
+no_more_at true can_begin idle says_more = absurd cc
 
 -- there was none to make
-pub gone_idle : (first now new : Seat) (made steps : ℕ) (said : Progress) → GoesOn first now made → IsSameSeat now new → IsAsItWas now new → has_turn now.bundle now.number ≡ false → said ≡ progress_at (state_in new) → made < steps → HasGoneOn first new steps said
-gone_idle first now new made steps said on same still idle is below =
-    let turn : has_turn new.bundle new.number ≡ false = ap (λ (machine : Machine). takes_of machine (order_in new)) still.machine ∙ ap (takes_of (machine_of_seat now)) still.order ∙ idle in
-    stops first new made steps said
+pub gone_idle : (first_seat seat_now new : Seat) (made steps : ℕ) (said : Progress) → GoesOn first_seat seat_now made → IsSameSeat seat_now new → IsAsItWas seat_now new → has_turn seat_now.bundle seat_now.number ≡ false → said ≡ progress_at (state_in new) → made < steps → HasGoneOn first_seat new steps said
+gone_idle first_seat seat_now new made steps said gone_on same_seat still_same idle said_state made_below =
+    let turn : has_turn new.bundle new.number ≡ false = ap (λ (machine : Machine). takes_of machine (order_in new)) still_same.machine ∙ ap (takes_of (machine_of_seat seat_now)) still_same.order ∙ idle in
+    stops first_seat new made steps said
     (record {
-      same = same_on first now new on.same same;
-      calls = ap (λ (actor : Actor). actor.calls) still.actor ∙ on.calls;
-      doing = ap (λ (actor : Actor). Rattle.step_core.specs.Actor.command_by (order_in new) actor.command) still.actor ∙ ap (λ o. Rattle.step_core.specs.Actor.command_by o (actor_in now).command) still.order ∙ on.doing;
-      steps = still.steps ∙ on.steps;
-      went = record { words = on.went.words; count = on.went.count; machine = still.machine ∙ on.went.machine; order = still.order ∙ on.went.order; each = on.went.each };
-      unmoved = λ none. was_then first now new (on.unmoved none) still;
-      moved = λ some. ap may_begin still.machine ∙ on.moved some;
+      same = same_on first_seat seat_now new gone_on.same same_seat;
+      calls = ap (λ (actor : Actor). actor.calls) still_same.actor ∙ gone_on.calls;
+      doing = ap (λ (actor : Actor). Rattle.step_core.specs.Actor.command_by (order_in new) actor.command) still_same.actor ∙ ap (λ order. Rattle.step_core.specs.Actor.command_by order (actor_in seat_now).command) still_same.order ∙ gone_on.doing;
+      steps = still_same.steps ∙ gone_on.steps;
+      went = record { words = gone_on.went.words; count = gone_on.went.count; machine = still_same.machine ∙ gone_on.went.machine; order = still_same.order ∙ gone_on.went.order; each = gone_on.went.each };
+      unmoved = λ none_made. was_then first_seat seat_now new (gone_on.unmoved none_made) still_same;
+      moved = λ some_made. ap may_begin still_same.machine ∙ gone_on.moved some_made;
     })
-    is (omega (arith, below)) (λ more. absurd (no_more_at (has_turn new.bundle new.number) (may_begin (machine_of_seat new)) turn (sym is ∙ more)))
+    said_state (omega (arith, made_below)) (λ says_more. absurd (no_more_at (has_turn new.bundle new.number) (may_begin (machine_of_seat new)) turn (sym said_state ∙ says_more)))

@@ -16,49 +16,49 @@ use Rattle.graph_placing.specs.PlaceableText.{IsPlaceable}
 use Rattle.graph_placing.specs.Renaming.{AreOfThreads}
 
 later : (name : Name) (names : List Name) (other_name : Name) → same_name name other_name ≡ false → Contains (name ∷ names) other_name → Contains names other_name
-later name names other_name other there = by_place there.0 there.1 there.2
+later name names other_name not_head listed = by_place listed.0 listed.1 listed.2
   where
     by_place : (index : ℕ) → index < length (name ∷ names) → slice_index_or (name ∷ names) index other_name ≡ other_name → Contains names other_name
-    by_place zero below is = absurd (false≢true (sym other ∙ ap (λ (name : Name). same_name name other_name) is ∙ same_name-itself other_name))
-    by_place (suc index) below is = (index, omega (arith, below), is)
+    by_place zero index_below found_there = absurd (false≢true (sym not_head ∙ ap (λ (name : Name). same_name name other_name) found_there ∙ same_name-itself other_name))
+    by_place (suc index) index_below found_there = (index, omega (arith, index_below), found_there)
 
 contains_merely : (names : List Name) (name : Name) → ∥ Contains names name ∥₁ → Contains names name
-contains_merely [] name some = absurd (∥∥₁_elim some (hlevel) (λ there. let below = there.1 in omega (arith, below)))
-contains_merely (other_name ∷ names) name some = ⊎_elim
-    (λ (same : same_name other_name name ≡ true). (0, omega arith, same_name-true other_name name same))
-    (λ (other : same_name other_name name ≡ false). let rest = contains_merely names name (∥∥₁_map some (later other_name names name other)) in (suc rest.0, omega (arith, rest.1), rest.2))
+contains_merely [] name some_place = absurd (∥∥₁_elim some_place (hlevel) (λ listed. let index_below = listed.1 in omega (arith, index_below)))
+contains_merely (other_name ∷ names) name some_place = ⊎_elim
+    (λ (is_head : same_name other_name name ≡ true). (0, omega arith, same_name-true other_name name is_head))
+    (λ (not_head : same_name other_name name ≡ false). let rest_contains = contains_merely names name (∥∥₁_map some_place (later other_name names name not_head)) in (suc rest_contains.0, omega (arith, rest_contains.1), rest_contains.2))
     (cases_Bool (same_name other_name name))
 
 before_merely : (name other_name : Name) → ∥ IsBefore name other_name ∥₁ → IsBefore name other_name
-before_merely name other_name some = ⊎_elim
-    (λ (below : name.thread < other_name.thread). inl below)
-    (λ (above : other_name.thread ≤ name.thread). inr (
-      ∥∥₁_elim some (hlevel ℕ_set) (λ before. ⊎_elim (λ below. absurd (omega (arith, above, below))) (λ both. both.0) before),
-      ∥∥₁_elim some (hlevel le_prop) (λ before. ⊎_elim (λ below. absurd (omega (arith, above, below))) (λ both. both.1) before),
+before_merely name other_name some_order = ⊎_elim
+    (λ (thread_below : name.thread < other_name.thread). inl thread_below)
+    (λ (thread_above : other_name.thread ≤ name.thread). inr (
+      ∥∥₁_elim some_order (hlevel ℕ_set) (λ before. ⊎_elim (λ thread_below. absurd (omega (arith, thread_above, thread_below))) (λ same_thread. same_thread.0) before),
+      ∥∥₁_elim some_order (hlevel le_prop) (λ before. ⊎_elim (λ thread_below. absurd (omega (arith, thread_above, thread_below))) (λ same_thread. same_thread.1) before),
     ))
     (cases_lt name.thread other_name.thread)
 
 in_order_merely : (names : List Name) → ∥ InOrder names ∥₁ → InOrder names
-in_order_merely [] some = tt
-in_order_merely (name ∷ []) some = tt
-in_order_merely (n ∷ m ∷ ns) some = (before_merely n m (∥∥₁_map some (λ order. order.0)), in_order_merely (m ∷ ns) (∥∥₁_map some (λ order. order.1)))
+in_order_merely [] some_order = tt
+in_order_merely (name ∷ []) some_order = tt
+in_order_merely (first_name ∷ second_name ∷ later_names) some_order = (before_merely first_name second_name (∥∥₁_map some_order (λ order. order.0)), in_order_merely (second_name ∷ later_names) (∥∥₁_map some_order (λ order. order.1)))
 
 pub placeable_merely : (config : Config) (text : Text) → ∥ IsPlaceable config text ∥₁ → IsPlaceable config text
-placeable_merely config text some = record {
-  threads = ∥∥₁_elim some (hlevel ℕ_set) (λ is. is.threads);
-  sixteen = ∥∥₁_elim some (hlevel ℕ_set) (λ is. is.sixteen);
-  in_order = in_order_merely (names_of text) (∥∥₁_map some (λ is. is.in_order));
-  short = λ k below. record {
-    refs = ∥∥₁_elim some (hlevel le_prop) (λ is. (is.short k below).refs);
-    nums = ∥∥₁_elim some (hlevel le_prop) (λ is. (is.short k below).nums);
+placeable_merely config text some_placing = record {
+  threads = ∥∥₁_elim some_placing (hlevel ℕ_set) (λ placeable. placeable.threads);
+  sixteen = ∥∥₁_elim some_placing (hlevel ℕ_set) (λ placeable. placeable.sixteen);
+  in_order = in_order_merely (names_of text) (∥∥₁_map some_placing (λ placeable. placeable.in_order));
+  short = λ number index_below. record {
+    refs = ∥∥₁_elim some_placing (hlevel le_prop) (λ placeable. (placeable.short number index_below).refs);
+    nums = ∥∥₁_elim some_placing (hlevel le_prop) (λ placeable. (placeable.short number index_below).nums);
   };
-  references = λ k i name below there. contains_merely (names_of text) name (∥∥₁_map some (λ is. is.references k i name below there));
-  roots = λ thread index name low high small there. contains_merely (names_of text) name (∥∥₁_map some (λ is. is.roots thread index name low high small there));
+  references = λ number field name index_below listed. contains_merely (names_of text) name (∥∥₁_map some_placing (λ placeable. placeable.references number field name index_below listed));
+  roots = λ thread index name low high small listed. contains_merely (names_of text) name (∥∥₁_map some_placing (λ placeable. placeable.roots thread index name low high small listed));
 }
 
 pub threads_merely : (threads : ℕ) (names : List Name) → ∥ AreOfThreads threads names ∥₁ → AreOfThreads threads names
-threads_merely threads names some = record {
-  within = λ n there. ∥∥₁_elim some (hlevel le_prop) (λ are. are.within n there);
-  hub_alone = λ n there none.
-      same_name-true n hub (∥∥₁_elim some (hlevel Bool-set) (λ are. ap (λ (name : Name). same_name name hub) (are.hub_alone n there none) ∙ same_name-itself hub));
+threads_merely threads names some_threads = record {
+  within = λ listed_name listed. ∥∥₁_elim some_threads (hlevel le_prop) (λ are_threads. are_threads.within listed_name listed);
+  hub_alone = λ listed_name listed not_thread.
+      same_name-true listed_name hub (∥∥₁_elim some_threads (hlevel Bool-set) (λ are_threads. ap (λ (name : Name). same_name name hub) (are_threads.hub_alone listed_name listed not_thread) ∙ same_name-itself hub));
 }

@@ -46,10 +46,10 @@ pub record HaveHistory (seats : List Seat) : Type 0 where
 
 -- the heap of the first seat that was gathered, and its sizes
 abbrev pub heap_begun : Begun → Heap
-heap_begun b = arc_value b.heap
+heap_begun begun = arc_value begun.heap
 
 abbrev pub sizes_begun : Begun → Config
-sizes_begun b = heap_sizes (heap_begun b)
+sizes_begun begun = heap_sizes (heap_begun begun)
 
 -- these are the seats of that heap that are gathered
 pub record AreTogether (seats : List Seat) (b : Begun) : Type 0 where
@@ -66,7 +66,7 @@ pub record AreBegun (seats : List Seat) (b : Begun) : Type 0 where
 -- these are the seats that were gathered
 abbrev pub AreGatheredIn : List Seat → Option Begun → Type 0
 AreGatheredIn seats None = seats ≡ []
-AreGatheredIn seats (Some b) = AreBegun seats b
+AreGatheredIn seats (Some begun) = AreBegun seats begun
 
 abbrev pub AreGathered : List Seat → Gathering → Type 0
-AreGathered seats g = AreGatheredIn seats g.begun
+AreGathered seats gathering = AreGatheredIn seats gathering.begun

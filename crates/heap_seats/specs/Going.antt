@@ -107,7 +107,7 @@ reply_told _ = None
 abbrev pub FitsState : Progress → Machine → State → Type 0
 FitsState (progress.Replied reply) machine state = reply_in machine ≡ Some reply
 FitsState progress.Again machine state = Unit {0}
-FitsState other machine state = progress_at state ≡ other
+FitsState told machine state = progress_at state ≡ told
 
 -- whether it may be told of a helper or the control: these give no reply, and have something to do until they have ended
 abbrev pub is_of_worker : Progress → Bool

@@ -10,4 +10,4 @@ HaveRun bundle = AreReached (heap_kind (config_in bundle)) (start_in bundle) (vi
 
 -- it has no machine but the one of this number
 abbrev pub HasOnly : Bundle → ℕ → Type 0
-HasOnly bundle number = (k : ℕ) → HasMachine bundle k → k ≡ number
+HasOnly bundle number = (other_number : ℕ) → HasMachine bundle other_number → other_number ≡ number

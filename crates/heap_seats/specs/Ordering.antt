@@ -18,7 +18,7 @@ refused_in Ended = Some refused.Ended
 -- and no command that is out of range, or after as many objects as there are names
 abbrev pub refused_command : (valid : Bool) (made : ℕ) → State → Option Refused
 refused_command valid made Free = if valid then (if made == most_objects then Some refused.Spent else None) else Some refused.OutOfRange
-refused_command valid made other = refused_in other
+refused_command valid made state = refused_in state
 
 -- it has been given this order, and has not moved
 pub record HasOrder (old new : Seat) (order : Order) : Type 0 where

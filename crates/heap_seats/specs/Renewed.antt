@@ -38,7 +38,7 @@ KeepsNames NoMemory config before = ⊤
 -- what the graph has become, by what came of the renewal
 abbrev pub Becomes : Renewal → Config → Graph → Graph → Type 0
 Becomes Renewed config before now = IsRenewedGraph config.mutators before now
-Becomes why config before now = (now ≡ before) × KeepsNames why config before
+Becomes renewal config before now = (now ≡ before) × KeepsNames renewal config before
 
 -- a start begins what has become of a graph
 pub record BeginsAfter (config : Config) (start : Stage Actor) (said : Renewal) (before : Graph) : Type 0 where

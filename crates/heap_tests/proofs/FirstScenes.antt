@@ -32,41 +32,41 @@ use Rattle.table_heap.proofs.Starting.{fresh_can_start}
 use Rattle.heap_tests.specs.Ordered.{IsPlaying}
 
 -- a heap that one thread has can run them
-pub can_run : (p : Plain) (config : Config) (scripts : List (List Command)) (jobs : Jobs) → plain.config_of p ≡ config → Shows p (opening config) → All (λ order. order ≡ Nothing) (plain.orders_of p) → config.mutators ≡ length scripts → length scripts ≤ 8 → All IsRunnable scripts → jobs ≡ work.opened scripts
-    → CanRun p jobs
-can_run p config scripts jobs same shows orders count at_most served opened =
-    let mutators = ap (λ (config : Config). config.mutators) same in
-    subst (CanRun p) (sym opened) (can_run_first p scripts (subst (λ (config : Config). Shows p (opening config)) (sym same) shows) orders (omega (arith, mutators, count)) at_most served)
+pub can_run : (open_plain : Plain) (config : Config) (scripts : List (List Command)) (jobs : Jobs) → plain.config_of open_plain ≡ config → Shows open_plain (opening config) → All (λ order. order ≡ Nothing) (plain.orders_of open_plain) → config.mutators ≡ length scripts → length scripts ≤ 8 → All IsRunnable scripts → jobs ≡ work.opened scripts
+    → CanRun open_plain jobs
+can_run open_plain config scripts jobs same_config shows orders count at_most served opened =
+    let mutators = ap (λ (config : Config). config.mutators) same_config in
+    subst (CanRun open_plain) (sym opened) (can_run_first open_plain scripts (subst (λ (config : Config). Shows open_plain (opening config)) (sym same_config) shows) orders (omega (arith, mutators, count)) at_most served)
 
 -- a machine of a heap whose machines lie in one bundle
 fresh_at : (config : Config) (bundle : Bundle) (number : ℕ) → view_of bundle ≡ dealt_to 1 0 (whole (heap_opening config).machines) → number < seat_count config.mutators config.helpers → machine_of (machines_of bundle) number ≡ Some (opening_machine config number)
 fresh_at config bundle number fresh within =
-    let here : machine_of (view_of bundle) number ≡ Some (opening_actor config number) =
-    ap (λ v. machine_of v number) fresh ∙ machine_of-picked (is_dealt_to 1 0) (whole (heap_opening config).machines) number
-    ∙ ap (λ t. if t then machine_of (whole (heap_opening config).machines) number else None) test
+    let actor_here : machine_of (view_of bundle) number ≡ Some (opening_actor config number) =
+    ap (λ asked_view. machine_of asked_view number) fresh ∙ machine_of-picked (is_dealt_to 1 0) (whole (heap_opening config).machines) number
+    ∙ ap (λ is_dealt. if is_dealt then machine_of (whole (heap_opening config).machines) number else None) test
     ∙ machine_of-whole (heap_opening config).machines number ∙ first_actor config number within in
-    ap (λ v. machine_of v number) (sym bundle.kept) ∙ machine_of-kept machine_in (view_of bundle) number ∙ ap (kept_one machine_in) here
+    ap (λ asked_view. machine_of asked_view number) (sym bundle.kept) ∙ machine_of-kept machine_in (view_of bundle) number ∙ ap (kept_one machine_in) actor_here
   where
     test : (number % 1 == 0) ≡ true
     test = grind (arith, nat_tests)
 
 -- nothing was done of a script
 script_first : (scripts : List (List Command)) (index : ℕ) → index < length scripts → length scripts ≤ 8 → work.progress_of (work.opened scripts) index ≡ Some (work.begun (get_or scripts index []))
-script_first scripts index below at_most =
+script_first scripts index index_below at_most =
     get_or-map-range_with_len (λ index. option_map work.begun (slice_get scripts index)) 0 8 index index None (omega arith) (omega arith)
-    ∙ ap (option_map work.begun) (slice_get-get_or scripts index [] below)
+    ∙ ap (option_map work.begun) (slice_get-get_or scripts index [] index_below)
 
 -- and one that threads could share can
 pub is_playing : (heap : Heap) (bundle : Bundle) (config : Config) (scripts : List (List Command)) (jobs : Jobs) (between : List Bool) → IsFresh heap bundle (dealt_to 1 0 (whole (heap_opening config).machines)) → heap.config ≡ config → config.mutators ≡ length scripts → length scripts ≤ 8 → All IsRunnable scripts
     → jobs ≡ work.opened scripts → length between ≡ 8 → IsPlaying heap bundle jobs config between
-is_playing heap bundle config scripts jobs between fresh same count at_most served opened long = record {
+is_playing heap bundle config scripts jobs between fresh same_config count at_most served opened eight_flags = record {
   of = fresh.of;
-  works = at_start bundle jobs (fresh_can_start heap bundle config 1 0 jobs fresh (λ number below dealt.
-      let within : number < length scripts = omega (arith, below, count) in
+  works = at_start bundle jobs (fresh_can_start heap bundle config 1 0 jobs fresh (λ number number_below dealt.
+      let within : number < length scripts = omega (arith, number_below, count) in
       let runs = served number [] within in
-      (get_or scripts number [], ap (λ js. work.progress_of js number) opened ∙ script_first scripts number within at_most, runs.0, runs.1)));
-  same = fresh.of.config ∙ same;
+      (get_or scripts number [], ap (λ some_jobs. work.progress_of some_jobs number) opened ∙ script_first scripts number within at_most, runs.0, runs.1)));
+  same = fresh.of.config ∙ same_config;
   here = λ number within. ap is_some (fresh_at config bundle number fresh.machines within);
-  rests = λ k below set. ap (λ o. may_begin (unwrap_or o no_machine)) (fresh_at config bundle k fresh.machines (omega arith)) ∙ first_free_to_begin config k below;
-  long = long;
+  rests = λ seat_number number_below flag_set. ap (λ machine_found. may_begin (unwrap_or machine_found no_machine)) (fresh_at config bundle seat_number fresh.machines (omega arith)) ∙ first_free_to_begin config seat_number number_below;
+  long = eight_flags;
 }

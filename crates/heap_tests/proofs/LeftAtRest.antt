@@ -54,8 +54,8 @@ resting_outside _ rest = absurd cc
 abbrev pub LeftGraph : Config → (Word → ℕ) → ℕ → Type 0
 LeftGraph config memory made = (graph : Graph) × Represents config memory graph (λ t. nothing) × (graph.count 1 ≡ made)
 
-module _ (config : Config) (words : List ℕ) (machines : List Machine) (free : ℕ) (one : config.mutators ≡ 1) (alone : config.helpers ≡ 0) (rest : is_resting (slice_index_or machines 0 no_machine) ≡ true)
-    (control : slice_index_or machines 1 no_machine ≡ fresh_control free) (run : Run config) (shows : WordsShow words machines (ending pause_image config run)) where
+module _ (config : Config) (words : List ℕ) (machines : List Machine) (free_word : ℕ) (one_mutator : config.mutators ≡ 1) (alone : config.helpers ≡ 0) (rest : is_resting (slice_index_or machines 0 no_machine) ≡ true)
+    (control : slice_index_or machines 1 no_machine ≡ fresh_control free_word) (run : Run config) (shows : WordsShow words machines (ending pause_image config run)) where
   abbrev stage : Stage Actor
   stage = ending pause_image config run
 
@@ -63,51 +63,51 @@ module _ (config : Config) (words : List ℕ) (machines : List Machine) (free : 
   sound = run_sound pause_image heap_pauses config run
 
   rests : (mutator : ℕ) → mutator < config.mutators → is_resting (slice_index_or machines mutator no_machine) ≡ true
-  rests mutator below =
-      let first : 0 ≡ mutator = omega (arith, below, one) in
-      subst (λ (k : ℕ). is_resting (slice_index_or machines k no_machine) ≡ true) first rest
+  rests mutator mutator_below =
+      let first_mutator : 0 ≡ mutator = omega (arith, mutator_below, one_mutator) in
+      subst (λ (any_mutator : ℕ). is_resting (slice_index_or machines any_mutator no_machine) ≡ true) first_mutator rest
 
   last : 1 ≡ control_number config
-  last = omega (arith, one, alone)
+  last = omega (arith, one_mutator, alone)
 
-  its_control : slice_index_or machines (control_number config) no_machine ≡ fresh_control free
-  its_control = subst (λ (k : ℕ). slice_index_or machines k no_machine ≡ fresh_control free) last control
+  its_control : slice_index_or machines (control_number config) no_machine ≡ fresh_control free_word
+  its_control = subst (λ (number : ℕ). slice_index_or machines number no_machine ≡ fresh_control free_word) last control
 
   -- the machine of an actor
   machine_is : (number : ℕ) (actor : Actor) → slice_get stage.machines number ≡ Some actor → actor.machine ≡ slice_index_or machines number no_machine
-  machine_is number actor here =
-      let there : slice_get machines number ≡ Some actor.machine =
-      ap (λ ms. slice_get ms number) (sym shows.machines_are) ∙ slice_get-map (λ b. b.machine) stage.machines number ∙ ap (option_map (λ b. b.machine)) here in
-      sym (get_or_from_slice_get machines number actor.machine no_machine there)
+  machine_is number actor actor_there =
+      let machine_there : slice_get machines number ≡ Some actor.machine =
+      ap (λ some_machines. slice_get some_machines number) (sym shows.machines_are) ∙ slice_get-map (λ asked_actor. asked_actor.machine) stage.machines number ∙ ap (option_map (λ asked_actor. asked_actor.machine)) actor_there in
+      sym (get_or_from_slice_get machines number actor.machine no_machine machine_there)
 
   -- the control stores no image
   is_calm : image_of (slice_get stage.machines (control_number config)) ≡ None
   is_calm = by_actor (slice_get stage.machines (control_number config)) refl
     where
       by_actor : (found : Option Actor) → slice_get stage.machines (control_number config) ≡ found → image_of found ≡ None
-      by_actor None here = refl
-      by_actor (Some a) here = ap image_read (machine_is (control_number config) a here) ∙ ap image_read its_control
+      by_actor None control_there = refl
+      by_actor (Some actor) control_there = ap image_read (machine_is (control_number config) actor control_there) ∙ ap image_read its_control
 
   -- the control is the one with which a heap begins
-  control_is : (number : ℕ) (actor : Actor) (control : Controlling) → slice_get stage.machines number ≡ Some actor → actor.machine ≡ controlling control → controlling control ≡ fresh_control free
-  control_is number actor control here is =
-      let at : number ≡ config.mutators + config.helpers = subst (HasNumber config number) is (sound.of_heap.roles number actor here) in
-      sym is ∙ machine_is number actor here ∙ ap (λ (n : ℕ). slice_index_or machines n no_machine) at ∙ its_control
+  control_is : (number : ℕ) (actor : Actor) (control : Controlling) → slice_get stage.machines number ≡ Some actor → actor.machine ≡ controlling control → controlling control ≡ fresh_control free_word
+  control_is number actor control actor_there control_machine =
+      let number_told : number ≡ config.mutators + config.helpers = subst (HasNumber config number) control_machine (sound.of_heap.roles number actor actor_there) in
+      sym control_machine ∙ machine_is number actor actor_there ∙ ap (λ (n : ℕ). slice_index_or machines n no_machine) number_told ∙ its_control
 
   at_rest : IsAtRest config stage
   at_rest = record {
-    calls = λ number actor m mutator. ap is_resting (sym mutator.is) ∙ ap is_resting (machine_is number actor mutator.here) ∙ rests number (sound.of_heap.numbers number actor m mutator).1;
-    outside = λ number a here other.
-        let within : number < length stage.machines = slice_get_within stage.machines number a here in
+    calls = λ number actor own_mutator mutator. ap is_resting (sym mutator.is) ∙ ap is_resting (machine_is number actor mutator.here) ∙ rests number (sound.of_heap.numbers number actor own_mutator mutator).1;
+    outside = λ number asked_actor actor_there not_control.
+        let within : number < length stage.machines = slice_get_within stage.machines number asked_actor actor_there in
         let seats = sound.of_heap.machines in
-        let below : number < config.mutators = omega (arith, within, seats, other) in
-        resting_outside a.machine (ap is_resting (machine_is number a here) ∙ rests number below);
-    no_unit = λ number actor control here is. ap (λ (machine : Machine). works_of machine) (control_is number actor control here is);
-    no_image = λ number actor control here is. ap image_read (control_is number actor control here is);
+        let number_below : number < config.mutators = omega (arith, within, seats, not_control) in
+        resting_outside asked_actor.machine (ap is_resting (machine_is number asked_actor actor_there) ∙ rests number number_below);
+    no_unit = λ number actor control actor_there control_machine. ap (λ (machine : Machine). works_of machine) (control_is number actor control actor_there control_machine);
+    no_image = λ number actor control actor_there control_machine. ap image_read (control_is number actor control actor_there control_machine);
   }
     where
       works_of : Machine → Bool
-      works_of (controlling k) = is_working k.spot
+      works_of (controlling control) = is_working control.spot
       works_of _ = false
 
   -- the words of the table count
@@ -120,28 +120,28 @@ module _ (config : Config) (words : List ℕ) (machines : List Machine) (free : 
 
   made : (graph_after pause_image config run).count 1 ≡ made_of_machine (slice_index_or machines 0 no_machine)
   made =
-      let below : 0 < config.mutators = omega (arith, one) in
-      let there = sound.of_heap.mutators 0 below in
-      let seat : there.mutator.seat ≡ 0 = (sound.of_heap.numbers 0 there.actor there.mutator there.here).0 in
-      subst (λ (n : ℕ). (graph_after pause_image config run).count (n + 1) ≡ there.mutator.made) seat (sound.stands.mutators 0 there.actor there.mutator there.here).made
-      ∙ ap made_of_machine (sym there.here.is) ∙ ap made_of_machine (machine_is 0 there.actor there.here.here)
+      let some_mutator : 0 < config.mutators = omega (arith, one_mutator) in
+      let first_found = sound.of_heap.mutators 0 some_mutator in
+      let seat : first_found.mutator.seat ≡ 0 = (sound.of_heap.numbers 0 first_found.actor first_found.mutator first_found.here).0 in
+      subst (λ (n : ℕ). (graph_after pause_image config run).count (n + 1) ≡ first_found.mutator.made) seat (sound.stands.mutators 0 first_found.actor first_found.mutator first_found.here).made
+      ∙ ap made_of_machine (sym first_found.here.is) ∙ ap made_of_machine (machine_is 0 first_found.actor first_found.here.here)
 
   pub left : LeftGraph config (view config words) (made_of_machine (slice_index_or machines 0 no_machine))
   left = (graph_after pause_image config run, represents, made)
 
 -- a full collection leaves the graph
 nothing_only : (asking : Asking) → Answers nothing asking → asking ≡ nothing
-nothing_only nothing is = refl
-nothing_only _ is = absurd is
+nothing_only nothing nothing_answered = refl
+nothing_only _ nothing_answered = absurd nothing_answered
 
 pub left_holds : (config : Config) (memory : Word → ℕ) (made : ℕ) → LeftGraph config memory made → HoldsSized config memory
-left_holds config memory made left = representing_holds config memory left.0 (λ t. nothing) left.1
+left_holds config memory made left_graph = representing_holds config memory left_graph.0 (λ t. nothing) left_graph.1
 
 pub left_collected : (config : Config) (memory : Word → ℕ) (made : ℕ) → LeftGraph config memory made → LeftGraph config (full config memory) made
-left_collected config memory made left =
-    let paused = from_copies config memory left.0 (λ t. nothing) (by_copies config memory left.0 (λ t. nothing) left.1) in
+left_collected config memory made left_graph =
+    let paused = from_copies config memory left_graph.0 (λ mutator. nothing) (by_copies config memory left_graph.0 (λ mutator. nothing) left_graph.1) in
     let stands = paused.stands in (
-      left.0,
+      left_graph.0,
       record {
         block = stands.block;
         ghost = stands.ghost;
@@ -150,15 +150,15 @@ left_collected config memory made left =
         usable = stands.usable;
         none = stands.none;
         uncarved = stands.uncarved;
-        asked = λ t below. subst (IsAsked (full config memory) stands.block left.0.count t) (nothing_only (paused.asked_then t) (paused.answers t below)) (stands.asked t below);
-        heard = λ t refs nums below is. absurd cc;
+        asked = λ mutator mutator_below. subst (IsAsked (full config memory) stands.block left_graph.0.count mutator) (nothing_only (paused.asked_then mutator) (paused.answers mutator mutator_below)) (stands.asked mutator mutator_below);
+        heard = λ mutator refs nums mutator_below is_asked. absurd cc;
         promised_to = stands.promised_to;
         unmarking = stands.unmarking;
         uncopying = stands.uncopying;
         no_more = stands.no_more;
         no_more_pins = stands.no_more_pins;
       },
-      left.2,
+      left_graph.2,
     )
 
 -- the words before those of the image are as they are before the first event
@@ -166,59 +166,59 @@ abbrev pub opened : (Word → ℕ) → Word → ℕ
 opened memory = write (write (write memory Pause 0) (State 0) 0) Left 1
 
 -- a heap can begin from the words then
-pub left_can_begin : (config : Config) (memory : Word → ℕ) (made : ℕ) → config.mutators ≡ 1 → config.helpers ≡ 0 → (left : LeftGraph config memory made) → CanBeginFrom config (opened memory) (made ∷ []) left.0
-left_can_begin config memory made one alone left =
-    let r = left.1 in
+pub left_can_begin : (config : Config) (memory : Word → ℕ) (made : ℕ) → config.mutators ≡ 1 → config.helpers ≡ 0 → (left_graph : LeftGraph config memory made) → CanBeginFrom config (opened memory) (made ∷ []) left_graph.0
+left_can_begin config memory made one_mutator alone left_graph =
+    let represented = left_graph.1 in
     record {
       stands = record {
-        block = r.block;
-        ghost = r.ghost;
-        shared = r.shared;
-        roots = r.roots;
-        usable = r.usable;
-        none = r.none;
-        uncarved = r.uncarved;
-        asked = r.asked;
-        heard = r.heard;
-        promised_to = r.promised_to;
-        unmarking = r.unmarking;
-        uncopying = r.uncopying;
-        no_more = r.no_more;
-        no_more_pins = r.no_more_pins;
+        block = represented.block;
+        ghost = represented.ghost;
+        shared = represented.shared;
+        roots = represented.roots;
+        usable = represented.usable;
+        none = represented.none;
+        uncarved = represented.uncarved;
+        asked = represented.asked;
+        heard = represented.heard;
+        promised_to = represented.promised_to;
+        unmarking = represented.unmarking;
+        uncopying = represented.uncopying;
+        no_more = represented.no_more;
+        no_more_pins = represented.no_more_pins;
       };
       outside = record {
         pause = refl;
-        states = λ seat below. let first : 0 ≡ seat = omega (arith, below, one, alone) in subst (λ (seat : ℕ). opened memory (State seat) ≡ 0) first refl;
-        left = sym one;
+        states = λ seat number_below. let number_zero : 0 ≡ seat = omega (arith, number_below, one_mutator, alone) in subst (λ (seat : ℕ). opened memory (State seat) ≡ 0) number_zero refl;
+        left = sym one_mutator;
       };
-      counts_are = λ mutator below. let first : 0 ≡ mutator = omega (arith, below, one) in subst (λ (index : ℕ). left.0.count (index + 1) ≡ slice_index (made ∷ []) index) first left.2;
+      counts_are = λ mutator number_below. let number_zero : 0 ≡ mutator = omega (arith, number_below, one_mutator) in subst (λ (index : ℕ). left_graph.0.count (index + 1) ≡ slice_index (made ∷ []) index) number_zero left_graph.2;
     }
 
 -- a machine of a heap before the first event
-opened_machine : (config : Config) (machines : List Machine) (number : ℕ) → map (λ a. a.machine) (opening config).machines ≡ machines → number < seat_count config.mutators config.helpers
+opened_machine : (config : Config) (machines : List Machine) (number : ℕ) → map (λ actor. actor.machine) (opening config).machines ≡ machines → number < seat_count config.mutators config.helpers
     → slice_index_or machines number no_machine ≡ opening_machine config number
-opened_machine config machines number is below =
-    let there : slice_get machines number ≡ Some (opening_machine config number) =
-    ap (λ ms. slice_get ms number) (sym is) ∙ slice_get-map (λ b. b.machine) (opening config).machines number ∙ ap (option_map (λ b. b.machine)) (first_actor config number below) in
-    get_or_from_slice_get machines number (opening_machine config number) no_machine there
+opened_machine config machines number machines_told number_below =
+    let machine_there : slice_get machines number ≡ Some (opening_machine config number) =
+    ap (λ some_machines. slice_get some_machines number) (sym machines_told) ∙ slice_get-map (λ opened_actor. opened_actor.machine) (opening config).machines number ∙ ap (option_map (λ opened_actor. opened_actor.machine)) (first_actor config number number_below) in
+    get_or_from_slice_get machines number (opening_machine config number) no_machine machine_there
 
-module _ (config : Config) (machines : List Machine) (is : map (λ a. a.machine) (opening config).machines ≡ machines) (one : config.mutators ≡ 1) (alone : config.helpers ≡ 0) where
+module _ (config : Config) (machines : List Machine) (machines_told : map (λ actor. actor.machine) (opening config).machines ≡ machines) (one_mutator : config.mutators ≡ 1) (alone : config.helpers ≡ 0) where
   first_is : slice_index_or machines 0 no_machine ≡ opening_machine config 0
-  first_is = opened_machine config machines 0 is (omega arith)
+  first_is = opened_machine config machines 0 machines_told (omega arith)
 
   pub opened_rests : is_resting (slice_index_or machines 0 no_machine) ≡ true
-  opened_rests = ap is_resting first_is ∙ first_rests config 0 (omega (arith, one))
+  opened_rests = ap is_resting first_is ∙ first_rests config 0 (omega (arith, one_mutator))
 
   pub opened_begins : may_begin (slice_index_or machines 0 no_machine) ≡ true
-  opened_begins = ap may_begin first_is ∙ first_free_to_begin config 0 (omega (arith, one))
+  opened_begins = ap may_begin first_is ∙ first_free_to_begin config 0 (omega (arith, one_mutator))
 
   pub opened_made : made_of_machine (slice_index_or machines 0 no_machine) ≡ 0
   opened_made = ap made_of_machine first_is ∙ first_made config 0
 
   pub opened_control : slice_index_or machines 1 no_machine ≡ fresh_control (first_free config.regions)
   opened_control =
-      let mutator : nat_lt 1 config.mutators ≡ false = grind (arith, nat_tests, one) in
-      let helper : nat_lt 1 (config.mutators + config.helpers) ≡ false = grind (arith, nat_tests, one, alone) in
-      opened_machine config machines 1 is (omega (arith, one, alone))
+      let mutator : nat_lt 1 config.mutators ≡ false = grind (arith, nat_tests, one_mutator) in
+      let helper : nat_lt 1 (config.mutators + config.helpers) ≡ false = grind (arith, nat_tests, one_mutator, alone) in
+      opened_machine config machines 1 machines_told (omega (arith, one_mutator, alone))
       ∙ ap (λ (holds : Bool). if holds then mutating (fresh_mutator 1) else (if nat_lt 1 (config.mutators + config.helpers) then fresh_helper 1 else fresh_control (first_free config.regions))) mutator
       ∙ ap (λ (holds : Bool). if holds then fresh_helper 1 else fresh_control (first_free config.regions)) helper

@@ -27,22 +27,22 @@ use Rattle.step_core.specs.Opening.{opening_machine, opening_actor}
 
 -- it has its machines still
 has_in_view : (bundle : Bundle) (number : ℕ) → is_some (machine_of (machines_of bundle) number) ≡ is_some (machine_of (view_of bundle) number)
-has_in_view bundle number = ap (λ v. is_some (machine_of v number)) (sym bundle.kept) ∙ kept_some machine_in (view_of bundle) number
+has_in_view bundle number = ap (λ asked_view. is_some (machine_of asked_view number)) (sym bundle.kept) ∙ kept_some machine_in (view_of bundle) number
 
 pub same_has : (old new : Bundle) (number : ℕ) → IsSameBundle old new → HasMachine old number → HasMachine new number
-same_has old new number same has = has_in_view new number ∙ same.numbers.here number ∙ sym (has_in_view old number) ∙ has
+same_has old new number same_bundle has_machine = has_in_view new number ∙ same_bundle.numbers.here number ∙ sym (has_in_view old number) ∙ has_machine
 
 -- a machine before the first event
-fresh_at : (config : Config) (bundle : Bundle) (bundles k number : ℕ) → view_of bundle ≡ dealt_to bundles k (whole (heap_opening config).machines) → number < seat_count config.mutators config.helpers → number % bundles ≡ k
+fresh_at : (config : Config) (bundle : Bundle) (bundles index number : ℕ) → view_of bundle ≡ dealt_to bundles index (whole (heap_opening config).machines) → number < seat_count config.mutators config.helpers → number % bundles ≡ index
     → machine_of (machines_of bundle) number ≡ Some (opening_machine config number)
-fresh_at config bundle bundles k number fresh within dealt =
-    let here : machine_of (view_of bundle) number ≡ Some (opening_actor config number) =
-    ap (λ v. machine_of v number) fresh ∙ machine_of-picked (is_dealt_to bundles k) (whole (heap_opening config).machines) number
-    ∙ ap (λ t. if t then machine_of (whole (heap_opening config).machines) number else None) test
+fresh_at config bundle bundles index number fresh within dealt =
+    let actor_here : machine_of (view_of bundle) number ≡ Some (opening_actor config number) =
+    ap (λ asked_view. machine_of asked_view number) fresh ∙ machine_of-picked (is_dealt_to bundles index) (whole (heap_opening config).machines) number
+    ∙ ap (λ is_dealt. if is_dealt then machine_of (whole (heap_opening config).machines) number else None) test
     ∙ machine_of-whole (heap_opening config).machines number ∙ first_actor config number within in
-    ap (λ v. machine_of v number) (sym bundle.kept) ∙ machine_of-kept machine_in (view_of bundle) number ∙ ap (kept_one machine_in) here
+    ap (λ asked_view. machine_of asked_view number) (sym bundle.kept) ∙ machine_of-kept machine_in (view_of bundle) number ∙ ap (kept_one machine_in) actor_here
   where
-    test : (number % bundles == k) ≡ true
+    test : (number % bundles == index) ≡ true
     test = grind (arith, nat_tests, dealt)
 
 -- a bundle of the heap whose mutator has not begun a call
@@ -52,30 +52,30 @@ pub record CanCall (heap : Heap) (bundle : Bundle) (number : ℕ) : Type 0 where
   pub rest : may_begin (machine_at bundle number) ≡ true
   pub made : made_of_machine (machine_at bundle number) ≡ 0
 
-pub fresh_can_call : (config : Config) (heap : Heap) (bundle : Bundle) (bundles k number : ℕ) → IsFresh heap bundle (dealt_to bundles k (whole (heap_opening config).machines)) → number < config.mutators → number % bundles ≡ k → CanCall heap bundle number
-fresh_can_call config heap bundle bundles k number fresh within dealt =
-    let is = fresh_at config bundle bundles k number fresh.machines (omega (arith, within)) dealt in
+pub fresh_can_call : (config : Config) (heap : Heap) (bundle : Bundle) (bundles index number : ℕ) → IsFresh heap bundle (dealt_to bundles index (whole (heap_opening config).machines)) → number < config.mutators → number % bundles ≡ index → CanCall heap bundle number
+fresh_can_call config heap bundle bundles index number fresh within dealt =
+    let machine_there = fresh_at config bundle bundles index number fresh.machines (omega (arith, within)) dealt in
     record {
       of = fresh.of;
-      has = ap is_some is;
-      rest = ap (λ o. may_begin (unwrap_or o no_machine)) is ∙ first_free_to_begin config number within;
-      made = ap (λ o. made_of_machine (unwrap_or o no_machine)) is ∙ first_made config number;
+      has = ap is_some machine_there;
+      rest = ap (λ machine_found. may_begin (unwrap_or machine_found no_machine)) machine_there ∙ first_free_to_begin config number within;
+      made = ap (λ machine_found. made_of_machine (unwrap_or machine_found no_machine)) machine_there ∙ first_made config number;
     }
 
 -- a bundle of all machines of a heap has them before the first event, and later
 pub fresh_has_all : (config : Config) (heap : Heap) (bundle after : Bundle) → IsFresh heap bundle (dealt_to 1 0 (whole (heap_opening config).machines)) → config_of heap ≡ config → IsSameBundle bundle after → HasAll after
-fresh_has_all other_config heap bundle after fresh config same number below =
-    let within : number < seat_count other_config.mutators other_config.helpers = subst (λ (config : Config). number < seat_count config.mutators config.helpers) (same.config ∙ fresh.of.config ∙ config) below in
-    same_has bundle after number same (ap is_some (fresh_at other_config bundle 1 0 number fresh.machines within (omega arith)))
+fresh_has_all other_config heap bundle after fresh config same_bundle number number_below =
+    let within : number < seat_count other_config.mutators other_config.helpers = subst (λ (config : Config). number < seat_count config.mutators config.helpers) (same_bundle.config ∙ fresh.of.config ∙ config) number_below in
+    same_has bundle after number same_bundle (ap is_some (fresh_at other_config bundle 1 0 number fresh.machines within (omega arith)))
 
 -- it can start with scripts that a mutator can be given
 pub fresh_can_run : (config : Config) (heap : Heap) (bundle : Bundle) (scripts : List (List Command)) (jobs : Jobs) → IsFresh heap bundle (dealt_to 1 0 (whole (heap_opening config).machines)) → length scripts ≡ config.mutators → length scripts ≤ 8
     → All IsRunnable scripts → jobs ≡ opened scripts → CanStart bundle jobs
-fresh_can_run config heap bundle scripts jobs fresh count at_most runnable is = fresh_can_start heap bundle config 1 0 jobs fresh (λ number below dealt.
-    let within : number < length scripts = omega (arith, below, count) in
+fresh_can_run config heap bundle scripts jobs fresh count at_most runnable jobs_opened = fresh_can_start heap bundle config 1 0 jobs fresh (λ number number_below dealt.
+    let within : number < length scripts = omega (arith, number_below, count) in
     let script = slice_index_or scripts number [] in (
       script,
-      ap (λ k. progress_of k number) is ∙ progress_of-opened scripts number at_most ∙ ap (option_map begun) (slice_get-get_or scripts number [] within),
+      ap (λ all_jobs. progress_of all_jobs number) jobs_opened ∙ progress_of-opened scripts number at_most ∙ ap (option_map begun) (slice_get-get_or scripts number [] within),
       (runnable number [] within).0,
       (runnable number [] within).1,
     ))

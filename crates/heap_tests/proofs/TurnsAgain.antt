@@ -38,88 +38,88 @@ use Rattle.heap_words.specs.declared.config.Config.{Config}
 use Rattle.heap_tests.specs.Ordered.{IsOrdered, MayAt, IsPlaying}
 
 -- what is put where it is
-set_same : {R : Type 0} (view : View R) (k : ℕ) (x : R) → machine_of view k ≡ Some x → slice_set view k (Some x) ≡ view
-set_same [] k x there = refl
-set_same (y ∷ ys) zero x there = ap (λ z. z ∷ ys) (sym there)
-set_same (y ∷ ys) (suc k) x there = ap (λ zs. y ∷ zs) (set_same ys k x there)
+set_same : {R : Type 0} (view : View R) (number : ℕ) (x : R) → machine_of view number ≡ Some x → slice_set view number (Some x) ≡ view
+set_same [] number x element_there = refl
+set_same (y ∷ ys) zero x element_there = ap (λ z. z ∷ ys) (sym element_there)
+set_same (y ∷ ys) (suc number) x element_there = ap (λ zs. y ∷ zs) (set_same ys number x element_there)
 
-set_there : {R : Type 0} (view : View R) (k : ℕ) (x y : R) → machine_of view k ≡ Some x → machine_of (slice_set view k (Some y)) k ≡ Some y
-set_there [] k x y there = absurd cc
-set_there (z ∷ zs) zero x y there = refl
-set_there (z ∷ zs) (suc k) x y there = set_there zs k x y there
+set_there : {R : Type 0} (view : View R) (number : ℕ) (x y : R) → machine_of view number ≡ Some x → machine_of (slice_set view number (Some y)) number ≡ Some y
+set_there [] number x y element_there = absurd cc
+set_there (z ∷ zs) zero x y element_there = refl
+set_there (z ∷ zs) (suc number) x y element_there = set_there zs number x y element_there
 
 -- the order of a machine of a bundle
 pub order_there : (bundle : Bundle) (number : ℕ) → HasMachine bundle number → machine_of (orders_of bundle) number ≡ Some (order_at bundle number)
-order_there bundle number has =
-    let seen = in_view bundle number has in
-    let found = kept_here shown bundle.machines.items number seen.0.machine (in_memory bundle number seen.0 seen.1) in
-    let is = shows_here order_of bundle.machines.items number found.0 found.1 in
-    is ∙ sym (ap (λ o. Some (unwrap_or o Nothing)) is)
+order_there bundle number has_machine =
+    let seen_in_view = in_view bundle number has_machine in
+    let found = kept_here shown bundle.machines.items number seen_in_view.0.machine (in_memory bundle number seen_in_view.0 seen_in_view.1) in
+    let order_shown = shows_here order_of bundle.machines.items number found.0 found.1 in
+    order_shown ∙ sym (ap (λ found_order. Some (unwrap_or found_order Nothing)) order_shown)
 
 -- it has none between two turns
 no_order_at : (bundle : Bundle) (number : ℕ) → HasMachine bundle number → HasNoOrder bundle → order_at bundle number ≡ Nothing
-no_order_at bundle number has none = none number (order_at bundle number) (order_there bundle number has)
+no_order_at bundle number has_machine no_orders = no_orders number (order_at bundle number) (order_there bundle number has_machine)
 
 -- its machines are those of its view
 pub same_machines : (old new : Bundle) → view_of new ≡ view_of old → machines_of new ≡ machines_of old
-same_machines old new same = sym new.kept ∙ ap (kept_in_view machine_in) same ∙ old.kept
+same_machines old new same_view = sym new.kept ∙ ap (kept_in_view machine_in) same_view ∙ old.kept
 
 pub same_at : (old new : Bundle) (number : ℕ) → view_of new ≡ view_of old → machine_at new number ≡ machine_at old number
-same_at old new number same = ap (λ v. unwrap_or (machine_of v number) no_machine) (same_machines old new same)
+same_at old new number same_view = ap (λ view. unwrap_or (machine_of view number) no_machine) (same_machines old new same_view)
 
 -- a machine that has a turn without an order goes on with its call
 goes_on : (machine : Machine) (next : Option Command) → takes_of machine Nothing ≡ true → order_for next machine ≡ Some Nothing
 goes_on machine next takes = by_may (may_begin machine) refl
   where
     by_may : (holds : Bool) → may_begin machine ≡ holds → order_for next machine ≡ Some Nothing
-    by_may true may = absurd (false≢true (sym (rest_takes machine (begins_at_rest machine may)) ∙ takes))
+    by_may true begin_test = absurd (false≢true (sym (rest_takes machine (begins_at_rest machine begin_test)) ∙ takes))
     by_may false busy = turn_in_call machine next busy ∙ ap (λ (holds : Bool). if◌then◌else◌ {A = Option Order} holds (Some Nothing) None) takes
 
 pub unordered : (bundle : Bundle) (next : Option Command) (number : ℕ) → HasMachine bundle number → HasNoOrder bundle → IsOrdered bundle bundle next number
-unordered bundle next number has none =
-    let order = no_order_at bundle number has none in
+unordered bundle next number has_machine no_order =
+    let order = no_order_at bundle number has_machine no_order in
     record {
       unmoved = record { same = same_bundle bundle; view = refl; steps = refl; greyed = refl };
-      turn = λ turn. goes_on (machine_at bundle number) next (sym (ap (takes_of (machine_at bundle number)) order) ∙ turn) ∙ ap (λ o. Some o) (sym order);
-      orders = λ turn. sym (set_same (orders_of bundle) number (order_at bundle number) (order_there bundle number has));
-      idle = λ none. refl;
+      turn = λ turn. goes_on (machine_at bundle number) next (sym (ap (takes_of (machine_at bundle number)) order) ∙ turn) ∙ ap (λ given_order. Some given_order) (sym order);
+      orders = λ turn. sym (set_same (orders_of bundle) number (order_at bundle number) (order_there bundle number has_machine));
+      idle = λ no_order. refl;
     }
 
 -- a machine that was given its order between two calls
 pub ordered : (old new : Bundle) (next : Option Command) (number : ℕ) → HasMachine old number → may_begin (machine_at old number) ≡ true → IsUnmoved old new
     → orders_of new ≡ slice_set (orders_of old) number (Some (next_order next)) → takes_of (machine_at old number) (next_order next) ≡ true → IsOrdered old new next number
-ordered old new next number has may unmoved orders takes =
+ordered old new next number has_machine can_begin unmoved orders takes =
     let order : order_at new number ≡ next_order next =
-    ap (λ v. unwrap_or (machine_of v number) Nothing) orders ∙ ap (λ o. unwrap_or o Nothing) (set_there (orders_of old) number (order_at old number) (next_order next) (order_there old number has)) in
-    let turn : has_turn new number ≡ true = ap (λ m. takes_of m (order_at new number)) (same_at old new number unmoved.view) ∙ ap (takes_of (machine_at old number)) order ∙ takes in
+    ap (λ all_orders. unwrap_or (machine_of all_orders number) Nothing) orders ∙ ap (λ given_order. unwrap_or given_order Nothing) (set_there (orders_of old) number (order_at old number) (next_order next) (order_there old number has_machine)) in
+    let turn : has_turn new number ≡ true = ap (λ machine. takes_of machine (order_at new number)) (same_at old new number unmoved.view) ∙ ap (takes_of (machine_at old number)) order ∙ takes in
     record {
       unmoved = unmoved;
-      turn = λ is. turn_at_rest (machine_at old number) next may ∙ ap (λ o. Some o) (sym order);
-      orders = λ is. orders ∙ ap (λ o. slice_set (orders_of old) number (Some o)) (sym order);
-      idle = λ none. absurd (false≢true (sym none ∙ turn));
+      turn = λ turn_there. turn_at_rest (machine_at old number) next can_begin ∙ ap (λ given_order. Some given_order) (sym order);
+      orders = λ turn_there. orders ∙ ap (λ given_order. slice_set (orders_of old) number (Some given_order)) (sym order);
+      idle = λ no_turn. absurd (false≢true (sym no_turn ∙ turn));
     }
 
 -- a machine between two calls is a mutator, whose next command is that of its script
 pub next_between : (bundle : Bundle) (jobs : Jobs) (number : ℕ) → HasMachine bundle number → may_begin (machine_at bundle number) ≡ true → next_for bundle.config jobs number ≡ next_of jobs number
-next_between bundle jobs number has may =
-    let seen = in_view bundle number has in
-    let free : may_begin seen.0.machine ≡ true = ap may_begin (sym (at_number bundle number seen.0 seen.1)) ∙ may in
-    let role : is_mutating seen.0.machine ≡ true = rest_is_mutating seen.0.machine (begins_at_rest seen.0.machine free) in
-    ap (λ t. if t then next_of jobs number else None) (sym (role_at bundle number seen.0 seen.1) ∙ role)
+next_between bundle jobs number has_machine can_begin =
+    let seen_in_view = in_view bundle number has_machine in
+    let free_to_begin : may_begin seen_in_view.0.machine ≡ true = ap may_begin (sym (at_number bundle number seen_in_view.0 seen_in_view.1)) ∙ can_begin in
+    let role : is_mutating seen_in_view.0.machine ≡ true = rest_is_mutating seen_in_view.0.machine (begins_at_rest seen_in_view.0.machine free_to_begin) in
+    ap (λ can_take. if can_take then next_of jobs number else None) (sym (role_at bundle number seen_in_view.0 seen_in_view.1) ∙ role)
 
 -- and has a script
 pub script_between : (bundle : Bundle) (jobs : Jobs) (number : ℕ) → AreAtWork bundle jobs → HasMachine bundle number → may_begin (machine_at bundle number) ≡ true → HasScript jobs number
-script_between bundle jobs number work has may =
-    let seen = in_view bundle number has in
-    let free : may_begin seen.0.machine ≡ true = ap may_begin (sym (at_number bundle number seen.0 seen.1)) ∙ may in
-    let role : is_mutating seen.0.machine ≡ true = rest_is_mutating seen.0.machine (begins_at_rest seen.0.machine free) in
-    has_script bundle jobs number work has (sym (role_at bundle number seen.0 seen.1) ∙ role)
+script_between bundle jobs number work has_machine can_begin =
+    let seen_in_view = in_view bundle number has_machine in
+    let free_to_begin : may_begin seen_in_view.0.machine ≡ true = ap may_begin (sym (at_number bundle number seen_in_view.0 seen_in_view.1)) ∙ can_begin in
+    let role : is_mutating seen_in_view.0.machine ≡ true = rest_is_mutating seen_in_view.0.machine (begins_at_rest seen_in_view.0.machine free_to_begin) in
+    has_script bundle jobs number work has_machine (sym (role_at bundle number seen_in_view.0 seen_in_view.1) ∙ role)
 
 -- whose next command can be given
 pub command_between : (bundle : Bundle) (jobs : Jobs) (number : ℕ) (command : Command) → AreAtWork bundle jobs → HasMachine bundle number → may_begin (machine_at bundle number) ≡ true → next_of jobs number ≡ Some command
     → IsValid command × (made_of_machine (machine_at bundle number) < most_objects)
-command_between bundle jobs number command work has may next =
-    subst (λ o. IfSome o (λ command. IsValid command × (made_of_machine (machine_at bundle number) < most_objects))) (next_between bundle jobs number has may ∙ next) (command_fits bundle jobs number work has may)
+command_between bundle jobs number command work has_machine can_begin next_command =
+    subst (λ found_command. IfSome found_command (λ command. IsValid command × (made_of_machine (machine_at bundle number) < most_objects))) (next_between bundle jobs number has_machine can_begin ∙ next_command) (command_fits bundle jobs number work has_machine can_begin)
 
 -- a machine whose reply is at hand stands between two calls
 pub replied_may : (machine : Machine) → reply_in machine ≢ None → may_begin machine ≡ true
@@ -135,15 +135,15 @@ pub is_turn : (old mid new : Bundle) (next : Option Command) (number : ℕ) (sai
 is_turn old mid new next number said order turn step = record { ordered = mid; unmoved = order.unmoved; turn = inl (order.turn turn); orders = order.orders turn; step = step }
 
 -- no other machine has changed
-pub others_stay : (old new : Bundle) (next : Option Command) (number : ℕ) (said : Stepped) → IsTurn old new next number said → (k : ℕ) → k ≢ number → machine_at new k ≡ machine_at old k
-others_stay old new next number said made k other =
-    let test : (k == number) ≡ false = grind (arith, nat_tests) in
-    let put : machine_of (view_of new) k ≡ machine_of (view_of old) k =
-    ap (λ v. machine_of v k) (view_is old new next number said made)
-    ∙ machine_of-set (view_of old) number (was old new next number said made) (Some (then_is old new next number said made)) (here old new next number said made) k
-    ∙ ap (λ t. if t then Some (then_is old new next number said made) else machine_of (view_of old) k) test in
-    let seen : (bundle : Bundle) → machine_of (machines_of bundle) k ≡ kept_one machine_in (machine_of (view_of bundle) k) = λ bundle. ap (λ v. machine_of v k) (sym bundle.kept) ∙ machine_of-kept machine_in (view_of bundle) k in
-    ap (λ o. unwrap_or o no_machine) (seen new ∙ ap (kept_one machine_in) put ∙ sym (seen old))
+pub others_stay : (old new : Bundle) (next : Option Command) (number : ℕ) (said : Stepped) → IsTurn old new next number said → (other_number : ℕ) → other_number ≢ number → machine_at new other_number ≡ machine_at old other_number
+others_stay old new next number said made other_number numbers_differ =
+    let test : (other_number == number) ≡ false = grind (arith, nat_tests) in
+    let same_place : machine_of (view_of new) other_number ≡ machine_of (view_of old) other_number =
+    ap (λ view. machine_of view other_number) (view_is old new next number said made)
+    ∙ machine_of-set (view_of old) number (was old new next number said made) (Some (then_is old new next number said made)) (here old new next number said made) other_number
+    ∙ ap (λ is_same. if is_same then Some (then_is old new next number said made) else machine_of (view_of old) other_number) test in
+    let seen_at : (bundle : Bundle) → machine_of (machines_of bundle) other_number ≡ kept_one machine_in (machine_of (view_of bundle) other_number) = λ bundle. ap (λ view. machine_of view other_number) (sym bundle.kept) ∙ machine_of-kept machine_in (view_of bundle) other_number in
+    ap (λ found_machine. unwrap_or found_machine no_machine) (seen_at new ∙ ap (kept_one machine_in) same_place ∙ sym (seen_at old))
 
 -- ---- whether or not the machine made a step
 
@@ -153,10 +153,10 @@ turn_or_not false = inr refl
 
 -- the bundle has its machines still
 has_in_view : (bundle : Bundle) (number : ℕ) → is_some (machine_of (machines_of bundle) number) ≡ is_some (machine_of (view_of bundle) number)
-has_in_view bundle number = ap (λ v. is_some (machine_of v number)) (sym bundle.kept) ∙ kept_some machine_in (view_of bundle) number
+has_in_view bundle number = ap (λ view. is_some (machine_of view number)) (sym bundle.kept) ∙ kept_some machine_in (view_of bundle) number
 
 pub has_same : (old new : Bundle) (number : ℕ) → IsSameBundle old new → HasMachine old number → HasMachine new number
-has_same old new number same has = has_in_view new number ∙ same.numbers.here number ∙ sym (has_in_view old number) ∙ has
+has_same old new number bundles_agree has_machine = has_in_view new number ∙ bundles_agree.numbers.here number ∙ sym (has_in_view old number) ∙ has_machine
 
 module _ (old mid new : Bundle) (jobs : Jobs) (number : ℕ) (said : Stepped) (order : IsOrdered old mid (next_for old.config jobs number) number)
     (stepped_on : has_turn mid number ≡ true → IsBundleStep mid new number said) (idle : has_turn mid number ≡ false → IsUnchanged mid new) where
@@ -164,59 +164,59 @@ module _ (old mid new : Bundle) (jobs : Jobs) (number : ℕ) (said : Stepped) (o
   turned turn = is_turn old mid new (next_for old.config jobs number) number said order turn (stepped_on turn)
 
   unchanged : has_turn mid number ≡ false → IsUnchanged old new
-  unchanged none = subst (λ b. IsUnchanged b new) (order.idle none) (idle none)
+  unchanged no_turn = subst (λ old_bundle. IsUnchanged old_bundle new) (order.idle no_turn) (idle no_turn)
 
   pub works_on : AreAtWork old jobs → (said ≡ stepped.Done → ⊥) → AreAtWork new jobs
-  works_on work other = ⊎_elim
-      (λ turn. turned_on old new (next_for old.config jobs number) number said (turned turn) jobs refl work other)
-      (λ none. work_unchanged old new jobs (unchanged none) work)
+  works_on work not_done = ⊎_elim
+      (λ turn. turned_on old new (next_for old.config jobs number) number said (turned turn) jobs refl work not_done)
+      (λ no_turn. work_unchanged old new jobs (unchanged no_turn) work)
       (turn_or_not (has_turn mid number))
 
-  pub others_on : (k : ℕ) → k ≢ number → machine_at new k ≡ machine_at old k
-  others_on k other = ⊎_elim
-      (λ turn. others_stay old new (next_for old.config jobs number) number said (turned turn) k other)
-      (λ none. same_at old new k (unchanged none).unmoved.view)
+  pub others_on : (other_number : ℕ) → other_number ≢ number → machine_at new other_number ≡ machine_at old other_number
+  others_on other_number numbers_differ = ⊎_elim
+      (λ turn. others_stay old new (next_for old.config jobs number) number said (turned turn) other_number numbers_differ)
+      (λ no_turn. same_at old new other_number (unchanged no_turn).unmoved.view)
       (turn_or_not (has_turn mid number))
 
-  module _ (work : AreAtWork old jobs) (done : said ≡ stepped.Done) (turn : has_turn mid number ≡ true) where
+  module _ (work : AreAtWork old jobs) (said_done : said ≡ stepped.Done) (turn : has_turn mid number ≡ true) where
     pub can_note : HasScript jobs number × (length (replies_of jobs number) < length (script_in jobs number))
-    can_note = can_tell old new (next_for old.config jobs number) number said (turned turn) jobs refl work done
+    can_note = can_tell old new (next_for old.config jobs number) number said (turned turn) jobs refl work said_done
 
     pub works_noted : (reply : Reply) → reply_in (machine_at new number) ≡ Some reply → AreAtWork new (with_reply jobs number reply)
-    works_noted reply at_hand = turned_noted old new (next_for old.config jobs number) number said (turned turn) jobs refl work reply done at_hand
+    works_noted reply at_hand = turned_noted old new (next_for old.config jobs number) number said (turned turn) jobs refl work reply said_done at_hand
 
 -- ---- which machines are known to stand between two calls
 
-pub may_set : (mutators number : ℕ) (between : List Bool) (old new : Bundle) (was set : Bool) → slice_get between number ≡ Some was → MayAt mutators between old → ((index : ℕ) → index ≢ number → machine_at new index ≡ machine_at old index)
-    → (set ≡ true → may_begin (machine_at new number) ≡ true) → MayAt mutators (slice_set between number set) new
-may_set mutators number between old new was set here may others done index below flag = by_test (index == number) refl
+pub may_set : (mutators number : ℕ) (between : List Bool) (old new : Bundle) (was flag_after : Bool) → slice_get between number ≡ Some was → MayAt mutators between old → ((index : ℕ) → index ≢ number → machine_at new index ≡ machine_at old index)
+    → (flag_after ≡ true → may_begin (machine_at new number) ≡ true) → MayAt mutators (slice_set between number flag_after) new
+may_set mutators number between old new was flag_after here may_before others done_may index index_below flag = by_test (index == number) refl
   where
-    found : (if index == number then Some set else slice_get between index) ≡ Some true
-    found = sym (slice_get-set between number was set here index) ∙ flag
+    found : (if index == number then Some flag_after else slice_get between index) ≡ Some true
+    found = sym (slice_get-set between number was flag_after here index) ∙ flag
 
     by_test : (holds : Bool) → (index == number) ≡ holds → may_begin (machine_at new index) ≡ true
-    by_test true is =
-        let same : index ≡ number = grind (arith, nat_tests) in
-        let sets : Some set ≡ Some true = rw is at found in
-        subst (λ j. may_begin (machine_at new j) ≡ true) (sym same) (done (cc sets))
-    by_test false is =
-        let other : index ≢ number = grind (arith, nat_tests) in
-        let there : slice_get between index ≡ Some true = rw is at found in
-        ap may_begin (others index other) ∙ may index below there
+    by_test true number_test =
+        let same_number : index ≡ number = grind (arith, nat_tests) in
+        let sets : Some flag_after ≡ Some true = rw number_test at found in
+        subst (λ machine_number. may_begin (machine_at new machine_number) ≡ true) (sym same_number) (done_may (cc sets))
+    by_test false number_test =
+        let numbers_differ : index ≢ number = grind (arith, nat_tests) in
+        let index_flag : slice_get between index ≡ Some true = rw number_test at found in
+        ap may_begin (others index numbers_differ) ∙ may_before index index_below index_flag
 
-pub may_kept : (mutators number : ℕ) (between : List Bool) (old new : Bundle) → mutators ≤ number → MayAt mutators between old → ((k : ℕ) → k ≢ number → machine_at new k ≡ machine_at old k) → MayAt mutators between new
-may_kept mutators number between old new past may others k below flag =
-    let other : k ≢ number = grind (arith, below, past) in
-    ap may_begin (others k other) ∙ may k below flag
+pub may_kept : (mutators number : ℕ) (between : List Bool) (old new : Bundle) → mutators ≤ number → MayAt mutators between old → ((index : ℕ) → index ≢ number → machine_at new index ≡ machine_at old index) → MayAt mutators between new
+may_kept mutators number between old new past_mutators may_before others index index_below flag =
+    let numbers_differ : index ≢ number = grind (arith, index_below, past_mutators) in
+    ap may_begin (others index numbers_differ) ∙ may_before index index_below flag
 
 -- what is known of a heap before a turn is known of it behind it
 pub plays_on : (heap : Heap) (old new : Bundle) (before after : Jobs) (config : Config) (between flags : List Bool) → IsPlaying heap old before config between → IsSameBundle old new → AreAtWork new after → MayAt config.mutators flags new → length flags ≡ 8
     → IsPlaying heap new after config flags
-plays_on heap old new before after config between flags playing same works rests long = record {
-  of = still_of old new heap same playing.of;
+plays_on heap old new before after config between flags playing bundles_agree works rests eight_flags = record {
+  of = still_of old new heap bundles_agree playing.of;
   works = works;
-  same = same.config ∙ playing.same;
-  here = λ number within. has_same old new number same (playing.here number within);
+  same = bundles_agree.config ∙ playing.same;
+  here = λ number within. has_same old new number bundles_agree (playing.here number within);
   rests = rests;
-  long = long;
+  long = eight_flags;
 }

@@ -13,4 +13,4 @@ end_small config = omega (arith, heap_size_le config, config.in_range.most_words
 
 -- each address
 pub address_small : (config : Config) (address : ℕ) → IsWord config (Heap address) → address < 2 ^ 32
-address_small config address is = omega (arith, is.1, end_small config)
+address_small config address heap_word = omega (arith, heap_word.1, end_small config)

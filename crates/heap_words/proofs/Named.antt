@@ -15,31 +15,31 @@ StandsAt config place word = IsWord config word × (word_at config word ≡ plac
 -- the words of rows stand one after another, from a place on
 abbrev pub StandFrom : Config → ℕ → List Row → Type 0
 StandFrom config start [] = Unit {0}
-StandFrom config start (row ∷ more) = ((k : ℕ) → k < row.size → StandsAt config (start + k) (row.word k)) × StandFrom config (start + row.size) more
+StandFrom config start (row ∷ later_rows) = ((place : ℕ) → place < row.size → StandsAt config (start + place) (row.word place)) × StandFrom config (start + row.size) later_rows
 
 -- how many words rows have
 abbrev pub size_of : List Row → ℕ
 size_of [] = 0
-size_of (row ∷ more) = row.size + size_of more
+size_of (row ∷ later_rows) = row.size + size_of later_rows
 
 -- the word of rows that has so many words before it
-pub word_in-stands : (config : Config) (start : ℕ) (some : List Row) (before : ℕ) → StandFrom config start some → before < size_of some → StandsAt config (start + before) (word_in some before)
-word_in-stands config start [] before stand below = absurd (omega arith)
-word_in-stands config start (row ∷ more) before stand below =
+pub word_in-stands : (config : Config) (start : ℕ) (some_rows : List Row) (before : ℕ) → StandFrom config start some_rows → before < size_of some_rows → StandsAt config (start + before) (word_in some_rows before)
+word_in-stands config start [] before stand inside = absurd (omega arith)
+word_in-stands config start (row ∷ later_rows) before stand inside =
     ⊎_elim
-    (λ (here : ltb before row.size ≡ true).
-    subst (StandsAt config (start + before)) (sym (cond-true (ltb before row.size) _ _ here)) (stand.0 before (ltb-true _ _ here)))
+    (λ (in_row : ltb before row.size ≡ true).
+    subst (StandsAt config (start + before)) (sym (cond-true (ltb before row.size) _ _ in_row)) (stand.0 before (ltb-true _ _ in_row)))
     (λ (later : ltb before row.size ≡ false).
-    let behind : row.size ≤ before = ltb-false _ _ later in
+    let behind_row : row.size ≤ before = ltb-false _ _ later in
     let place : start + row.size + (before - row.size) ≡ start + before = omega arith in
     subst (StandsAt config (start + before)) (sym (cond-false (ltb before row.size) _ _ later))
-    (subst (λ p. StandsAt config p (word_in more (before - row.size))) place
-    (word_in-stands config (start + row.size) more (before - row.size) stand.1 (omega arith))))
+    (subst (λ any_place. StandsAt config any_place (word_in later_rows (before - row.size))) place
+    (word_in-stands config (start + row.size) later_rows (before - row.size) stand.1 (omega arith))))
     (cases_Bool (ltb before row.size))
 
 -- a word alone stands where its row begins
-alone : (config : Config) (start : ℕ) (word : Word) → IsWord config word → word_at config word ≡ start → (k : ℕ) → k < 1 → StandsAt config (start + k) word
-alone config start word is there k below = (is, omega arith)
+alone : (config : Config) (start : ℕ) (word : Word) → IsWord config word → word_at config word ≡ start → (before : ℕ) → before < 1 → StandsAt config (start + before) word
+alone config start word word_is row_begins before none_before = (word_is, omega arith)
 
 -- the rows of the table are those of its words
 rows_stand : (config : Config) → StandFrom config 0 (rows config)
@@ -50,7 +50,7 @@ rows_stand config = (
     (
       alone config _ End tt refl,
       (
-        λ k h. (h, refl),
+        λ number inside. (inside, refl),
         (
           alone config _ Phase tt (omega arith),
           (
@@ -64,28 +64,28 @@ rows_stand config = (
                   (
                     alone config _ Ask tt (omega arith),
                     (
-                      λ k h. (h, omega arith),
+                      λ number inside. (inside, omega arith),
                       (
-                        λ k h. (h, omega arith),
+                        λ number inside. (inside, omega arith),
                         (
-                          λ k h. (h, omega arith),
+                          λ number inside. (inside, omega arith),
                           (
-                            λ k h. (h, omega arith),
+                            λ number inside. (inside, omega arith),
                             (
-                              λ k h. ((omega arith, omega arith), omega arith),
+                              λ number inside. ((omega arith, omega arith), omega arith),
                               (
-                                λ k h. (h, omega arith),
+                                λ number inside. (inside, omega arith),
                                 (
-                                  λ k h. ((omega arith, omega arith), omega arith),
+                                  λ number inside. ((omega arith, omega arith), omega arith),
                                   (
-                                    λ k h. (h, omega arith),
+                                    λ number inside. (inside, omega arith),
                                     (
-                                      λ k h. (h, omega arith),
+                                      λ number inside. (inside, omega arith),
                                       (
-                                        λ k h. (h, omega arith),
+                                        λ number inside. (inside, omega arith),
                                         (
-                                          λ k h. (h, omega arith),
-                                          (λ k h. ((omega arith, omega arith), omega arith), (alone config _ Share tt (omega arith), (λ k h. ((omega arith, omega arith), omega arith), tt))),
+                                          λ number inside. (inside, omega arith),
+                                          (λ number inside. ((omega arith, omega arith), omega arith), (alone config _ Share tt (omega arith), (λ number inside. ((omega arith, omega arith), omega arith), tt))),
                                         ),
                                       ),
                                     ),
@@ -114,31 +114,31 @@ rows_all config = omega arith
 -- the word at a place stands there
 pub name_of-stands : (config : Config) (place : ℕ) → place < table_words config → StandsAt config place (name_of config place)
 unfolding name_of
-name_of-stands config place below =
-    subst (λ p. StandsAt config p (word_in (rows config) place)) (zero-add place)
+name_of-stands config place place_below =
+    subst (λ any_place. StandsAt config any_place (word_in (rows config) place)) (zero-add place)
     (word_in-stands config 0 (rows config) place (rows_stand config) (omega (arith, rows_all config)))
 
 -- a word is that of its place
 pub name_of-word_at : (config : Config) (word : Word) → IsWord config word → name_of config (word_at config word) ≡ word
-name_of-word_at config word is =
-    let stands : StandsAt config (word_at config word) (name_of config (word_at config word)) = name_of-stands config (word_at config word) (word_inside config word is) in
-    words_differ config (name_of config (word_at config word)) word stands.0 is stands.1
+name_of-word_at config word word_is =
+    let stands : StandsAt config (word_at config word) (name_of config (word_at config word)) = name_of-stands config (word_at config word) (word_inside config word word_is) in
+    words_differ config (name_of config (word_at config word)) word stands.0 word_is stands.1
 
 -- a word that stands at a place is the word at it
 pub stands-name_of : (config : Config) (word : Word) (place : ℕ) → IsWord config word → word_at config word ≡ place → word ≡ name_of config place
-stands-name_of config word place is there = sym (name_of-word_at config word is) ∙ ap (name_of config) there
+stands-name_of config word place word_is word_there = sym (name_of-word_at config word word_is) ∙ ap (name_of config) word_there
 
 pub are_named : AreNamed
 are_named = record {
-  is_word = λ c place below. (name_of-stands c place below).0;
-  there = λ c place below. (name_of-stands c place below).1;
+  is_word = λ config place place_below. (name_of-stands config place place_below).0;
+  there = λ config place place_below. (name_of-stands config place place_below).1;
   back = name_of-word_at;
 }
 
 pub are_read_whole : AreReadWhole
-are_read_whole c xs ys long_xs long_ys same =
+are_read_whole config xs ys long_xs long_ys same_views =
     same_number_lists xs ys (long_xs ∙ sym long_ys)
-    (λ k below.
-    let stands : StandsAt c k (name_of c k) = name_of-stands c k (omega arith) in
-    ap (λ index. get_or xs index 0) (sym stands.1) ∙ sym (view_word c xs (name_of c k) stands.0)
-    ∙ same (name_of c k) stands.0 ∙ view_word c ys (name_of c k) stands.0 ∙ ap (λ index. get_or ys index 0) stands.1)
+    (λ place place_below.
+    let stands : StandsAt config place (name_of config place) = name_of-stands config place (omega arith) in
+    ap (λ index. get_or xs index 0) (sym stands.1) ∙ sym (view_word config xs (name_of config place) stands.0)
+    ∙ same_views (name_of config place) stands.0 ∙ view_word config ys (name_of config place) stands.0 ∙ ap (λ index. get_or ys index 0) stands.1)

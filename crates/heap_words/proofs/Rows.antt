@@ -6,37 +6,37 @@ use Rattle.heap_words.specs.Words.{Word, Pause, Left, End, State, Phase, Cset, F
 
 -- where a row begins, by the sizes of all rows
 abbrev pub row_start : List ℕ → ℕ → ℕ
-row_start [] k = 0
-row_start (n ∷ ns) zero = 0
-row_start (n ∷ ns) (suc k) = n + row_start ns k
+row_start [] index = 0
+row_start (size ∷ later_sizes) zero = 0
+row_start (size ∷ later_sizes) (suc index) = size + row_start later_sizes index
 
 -- all rows together
 abbrev pub row_total : List ℕ → ℕ
 row_total [] = 0
-row_total (n ∷ ns) = n + row_total ns
+row_total (size ∷ later_sizes) = size + row_total later_sizes
 
 -- a row ends where a later one begins, or before
-pub row_below : (sizes : List ℕ) (index k : ℕ) → index < k → row_start sizes index + get_or sizes index 0 ≤ row_start sizes k
-row_below [] index k below = omega arith
-row_below (n ∷ ns) zero zero below = omega arith
-row_below (n ∷ ns) zero (suc k) below = omega arith
-row_below (n ∷ ns) (suc index) zero below = omega arith
-row_below (n ∷ ns) (suc index) (suc k) below = omega (arith, row_below ns index k (omega arith))
+pub row_below : (sizes : List ℕ) (index later_index : ℕ) → index < later_index → row_start sizes index + get_or sizes index 0 ≤ row_start sizes later_index
+row_below [] index later_index index_below = omega arith
+row_below (size ∷ later_sizes) zero zero index_below = omega arith
+row_below (size ∷ later_sizes) zero (suc later_index) index_below = omega arith
+row_below (size ∷ later_sizes) (suc index) zero index_below = omega arith
+row_below (size ∷ later_sizes) (suc index) (suc later_index) index_below = omega (arith, row_below later_sizes index later_index (omega arith))
 
 -- no row ends behind all of them
 pub row_inside : (sizes : List ℕ) (index : ℕ) → row_start sizes index + get_or sizes index 0 ≤ row_total sizes
 row_inside [] index = omega arith
-row_inside (n ∷ ns) zero = omega arith
-row_inside (n ∷ ns) (suc index) = omega (arith, row_inside ns index)
+row_inside (size ∷ later_sizes) zero = omega arith
+row_inside (size ∷ later_sizes) (suc index) = omega (arith, row_inside later_sizes index)
 
 -- places in two rows are equal only where the rows are
-pub same_row : (sizes : List ℕ) (index other_index x y : ℕ) → x < get_or sizes index 0 → y < get_or sizes other_index 0 → row_start sizes index + x ≡ row_start sizes other_index + y → index ≡ other_index
-same_row sizes index other_index x y in_j in_k same =
-    ⊎_elim (λ e. e)
+pub same_row : (sizes : List ℕ) (index second_index first_offset second_offset : ℕ) → first_offset < get_or sizes index 0 → second_offset < get_or sizes second_index 0 → row_start sizes index + first_offset ≡ row_start sizes second_index + second_offset → index ≡ second_index
+same_row sizes index second_index first_offset second_offset in_j in_k same_place =
+    ⊎_elim (λ same_index. same_index)
     (⊎_elim
-    (λ (below : index < other_index). absurd (omega (arith, row_below sizes index other_index below)))
-    (λ (above : other_index < index). absurd (omega (arith, row_below sizes other_index index above))))
-    (cases_order index other_index)
+    (λ (first_below : index < second_index). absurd (omega (arith, row_below sizes index second_index first_below)))
+    (λ (second_below : second_index < index). absurd (omega (arith, row_below sizes second_index index second_below))))
+    (cases_order index second_index)
 
 -- the sizes of the rows
 abbrev pub sizes : Config → List ℕ
@@ -92,10 +92,10 @@ offset config _ = 0
 
 -- the word of each row at an offset
 abbrev pub words_at : Config → ℕ → List Word
-words_at config x =
-    Pause ∷ Left ∷ End ∷ State x ∷ Phase ∷ Cset ∷ Free ∷ Evac ∷ Claim ∷ Ask ∷ Top x ∷ Tams x ∷ Limit x
-    ∷ Current x ∷ Root (x / 16) (x % 16) ∷ Count x ∷ Buffer (x / 8) (x % 8) ∷ Wait x ∷ Answer x
-    ∷ Grey x ∷ Black x ∷ Heap (x + config.region_words) ∷ Share ∷ Pin (x / 4) (x % 4) ∷ []
+words_at config offset =
+    Pause ∷ Left ∷ End ∷ State offset ∷ Phase ∷ Cset ∷ Free ∷ Evac ∷ Claim ∷ Ask ∷ Top offset ∷ Tams offset ∷ Limit offset
+    ∷ Current offset ∷ Root (offset / 16) (offset % 16) ∷ Count offset ∷ Buffer (offset / 8) (offset % 8) ∷ Wait offset ∷ Answer offset
+    ∷ Grey offset ∷ Black offset ∷ Heap (offset + config.region_words) ∷ Share ∷ Pin (offset / 4) (offset % 4) ∷ []
 
 pub word_at-row : (config : Config) (word : Word) → IsWord config word → word_at config word ≡ row_start (sizes config) (row word) + offset config word
 word_at-row config Pause word = refl
@@ -169,32 +169,32 @@ named config (Top region) word = refl
 named config (Tams region) word = refl
 named config (Limit region) word = refl
 named config (Current seat) word = refl
-named config (Root mutator index) word = let q : (16 * mutator + index) / 16 ≡ mutator = omega arith in let r : (16 * mutator + index) % 16 ≡ index = omega arith in cc
+named config (Root mutator index) word = let quotient : (16 * mutator + index) / 16 ≡ mutator = omega arith in let remainder : (16 * mutator + index) % 16 ≡ index = omega arith in cc
 named config (Count mutator) word = refl
-named config (Buffer mutator entry) word = let q : (8 * mutator + entry) / 8 ≡ mutator = omega arith in let r : (8 * mutator + entry) % 8 ≡ entry = omega arith in cc
+named config (Buffer mutator entry) word = let quotient : (8 * mutator + entry) / 8 ≡ mutator = omega arith in let remainder : (8 * mutator + entry) % 8 ≡ entry = omega arith in cc
 named config (Wait mutator) word = refl
 named config (Answer mutator) word = refl
 named config (Grey number) word = refl
 named config (Black number) word = refl
-named config (Heap address) word = let r : address - config.region_words + config.region_words ≡ address = omega arith in cc
+named config (Heap address) word = let remainder : address - config.region_words + config.region_words ≡ address = omega arith in cc
 named config Share word = refl
-named config (Pin mutator slot) word = let q : (4 * mutator + slot) / 4 ≡ mutator = omega arith in let r : (4 * mutator + slot) % 4 ≡ slot = omega arith in cc
+named config (Pin mutator slot) word = let quotient : (4 * mutator + slot) / 4 ≡ mutator = omega arith in let remainder : (4 * mutator + slot) % 4 ≡ slot = omega arith in cc
 
 -- each word stands in the table
 pub word_inside : (config : Config) (word : Word) → IsWord config word → word_at config word < table_words config
-word_inside config word h =
-    omega (arith, word_at-row config word h, table_words-rows config, in_row config word h, row_inside (sizes config) (row word))
+word_inside config word word_is =
+    omega (arith, word_at-row config word word_is, table_words-rows config, in_row config word word_is, row_inside (sizes config) (row word))
 
 -- two names never stand at one place
-pub words_differ : (config : Config) (word other_word : Word) → IsWord config word → IsWord config other_word → word_at config word ≡ word_at config other_word → word ≡ other_word
-words_differ config word other_word is_v is_w same =
-    let placed : row_start (sizes config) (row word) + offset config word ≡ row_start (sizes config) (row other_word) + offset config other_word =
-    sym (word_at-row config word is_v) ∙ same ∙ word_at-row config other_word is_w in
-    let rows : row word ≡ row other_word =
-    same_row (sizes config) (row word) (row other_word) (offset config word) (offset config other_word) (in_row config word is_v) (in_row config other_word is_w) placed in
-    let offsets : offset config word ≡ offset config other_word = omega (arith, ap (row_start (sizes config)) rows) in
-    sym (named config word is_v) ∙ ap (λ x. get_or (words_at config x) (row word) Pause) offsets
-    ∙ ap (λ k. get_or (words_at config (offset config other_word)) k Pause) rows ∙ named config other_word is_w
+pub words_differ : (config : Config) (word second_word : Word) → IsWord config word → IsWord config second_word → word_at config word ≡ word_at config second_word → word ≡ second_word
+words_differ config word second_word first_is second_is same_place =
+    let placed : row_start (sizes config) (row word) + offset config word ≡ row_start (sizes config) (row second_word) + offset config second_word =
+    sym (word_at-row config word first_is) ∙ same_place ∙ word_at-row config second_word second_is in
+    let rows : row word ≡ row second_word =
+    same_row (sizes config) (row word) (row second_word) (offset config word) (offset config second_word) (in_row config word first_is) (in_row config second_word second_is) placed in
+    let offsets : offset config word ≡ offset config second_word = omega (arith, ap (row_start (sizes config)) rows) in
+    sym (named config word first_is) ∙ ap (λ start. get_or (words_at config start) (row word) Pause) offsets
+    ∙ ap (λ row_number. get_or (words_at config (offset config second_word)) row_number Pause) rows ∙ named config second_word second_is
 
 -- the words before the image are those of the handshake
 pub is_image-word_at : (config : Config) (word : Word) → IsWord config word → is_image word ≡ leb (image_start config) (word_at config word)
@@ -202,4 +202,4 @@ is_image-word_at config Pause word = sym (lt-leb (image_start config) 0 (omega a
 is_image-word_at config Left word = sym (lt-leb (image_start config) 1 (omega arith))
 is_image-word_at config End word = sym (lt-leb (image_start config) 2 (omega arith))
 is_image-word_at config (State seat) word = sym (lt-leb (image_start config) (3 + seat) (omega arith))
-is_image-word_at config word h = sym (le-leb (image_start config) (word_at config word) (omega arith))
+is_image-word_at config word word_is = sym (le-leb (image_start config) (word_at config word) (omega arith))

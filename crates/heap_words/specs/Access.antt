@@ -7,25 +7,25 @@ use Rattle.heap_words.specs.declared.access.Access.TheVariants.{Load, Store, Swa
 
 -- the index of the word
 abbrev pub table_index : Access → ℕ
-table_index (Load at) = at
-table_index (Store at value) = at
-table_index (Swap at value) = at
-table_index (Add at value) = at
-table_index (Sub at value) = at
-table_index (And at value) = at
-table_index (Or at value) = at
-table_index (Exchange at expect value) = at
+table_index (Load index) = index
+table_index (Store index value) = index
+table_index (Swap index value) = index
+table_index (Add index value) = index
+table_index (Sub index value) = index
+table_index (And index value) = index
+table_index (Or index value) = index
+table_index (Exchange index expect value) = index
 
 -- what the word is after the access, by what it was before
 abbrev pub made_of : Access → ℕ → ℕ
-made_of (Load at) found = found
-made_of (Store at value) found = value
-made_of (Swap at value) found = value
-made_of (Add at value) found = (found + value) % 2 ^ 64
-made_of (Sub at value) found = (found + (2 ^ 64 - value)) % 2 ^ 64
-made_of (And at value) found = bit_and found value
-made_of (Or at value) found = bit_or found value
-made_of (Exchange at expect value) found = if found == expect then value else found
+made_of (Load index) found = found
+made_of (Store index value) found = value
+made_of (Swap index value) found = value
+made_of (Add index value) found = (found + value) % 2 ^ 64
+made_of (Sub index value) found = (found + (2 ^ 64 - value)) % 2 ^ 64
+made_of (And index value) found = bit_and found value
+made_of (Or index value) found = bit_or found value
+made_of (Exchange index expect value) found = if found == expect then value else found
 
 -- what whoever made the access is told: the word before it
 abbrev pub got_of : Access → ℕ → ℕ
@@ -33,14 +33,14 @@ got_of access found = found
 
 -- an access as its kind, its place, what it writes and what it expects
 abbrev pub access_numbers : Access → List ℕ
-access_numbers (Load at) = 0 ∷ at ∷ 0 ∷ 0 ∷ []
-access_numbers (Store at value) = 1 ∷ at ∷ value ∷ 0 ∷ []
-access_numbers (Swap at value) = 2 ∷ at ∷ value ∷ 0 ∷ []
-access_numbers (Add at value) = 3 ∷ at ∷ value ∷ 0 ∷ []
-access_numbers (Sub at value) = 4 ∷ at ∷ value ∷ 0 ∷ []
-access_numbers (And at value) = 5 ∷ at ∷ value ∷ 0 ∷ []
-access_numbers (Or at value) = 6 ∷ at ∷ value ∷ 0 ∷ []
-access_numbers (Exchange at expect value) = 7 ∷ at ∷ value ∷ expect ∷ []
+access_numbers (Load index) = 0 ∷ index ∷ 0 ∷ 0 ∷ []
+access_numbers (Store index value) = 1 ∷ index ∷ value ∷ 0 ∷ []
+access_numbers (Swap index value) = 2 ∷ index ∷ value ∷ 0 ∷ []
+access_numbers (Add index value) = 3 ∷ index ∷ value ∷ 0 ∷ []
+access_numbers (Sub index value) = 4 ∷ index ∷ value ∷ 0 ∷ []
+access_numbers (And index value) = 5 ∷ index ∷ value ∷ 0 ∷ []
+access_numbers (Or index value) = 6 ∷ index ∷ value ∷ 0 ∷ []
+access_numbers (Exchange index expect value) = 7 ∷ index ∷ value ∷ expect ∷ []
 
 -- whether two accesses are one
 abbrev pub same_access : Access → Access → Bool

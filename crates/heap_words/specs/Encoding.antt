@@ -68,8 +68,8 @@ count_in name = name % 2 ^ 32
 -- The words, in order, of an object of so many references and numbers that is new: header, shape, name, and zeros. It is the
 -- next object of the mutator of a seat that has made so many.
 abbrev pub fresh_word : ℕ → ℕ → ℕ → ℕ → ℕ → ℕ
-fresh_word seat made refs nums k =
-    if k == 0 then plain_header else (if k == 1 then shape_word refs nums else (if k == 2 then name_code (seat + 1) (made + 1) else 0))
+fresh_word seat made refs nums offset =
+    if offset == 0 then plain_header else (if offset == 1 then shape_word refs nums else (if offset == 2 then name_code (seat + 1) (made + 1) else 0))
 
 -- the word that asks for an object of a shape word, by the count of its name
 abbrev pub request_code : ℕ → ℕ → ℕ

@@ -6,7 +6,7 @@ use Rattle.heap_words.specs.Touch.{Touch, Form, loads, stores, swaps, adds, subt
 
 -- whether a word holds the number
 abbrev pub is_number : ℕ → Bool
-is_number n = nat_lt n (2 ^ 64)
+is_number number = nat_lt number (2 ^ 64)
 
 -- whether the numbers of the access are words
 abbrev pub form_fits : Form → Bool

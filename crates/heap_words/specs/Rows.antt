@@ -34,7 +34,7 @@ rows config =
 -- the word in rows that has so many words before it; Pause behind all of them
 abbrev pub word_in : List Row → ℕ → Word
 word_in [] before = Pause
-word_in (row ∷ more) before = if nat_lt before row.size then row.word before else word_in more (before - row.size)
+word_in (row ∷ later_rows) before = if nat_lt before row.size then row.word before else word_in later_rows (before - row.size)
 
 -- the word at an index of the table
 unfoldable pub name_of : Config → ℕ → Word
@@ -48,5 +48,5 @@ pub record AreNamed : Type 0 where
 
 -- two tables in which all words read the same are one
 abbrev pub AreReadWhole : Type 0
-AreReadWhole = (config : Config) (xs ys : List ℕ) → length xs ≡ table_words config → length ys ≡ table_words config
-    → ((word : Word) → IsWord config word → view config xs word ≡ view config ys word) → xs ≡ ys
+AreReadWhole = (config : Config) (table other_table : List ℕ) → length table ≡ table_words config → length other_table ≡ table_words config
+    → ((word : Word) → IsWord config word → view config table word ≡ view config other_table word) → table ≡ other_table

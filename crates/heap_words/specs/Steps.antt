@@ -27,19 +27,19 @@ accessed access words = slice_set words (table_index access) (made_of access (sl
 
 -- the word that the machine finds
 abbrev pub found_by : {R O : Type 0} → MachineKind R O → Stage R → R → O → ℕ
-found_by kind stage r order = slice_index stage.words (table_index (kind.plan r order))
+found_by kind stage machine order = slice_index stage.words (table_index (kind.plan machine order))
 
 -- the access is made, and the machine is told its word
 abbrev pub moved : {R O : Type 0} → MachineKind R O → Stage R → ℕ → R → O → Stage R
-moved kind stage number r order = record {
-  words = accessed (kind.plan r order) stage.words;
-  machines = slice_set stage.machines number (kind.took r order (got_of (kind.plan r order) (found_by kind stage r order)));
+moved kind stage number machine order = record {
+  words = accessed (kind.plan machine order) stage.words;
+  machines = slice_set stage.machines number (kind.took machine order (got_of (kind.plan machine order) (found_by kind stage machine order)));
 }
 
 -- what an event makes of a stage, by the machine that has its number. An order that the machine does not take changes nothing
 abbrev pub act_of : {R O : Type 0} → MachineKind R O → Stage R → Event O → Option R → Stage R
 act_of kind stage event None = stage
-act_of kind stage event (Some r) = if kind.takes r event.order then moved kind stage event.number r event.order else stage
+act_of kind stage event (Some machine) = if kind.takes machine event.order then moved kind stage event.number machine event.order else stage
 
 -- what an event makes of a stage
 unfoldable pub act : {R O : Type 0} → MachineKind R O → Stage R → Event O → Stage R

@@ -37,14 +37,14 @@ formed (exchanges expect value) found = if found == expect then value else found
 
 -- the access that does so at an index of the table
 abbrev pub access_at : ℕ → Form → Access
-access_at at loads = Load at
-access_at at (stores value) = Store at value
-access_at at (swaps value) = Swap at value
-access_at at (adds value) = Add at value
-access_at at (subtracts value) = Sub at value
-access_at at (keeps_bits value) = And at value
-access_at at (sets_bits value) = Or at value
-access_at at (exchanges expect value) = Exchange at expect value
+access_at index loads = Load index
+access_at index (stores value) = Store index value
+access_at index (swaps value) = Swap index value
+access_at index (adds value) = Add index value
+access_at index (subtracts value) = Sub index value
+access_at index (keeps_bits value) = And index value
+access_at index (sets_bits value) = Or index value
+access_at index (exchanges expect value) = Exchange index expect value
 
 -- the access of the table
 abbrev pub placed : Config → Touch → Access

@@ -171,7 +171,7 @@ view config words word = if is_word config word then slice_index words (word_at 
 
 -- a memory after a number was written at a name
 abbrev pub write : (Word → ℕ) → Word → ℕ → Word → ℕ
-write memory at value word = if same_word at word then value else memory word
+write memory target value word = if same_word target word then value else memory word
 
 -- whether a word is of the image: those that a pause reads and may change
 abbrev pub is_image : Word → Bool

@@ -11,17 +11,17 @@ pub plain_current : (heap : ℕ → ℕ) (address : ℕ) → heap address ≡ pl
 plain_current heap address plain = cond-false (is_forwarded (heap address)) (forwardee_in (heap address)) address (ap is_forwarded plain)
 
 -- a header that leads to an address says that it is there
-pub moved_current : (heap : ℕ → ℕ) (address to : ℕ) → heap address ≡ header_word to → current_of heap address ≡ to
-moved_current heap address to is =
-    let moved_on : heap address % 4 ≡ 3 = omega (arith, is) in
-    cond-true (is_forwarded (heap address)) (forwardee_in (heap address)) address (eq-eqb (heap address % 4) 3 moved_on) ∙ omega (arith, is)
+pub moved_current : (heap : ℕ → ℕ) (address target : ℕ) → heap address ≡ header_word target → current_of heap address ≡ target
+moved_current heap address target header_leads =
+    let moved_on : heap address % 4 ≡ 3 = omega (arith, header_leads) in
+    cond-true (is_forwarded (heap address)) (forwardee_in (heap address)) address (eq-eqb (heap address % 4) 3 moved_on) ∙ omega (arith, header_leads)
 
 -- of a word that is not null it is the same by the list of words
-pub current_same : (first : ℕ) (heap : List ℕ) (word : ℕ) → word ≢ 0 → current_at first heap word ≡ current_of (λ a. slice_index heap (a - first)) word
+pub current_same : (first : ℕ) (heap : List ℕ) (word : ℕ) → word ≢ 0 → current_at first heap word ≡ current_of (λ address. slice_index heap (address - first)) word
 current_same first heap word positive =
     cond-false (word == 0) 0 (if is_forwarded (slice_index heap (word - first)) then forwardee_in (slice_index heap (word - first)) else word) (ne_eqb word 0 positive)
 
 -- and null stays null
 pub current_null : (first : ℕ) (heap : List ℕ) (word : ℕ) → word ≡ 0 → current_at first heap word ≡ 0
-current_null first heap word none =
-    cond-true (word == 0) 0 (if is_forwarded (slice_index heap (word - first)) then forwardee_in (slice_index heap (word - first)) else word) (eq-eqb word 0 none)
+current_null first heap word null_word =
+    cond-true (word == 0) 0 (if is_forwarded (slice_index heap (word - first)) then forwardee_in (slice_index heap (word - first)) else word) (eq-eqb word 0 null_word)

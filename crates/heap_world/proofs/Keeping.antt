@@ -16,53 +16,53 @@ use Rattle.heap_world.specs.Rely.{Keeps, Rely}
 
 -- a word stands for what it stood for where names stay
 pub points_stay : (plot other_plot : Plot) → ((address : ℕ) (name : Name) → name_at (plot address) ≡ Some name → name_at (other_plot address) ≡ Some name) → (word : ℕ) (reference : Reference) → Points plot word reference → Points other_plot word reference
-points_stay plot other_plot names word None is = is
-points_stay plot other_plot names word (Some name) is = names word name is
+points_stay plot other_plot names word None points = points
+points_stay plot other_plot names word (Some name) points = names word name points
 
 -- a load leaves the memory as it is
 pub load_keeps : (memory : Word → ℕ) (word : Word) → memory ≡ write memory word (memory word)
-load_keeps memory word = fun_ext (λ w. ⊎_elim
-    (λ (same : same_word word w ≡ true). sym (cond-true (same_word word w) (memory word) (memory w) same ∙ ap memory (same_word_true word w same)))
-    (λ (differs : same_word word w ≡ false). sym (cond-false (same_word word w) (memory word) (memory w) differs))
-    (cases_Bool (same_word word w)))
+load_keeps memory word = fun_ext (λ read_word. ⊎_elim
+    (λ (same_address : same_word word read_word ≡ true). sym (cond-true (same_word word read_word) (memory word) (memory read_word) same_address ∙ ap memory (same_word_true word read_word same_address)))
+    (λ (differs : same_word word read_word ≡ false). sym (cond-false (same_word word read_word) (memory word) (memory read_word) differs))
+    (cases_Bool (same_word word read_word)))
 
 -- a word may still be used
 pub usable_stays : (config : Config) (world other_world : World) → ((address refs nums : ℕ) (name : Name) → TargetIn config world address refs nums name → TargetIn config other_world address refs nums name) → (word : ℕ) → UsableIn config world word → UsableIn config other_world word
 usable_stays config world other_world targets word (inl null) = inl null
-usable_stays config world other_world targets word (inr at) = inr (at.0, at.1, at.2, targets word at.1 at.2 at.0 at.3)
+usable_stays config world other_world targets word (inr current_word) = inr (current_word.0, current_word.1, current_word.2, targets word current_word.1 current_word.2 current_word.0 current_word.3)
 
 -- as long as there is no collection set and no object has a second copy, each word that stands for a reference may be used
-pub usable_now : (config : Config) (evac : ℕ) (block : Plot) → ((address refs nums to : ℕ) (name : Name) → block address ≡ Some (moved name refs nums to) → ⊥) → (word : ℕ) (reference : Reference) → Points block word reference
+pub usable_now : (config : Config) (evac : ℕ) (block : Plot) → ((address refs nums copy_address : ℕ) (name : Name) → block address ≡ Some (moved name refs nums copy_address) → ⊥) → (word : ℕ) (reference : Reference) → Points block word reference
     → IsUsable config 0 evac block word
 usable_now config evac block unmoved word None points = inl points
 usable_now config evac block unmoved word (Some name) points =
-    let piece = named_thing (block word) name (λ refs nums to. unmoved word refs nums to name) points in
+    let piece = named_thing (block word) name (λ refs nums copy_address. unmoved word refs nums copy_address name) points in
     inr (name, piece.0, piece.1, record { piece = piece.2; safe = λ collected. absurd (none_in_0 config word collected) })
 
 -- where nothing changes, everything can be relied on
 pub rely_same : (config : Config) (seat : ℕ) (world : World) → Rely config seat world world
 rely_same config seat world = record {
-  names = λ a name is. is;
-  targets = λ address refs nums name is. is;
-  rooms = λ a x is room. is;
-  no_rooms = λ a x is room. is;
-  room_words = λ a k x is room below. refl;
-  promises = λ a words is. is;
-  no_promises = λ address words is. is;
-  promise_words = λ address words k is below. refl;
+  names = λ asked_address name stands. stands;
+  targets = λ address refs nums name stands. stands;
+  rooms = λ asked_address piece stands room. stands;
+  no_rooms = λ asked_address piece stands room. stands;
+  room_words = λ asked_address offset piece stands room word_below. refl;
+  promises = λ asked_address words stands. stands;
+  no_promises = λ address words stands. stands;
+  promise_words = λ address words offset stands word_below. refl;
   current = refl;
-  opens = λ r is. is;
-  owners = λ region is. is;
-  tops = λ r is. refl;
-  root_words = λ i. refl;
-  roots = λ i. refl;
+  opens = λ any_region stands. stands;
+  owners = λ region stands. stands;
+  tops = λ any_region stands. refl;
+  root_words = λ slot. refl;
+  roots = λ slot. refl;
   pin_words = λ index. refl;
-  pins = λ i. refl;
+  pins = λ slot. refl;
   count = refl;
   wait = refl;
   answer = refl;
   state = refl;
-  asked = λ is. is;
+  asked = λ stands. stands;
   marks = same_marks config world seat;
   copies = same_copies config world seat;
   fields = same_fields config world;

@@ -27,111 +27,111 @@ pub record CanGrow (config : Config) (top : ℕ → ℕ) (block : Plot) (region 
   pub room : at + words ≤ config.region_words
   pub some : 3 ≤ words
 
-module _ (config : Config) (top : ℕ → ℕ) (block : Plot) (region at words seat : ℕ) (grows : CanGrow config top block region at words) where
+module _ (config : Config) (top : ℕ → ℕ) (block : Plot) (region old_top words seat : ℕ) (grows : CanGrow config top block region old_top words) where
   -- where the new piece lies
   abbrev address : ℕ
-  address = base_of config region + at
+  address = base_of config region + old_top
 
   -- the tops with it
   abbrev new_top : ℕ → ℕ
-  new_top = updated top region (at + words)
+  new_top = updated top region (old_top + words)
 
   -- the plot with it
   abbrev new_block : Plot
   new_block = updated block address (Some (carved seat words))
 
   -- the carved words join there
-  joins : CanJoin config top block region at (carved seat words)
+  joins : CanJoin config top block region old_top (carved seat words)
   joins = record {
     plotted = grows.parsable.plotted;
     long = some_words config top block grows.parsable grows.rooms;
     within = grows.within;
     top_is = grows.top_is;
     room = grows.room;
-    some = (let some = grows.some in omega (arith, some));
+    some = (let words_positive = grows.some in omega (arith, words_positive));
   }
 
   -- what stood somewhere stands there
   pub stays : (address : ℕ) (piece : Block) → block address ≡ Some piece → new_block address ≡ Some piece
-  stays = joined.stays config top block region at (carved seat words) joins
+  stays = joined.stays config top block region old_top (carved seat words) joins
 
   -- what a word stands for it still stands for
   pub names_stay : (address : ℕ) (name : Name) → name_at (block address) ≡ Some name → name_at (new_block address) ≡ Some name
-  names_stay = joined.names_stay config top block region at (carved seat words) joins
+  names_stay = joined.names_stay config top block region old_top (carved seat words) joins
 
   -- all pieces but loose ones are the same
   pub same_but_loose : SameButLoose block new_block
   same_but_loose = record {
-    stays = λ address piece fixed is. stays address piece is;
-    came = λ other_address piece fixed is. ⊎_elim
-        (λ (new : (other_address ≡ address) × (carved seat words ≡ piece)). absurd (true≢false (ap is_loose new.1 ∙ fixed)))
-        (λ (old : (other_address ≢ address) × (block other_address ≡ Some piece)). old.1)
-        (piece_cases block address (carved seat words) other_address piece is);
+    stays = λ address piece fixed piece_there. stays address piece piece_there;
+    came = λ new_address piece fixed piece_there. ⊎_elim
+        (λ (new : (new_address ≡ address) × (carved seat words ≡ piece)). absurd (true≢false (ap is_loose new.1 ∙ fixed)))
+        (λ (old : (new_address ≢ address) × (block new_address ≡ Some piece)). old.1)
+        (piece_cases block address (carved seat words) new_address piece piece_there);
   }
 
   -- a promised object is an old one
-  pub old_promise : (address other more : ℕ) → new_block address ≡ Some (promised other more) → block address ≡ Some (promised other more)
-  old_promise address other more is = same_but_loose.came address (promised other more) refl is
+  pub old_promise : (address promised_seat promised_words : ℕ) → new_block address ≡ Some (promised promised_seat promised_words) → block address ≡ Some (promised promised_seat promised_words)
+  old_promise address promised_seat promised_words promise_then = same_but_loose.came address (promised promised_seat promised_words) refl promise_then
 
   -- room of another seat is old
-  pub old_room : (address other : ℕ) (piece : Block) → other ≢ seat → new_block address ≡ Some piece → room_of piece ≡ Some other → block address ≡ Some piece
-  old_room a other piece differs is room = ⊎_elim
-      (λ (new : (a ≡ address) × (carved seat words ≡ piece)). absurd (differs (sym (same_Some seat other (ap room_of new.1 ∙ room)))))
-      (λ (old : (a ≢ address) × (block a ≡ Some piece)). old.1)
-      (piece_cases block address (carved seat words) a piece is)
+  pub old_room : (address other_seat : ℕ) (piece : Block) → other_seat ≢ seat → new_block address ≡ Some piece → room_of piece ≡ Some other_seat → block address ≡ Some piece
+  old_room place other_seat piece differs room_then room = ⊎_elim
+      (λ (new : (place ≡ address) × (carved seat words ≡ piece)). absurd (differs (sym (same_Some seat other_seat (ap room_of new.1 ∙ room)))))
+      (λ (old : (place ≢ address) × (block place ≡ Some piece)). old.1)
+      (piece_cases block address (carved seat words) place piece room_then)
 
   -- room of the seat is the new piece, or was there
-  pub own_room : (a : ℕ) (piece : Block) → new_block a ≡ Some piece → ((a ≡ address) × (carved seat words ≡ piece)) ⊎ (block a ≡ Some piece)
-  own_room a piece is = ⊎_elim (λ new. inl new) (λ (old : (a ≢ address) × (block a ≡ Some piece)). inr old.1) (piece_cases block address (carved seat words) a piece is)
+  pub own_room : (place : ℕ) (piece : Block) → new_block place ≡ Some piece → ((place ≡ address) × (carved seat words ≡ piece)) ⊎ (block place ≡ Some piece)
+  own_room place piece room_then = ⊎_elim (λ new. inl new) (λ (old : (place ≢ address) × (block place ≡ Some piece)). inr old.1) (piece_cases block address (carved seat words) place piece room_then)
 
   -- a piece of another kind is old
   old_other : (address : ℕ) (piece : Block) → (carved seat words ≡ piece → ⊥) → new_block address ≡ Some piece → block address ≡ Some piece
-  old_other a piece differs is = ⊎_elim
-      (λ (new : (a ≡ address) × (carved seat words ≡ piece)). absurd (differs new.1))
-      (λ (old : (a ≢ address) × (block a ≡ Some piece)). old.1)
-      (piece_cases block address (carved seat words) a piece is)
+  old_other place piece differs piece_then = ⊎_elim
+      (λ (new : (place ≡ address) × (carved seat words ≡ piece)). absurd (differs new.1))
+      (λ (old : (place ≢ address) × (block place ≡ Some piece)). old.1)
+      (piece_cases block address (carved seat words) place piece piece_then)
 
   -- the heap is parsable
   pub parsable_more : IsParsable config new_top new_block
   parsable_more = record {
-    plotted = joined.plotted_more config top block region at (carved seat words) joins;
-    filled = joined.filled_more config top block region at (carved seat words) joins grows.parsable.filled;
-    promises = λ address other more is. grows.parsable.promises address other more (old_promise address other more is);
-    deads = λ a more is. grows.parsable.deads a more (same_but_loose.came a (dead more) refl is);
-    spents = λ a more to is. grows.parsable.spents a more to (same_but_loose.came a (spent more to) refl is);
-    fillers = λ address more is. grows.parsable.fillers address more (old_other address (filler more) (λ differ. cc) is);
+    plotted = joined.plotted_more config top block region old_top (carved seat words) joins;
+    filled = joined.filled_more config top block region old_top (carved seat words) joins grows.parsable.filled;
+    promises = λ address promised_seat piece_words piece_then. grows.parsable.promises address promised_seat piece_words (old_promise address promised_seat piece_words piece_then);
+    deads = λ place piece_words piece_then. grows.parsable.deads place piece_words (same_but_loose.came place (dead piece_words) refl piece_then);
+    spents = λ place piece_words copy_address piece_then. grows.parsable.spents place piece_words copy_address (same_but_loose.came place (spent piece_words copy_address) refl piece_then);
+    fillers = λ address piece_words piece_then. grows.parsable.fillers address piece_words (old_other address (filler piece_words) (λ differ. cc) piece_then);
   }
 
   -- pieces that nobody writes to are as before
   pub unwritten_more : (heap : ℕ → ℕ) → AreUnwritten heap block → AreUnwritten heap new_block
-  unwritten_more heap = unwritten_stays heap heap block new_block (λ address other more is. (old_promise address other more is, λ k below. refl)) (λ a more is. (same_but_loose.came a (dead more) refl is, refl, refl))
-      (λ address more is. (old_other address (filler more) (λ differ. cc) is, refl))
+  unwritten_more heap = unwritten_stays heap heap block new_block (λ address promised_seat piece_words piece_then. (old_promise address promised_seat piece_words piece_then, λ offset offset_below. refl)) (λ place piece_words piece_then. (same_but_loose.came place (dead piece_words) refl piece_then, refl, refl))
+      (λ address piece_words piece_then. (old_other address (filler piece_words) (λ differ. cc) piece_then, refl))
 
   -- what can be marked still can
   pub markable_more : (address : ℕ) → IsMarkable block address → IsMarkable new_block address
   markable_more = markable_loose config block new_block same_but_loose
 
   -- the new piece is young: the top at mark start is no higher than the one on which it stands
-  young_there : (start : ℕ → ℕ) → ((r : ℕ) → r < config.regions → start r ≤ top r) → IsYoung config start address
+  young_there : (start : ℕ → ℕ) → ((its_region : ℕ) → its_region < config.regions → start its_region ≤ top its_region) → IsYoung config start address
   young_there start floors =
-      let inside : IsOf config region address = record { from = omega arith; before = (let room = grows.room in let some = grows.some in omega (arith, room, some)) } in
+      let inside : IsOf config region address = record { from = omega arith; before = (let room = grows.room in let not_empty = grows.some in omega (arith, room, not_empty)) } in
       let floor = floors region grows.within in
       let top_is = grows.top_is in
-      subst (λ r. base_of config r + start r ≤ address) (sym (regions_tile.of_no_other config region address inside)) (omega (arith, floor, top_is))
+      subst (λ its_region. base_of config its_region + start its_region ≤ address) (sym (regions_tile.of_no_other config region address inside)) (omega (arith, floor, top_is))
 
   -- no top falls
-  tops_rise : (r : ℕ) → top r ≤ new_top r
-  tops_rise r = ⊎_elim
-      (λ (same : r ≡ region). let now : new_top r ≡ at + words = ap new_top same ∙ updated_there top region (at + words) in let was : top r ≡ at = ap top same ∙ grows.top_is in omega (arith, now, was))
-      (λ (other : r ≢ region). let now : new_top r ≡ top r = updated_else top region (at + words) r (λ e. other (sym e)) in omega (arith, now))
-      (cases_eq r region)
+  tops_rise : (other_region : ℕ) → top other_region ≤ new_top other_region
+  tops_rise other_region = ⊎_elim
+      (λ (same_region : other_region ≡ region). let top_then : new_top other_region ≡ old_top + words = ap new_top same_region ∙ updated_there top region (old_top + words) in let top_before : top other_region ≡ old_top = ap top same_region ∙ grows.top_is in omega (arith, top_then, top_before))
+      (λ (differs : other_region ≢ region). let top_then : new_top other_region ≡ top other_region = updated_else top region (old_top + words) other_region (λ regions_equal. differs (sym regions_equal)) in omega (arith, top_then))
+      (cases_eq other_region region)
 
   -- room is young, where it was
   young_more : (start : ℕ → ℕ) → ((region : ℕ) → region < config.regions → start region ≤ top region) → AreYoungRooms config start block → AreYoungRooms config start new_block
-  young_more start floors young a other x is room = ⊎_elim
-      (λ (new : (a ≡ address) × (carved seat words ≡ x)). subst (IsYoung config start) (sym new.0) (young_there start floors))
-      (λ (old : (a ≢ address) × (block a ≡ Some x)). young a other x old.1 room)
-      (piece_cases block address (carved seat words) a x is)
+  young_more start floors young place other_seat room_piece room_then room = ⊎_elim
+      (λ (new : (place ≡ address) × (carved seat words ≡ room_piece)). subst (IsYoung config start) (sym new.0) (young_there start floors))
+      (λ (old : (place ≢ address) × (block place ≡ Some room_piece)). young place other_seat room_piece old.1 room)
+      (piece_cases block address (carved seat words) place room_piece room_then)
 
   -- tops lie at or above what they were at or above
   floors_more : (start : ℕ → ℕ) → ((region : ℕ) → region < config.regions → start region ≤ top region) → (region : ℕ) → region < config.regions → start region ≤ new_top region
@@ -142,22 +142,22 @@ module _ (config : Config) (top : ℕ → ℕ) (block : Plot) (region at words s
       → KeepsSnapshot config phase grey black count buffer top tams heap block snapshot recording scanning → KeepsSnapshot config phase grey black count buffer new_top tams heap new_block snapshot recording scanning
   marking_more phase grey black count buffer tams heap snapshot recording scanning marked =
       marked_loose config block new_block same_but_loose phase grey black count buffer top new_top tams heap snapshot recording scanning marked
-      (λ on. young_more snapshot.top marked.floors (marked.marking on).young) (floors_more snapshot.top marked.floors)
+      (λ is_marking. young_more snapshot.top marked.floors (marked.marking is_marking).young) (floors_more snapshot.top marked.floors)
 
   -- evacuation goes on, where the region is not set aside
-  pub evacuating_more : (phase cset evac claim free : ℕ) (tams heap black : ℕ → ℕ) (owner : ℕ → Option ℕ) (copying : ℕ → Bool) (working : ℕ → Option ℕ) → (IsIn cset region → ⊥)
-      → IsEvacuating config phase cset evac claim free top tams heap black block owner copying working → IsEvacuating config phase cset evac claim free new_top tams heap black new_block owner copying working
-  evacuating_more phase cset evac claim free tams heap black owner copying working outside evacuating =
-      let inside : IsOf config region address = record { from = omega arith; before = (let room = grows.room in let some = grows.some in omega (arith, room, some)) } in
+  pub evacuating_more : (phase cset evac claim free_bits : ℕ) (tams heap black : ℕ → ℕ) (owner : ℕ → Option ℕ) (copying : ℕ → Bool) (working : ℕ → Option ℕ) → (IsIn cset region → ⊥)
+      → IsEvacuating config phase cset evac claim free_bits top tams heap black block owner copying working → IsEvacuating config phase cset evac claim free_bits new_top tams heap black new_block owner copying working
+  evacuating_more phase cset evac claim free_bits tams heap black owner copying working outside evacuating =
+      let inside : IsOf config region address = record { from = omega arith; before = (let room = grows.room in let not_empty = grows.some in omega (arith, room, not_empty)) } in
       let of_region : region_with config address ≡ region = regions_tile.of_no_other config region address inside in
-      evacuated_loose config block new_block same_but_loose phase cset evac claim free top new_top tams heap black owner copying working evacuating
-      (λ on. young_more tams (evacuating.kept on).floors (evacuating.kept on).young)
-      (λ other_address other piece is room collected. ⊎_elim
-      (λ (new : (other_address ≡ address) × (carved seat words ≡ piece)). outside (subst (λ r. IsIn cset r) of_region (subst (IsCollected config cset) new.0 collected)))
-      (λ (old : (other_address ≢ address) × (block other_address ≡ Some piece)). evacuating.aside.no_rooms other_address other piece old.1 room collected)
-      (piece_cases block address (carved seat words) other_address piece is))
-      (λ on. floors_more tams (evacuating.kept on).floors)
-      (λ r is. updated_else top region (at + words) r (λ now. outside (subst (λ r. IsIn cset r) (sym now) is)))
+      evacuated_loose config block new_block same_but_loose phase cset evac claim free_bits top new_top tams heap black owner copying working evacuating
+      (λ is_evacuating. young_more tams (evacuating.kept is_evacuating).floors (evacuating.kept is_evacuating).young)
+      (λ place other_seat piece piece_then room collected. ⊎_elim
+      (λ (new : (place ≡ address) × (carved seat words ≡ piece)). outside (subst (λ other_region. IsIn cset other_region) of_region (subst (IsCollected config cset) new.0 collected)))
+      (λ (old : (place ≢ address) × (block place ≡ Some piece)). evacuating.aside.no_rooms place other_seat piece old.1 room collected)
+      (piece_cases block address (carved seat words) place piece piece_then))
+      (λ is_evacuating. floors_more tams (evacuating.kept is_evacuating).floors)
+      (λ other_region piece_then. updated_else top region (old_top + words) other_region (λ same_region. outside (subst (λ other_region. IsIn cset other_region) (sym same_region) piece_then)))
 
   -- updating goes on
   pub updating_more : (cset claim : ℕ) (limit heap : ℕ → ℕ) (scanning : ℕ → Option Scan) → IsUpdating config cset claim top limit heap block scanning → IsUpdating config cset claim new_top limit heap new_block scanning
@@ -169,53 +169,53 @@ module _ (config : Config) (top : ℕ → ℕ) (block : Plot) (region at words s
   contents_more = contents_loose config block new_block same_but_loose
 
   -- a region with a new top is not free
-  free_more : (free : ℕ) (owner : ℕ → Option ℕ) → (IsIn free region → ⊥) → IsFreeWord config free top owner → IsFreeWord config free new_top owner
-  free_more free owner in_use free_word = record {
+  free_more : (free_bits : ℕ) (owner : ℕ → Option ℕ) → (IsIn free_bits region → ⊥) → IsFreeWord config free_bits top owner → IsFreeWord config free_bits new_top owner
+  free_more free_bits owner in_use free_word = record {
     no_more = free_word.no_more;
-    empty = λ r inside bit. updated_else top region (at + words) r (λ same. in_use (subst (IsIn free) (sym same) bit)) ∙ free_word.empty r inside bit;
+    empty = λ other_region inside bit. updated_else top region (old_top + words) other_region (λ same_region. in_use (subst (IsIn free_bits) (sym same_region) bit)) ∙ free_word.empty other_region inside bit;
     nobodys = free_word.nobodys;
   }
 
   -- room is as it should be
   rooms_more : seat < seat_count config.mutators config.helpers → AreRooms config new_block
   rooms_more seated = record {
-    seated = λ a other piece is is_room. ⊎_elim
-        (λ (new : (a ≡ address) × (carved seat words ≡ piece)). subst (λ s. s < seat_count config.mutators config.helpers) (same_Some seat other (ap room_of new.1 ∙ is_room)) seated)
-        (λ old. grows.rooms.seated a other piece old is_room)
-        (own_room a piece is);
-    hands = λ address other more is. grows.rooms.hands address other more (old_other address (hand other more) (λ differ. cc) is);
-    spares = λ address other more is. grows.rooms.spares address other more (old_other address (spare other more) (λ differ. cc) is);
-    carveds = λ a other more is. ⊎_elim
-        (λ (new : (a ≡ address) × (carved seat words ≡ carved other more)). let same = new.1 in let sizes : words ≡ more = cc in (let some = grows.some in omega (arith, some, sizes)))
-        (λ old. grows.rooms.carveds a other more old)
-        (own_room a (carved other more) is);
+    seated = λ place other_seat piece piece_then is_room. ⊎_elim
+        (λ (new : (place ≡ address) × (carved seat words ≡ piece)). subst (λ any_seat. any_seat < seat_count config.mutators config.helpers) (same_Some seat other_seat (ap room_of new.1 ∙ is_room)) seated)
+        (λ old. grows.rooms.seated place other_seat piece old is_room)
+        (own_room place piece piece_then);
+    hands = λ address other_seat piece_words piece_then. grows.rooms.hands address other_seat piece_words (old_other address (hand other_seat piece_words) (λ differ. cc) piece_then);
+    spares = λ address other_seat piece_words piece_then. grows.rooms.spares address other_seat piece_words (old_other address (spare other_seat piece_words) (λ differ. cc) piece_then);
+    carveds = λ place other_seat piece_words piece_then. ⊎_elim
+        (λ (new : (place ≡ address) × (carved seat words ≡ carved other_seat piece_words)). let same_piece = new.1 in let sizes : words ≡ piece_words = cc in (let not_empty = grows.some in omega (arith, not_empty, sizes)))
+        (λ old. grows.rooms.carveds place other_seat piece_words old)
+        (own_room place (carved other_seat piece_words) piece_then);
   }
 
   -- buffers stay
   buffers_more : (current : ℕ → ℕ) → AreBuffers config top current block → AreBuffers config new_top current new_block
   buffers_more current buffers = record {
-    each = λ other some.
-        let was = buffers.each other some in
+    each = λ other_seat has_buffer.
+        let old_buffer = buffers.each other_seat has_buffer in
         record {
-          region = was.region;
-          within = was.within;
-          from_base = was.from_base;
-          some = was.some;
-          ordered = was.ordered;
-          to_top = (let high = was.to_top in let rise = tops_rise was.region in omega (arith, high, rise));
-          free = λ more. ⊎_elim
-              (λ there. inl (stays (next_in (current other)) (spare other (end_in (current other) - next_in (current other))) there))
-              (λ has. inr (has.0, has.1, stays has.0 (carved other has.1) has.2))
-              (was.free more);
+          region = old_buffer.region;
+          within = old_buffer.within;
+          from_base = old_buffer.from_base;
+          some = old_buffer.some;
+          ordered = old_buffer.ordered;
+          to_top = (let high = old_buffer.to_top in let rise = tops_rise old_buffer.region in omega (arith, high, rise));
+          free = λ space_left. ⊎_elim
+              (λ spare_there. inl (stays (next_in (current other_seat)) (spare other_seat (end_in (current other_seat) - next_in (current other_seat))) spare_there))
+              (λ carved_there. inr (carved_there.0, carved_there.1, stays carved_there.0 (carved other_seat carved_there.1) carved_there.2))
+              (old_buffer.free space_left);
         };
-    spares = λ address other more is. buffers.spares address other more (old_other address (spare other more) (λ differ. cc) is);
+    spares = λ address other_seat space_left spare_then. buffers.spares address other_seat space_left (old_other address (spare other_seat space_left) (λ differ. cc) spare_then);
   }
 
   -- and regions are owned
-  pub owned_more : (share free cset : ℕ) (current : ℕ → ℕ) (owner : ℕ → Option ℕ) → seat < seat_count config.mutators config.helpers → (IsIn free region → ⊥)
-      → AreOwned config top share free cset current block owner → AreOwned config new_top share free cset current new_block owner
-  owned_more share free cset current owner seated in_use owned = record {
-    free_word = free_more free owner in_use owned.free_word;
+  pub owned_more : (share free_bits cset : ℕ) (current : ℕ → ℕ) (owner : ℕ → Option ℕ) → seat < seat_count config.mutators config.helpers → (IsIn free_bits region → ⊥)
+      → AreOwned config top share free_bits cset current block owner → AreOwned config new_top share free_bits cset current new_block owner
+  owned_more share free_bits cset current owner seated in_use owned = record {
+    free_word = free_more free_bits owner in_use owned.free_word;
     shared_one = owned.shared_one;
     rooms = rooms_more seated;
     buffers = buffers_more current owned.buffers;

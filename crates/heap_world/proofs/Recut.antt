@@ -15,15 +15,15 @@ use Rattle.heap_world.proofs.Retiled.{IsTiling, IsStretch, retiled, retiled_case
 
 -- room is loose
 pub room_loose : (piece : Block) (seat : ℕ) → room_of piece ≡ Some seat → is_loose piece ≡ true
-room_loose (thing name refs nums) seat is = cc
-room_loose (moved name refs nums to) seat is = cc
-room_loose (spent words to) seat is = cc
-room_loose (hand other words) seat is = refl
-room_loose (promised other words) seat is = cc
-room_loose (dead words) seat is = cc
-room_loose (filler words) seat is = cc
-room_loose (spare other words) seat is = refl
-room_loose (carved other words) seat is = refl
+room_loose (thing name refs nums) seat seat_room = cc
+room_loose (moved name refs nums copy) seat seat_room = cc
+room_loose (spent words copy) seat seat_room = cc
+room_loose (hand holder words) seat seat_room = refl
+room_loose (promised holder words) seat seat_room = cc
+room_loose (dead words) seat seat_room = cc
+room_loose (filler words) seat seat_room = cc
+room_loose (spare holder words) seat seat_room = refl
+room_loose (carved holder words) seat seat_room = refl
 
 -- The stretch is one seat's room, and the new pieces are its room or fillers, with the least sizes.
 pub record CanRecut (config : Config) (top : ℕ → ℕ) (block new : Plot) (seat address words : ℕ) : Type 0 where
@@ -37,159 +37,159 @@ pub record CanRecut (config : Config) (top : ℕ → ℕ) (block new : Plot) (se
   pub hands : (other_address other more : ℕ) → new other_address ≡ Some (hand other more) → 3 ≤ more
   pub carveds : (other_address other more : ℕ) → new other_address ≡ Some (carved other more) → 3 ≤ more
 
-module _ (config : Config) (top : ℕ → ℕ) (block new : Plot) (seat address words : ℕ) (can : CanRecut config top block new seat address words) where
+module _ (config : Config) (top : ℕ → ℕ) (block new : Plot) (seat address words : ℕ) (recut : CanRecut config top block new seat address words) where
   -- the plot with the new pieces
   abbrev after : Plot
   after = retiled block new address words
 
   -- the first old piece is the seat's room
-  first_room : room_of can.stretch.first ≡ Some seat
-  first_room = let some = can.stretch.some in can.olds address can.stretch.first (omega arith) (omega (arith, some)) can.stretch.begins
+  first_room : room_of recut.stretch.first ≡ Some seat
+  first_room = let some_words = recut.stretch.some in recut.olds address recut.stretch.first (omega arith) (omega (arith, some_words)) recut.stretch.begins
 
   -- pieces that are not loose are the same
   pub same_but_loose : SameButLoose block after
   same_but_loose = record {
-    stays = λ x piece fixed is. ⊎_elim
-        (λ (before : x < address). retiled_else block new address words x (inl before) ∙ is)
-        (λ (from : address ≤ x). ⊎_elim
-        (λ (to : x < address + words). absurd (true≢false (sym (room_loose piece seat (can.olds x piece from to is)) ∙ fixed)))
-        (λ (behind : address + words ≤ x). retiled_else block new address words x (inr behind) ∙ is)
-        (cases_lt x (address + words)))
-        (cases_lt x address);
-    came = λ other_address piece fixed is. ⊎_elim
-        (λ (old : ((other_address < address) ⊎ (address + words ≤ other_address)) × (block other_address ≡ Some piece)). old.1)
-        (λ (now : (address ≤ other_address) × (other_address < address + words) × (new other_address ≡ Some piece)). absurd (true≢false (sym (can.loose other_address piece now.2) ∙ fixed)))
-        (retiled_cases block new address words other_address piece is);
+    stays = λ place piece fixed has_piece. ⊎_elim
+        (λ (place_before : place < address). retiled_else block new address words place (inl place_before) ∙ has_piece)
+        (λ (from : address ≤ place). ⊎_elim
+        (λ (below_end : place < address + words). absurd (true≢false (sym (room_loose piece seat (recut.olds place piece from below_end has_piece)) ∙ fixed)))
+        (λ (place_beyond : address + words ≤ place). retiled_else block new address words place (inr place_beyond) ∙ has_piece)
+        (cases_lt place (address + words)))
+        (cases_lt place address);
+    came = λ asked_address piece fixed has_piece. ⊎_elim
+        (λ (old : ((asked_address < address) ⊎ (address + words ≤ asked_address)) × (block asked_address ≡ Some piece)). old.1)
+        (λ (in_stretch : (address ≤ asked_address) × (asked_address < address + words) × (new asked_address ≡ Some piece)). absurd (true≢false (sym (recut.loose asked_address piece in_stretch.2) ∙ fixed)))
+        (retiled_cases block new address words asked_address piece has_piece);
   }
 
   -- an address of the stretch is of its region
-  of_region : (x : ℕ) → address ≤ x → x < address + words → IsOf config can.stretch.region x
-  of_region x at_most below =
-      let base = can.stretch.from_base in
-      let high = can.stretch.to_top in
-      let most = can.parsable.plotted.tops can.stretch.region can.stretch.within in
-      record { from = omega (arith, base, at_most); before = omega (arith, high, most, below) }
+  of_region : (asked_address : ℕ) → address ≤ asked_address → asked_address < address + words → IsOf config recut.stretch.region asked_address
+  of_region asked_address at_most below_end =
+      let base = recut.stretch.from_base in
+      let stretch_below_top = recut.stretch.to_top in
+      let top_most = recut.parsable.plotted.tops recut.stretch.region recut.stretch.within in
+      record { from = omega (arith, base, at_most); before = omega (arith, stretch_below_top, top_most, below_end) }
 
   -- and so of the region of its first word
-  same_region : (x : ℕ) → address ≤ x → x < address + words → region_with config x ≡ region_with config address
-  same_region x at_most below =
-      let some = can.stretch.some in
-      regions_tile.of_no_other config can.stretch.region x (of_region x at_most below) ∙ sym (regions_tile.of_no_other config can.stretch.region address (of_region address (omega arith) (omega (arith, some))))
+  same_region : (asked_address : ℕ) → address ≤ asked_address → asked_address < address + words → region_with config asked_address ≡ region_with config address
+  same_region asked_address at_most below_end =
+      let some_words = recut.stretch.some in
+      regions_tile.of_no_other config recut.stretch.region asked_address (of_region asked_address at_most below_end) ∙ sym (regions_tile.of_no_other config recut.stretch.region address (of_region address (omega arith) (omega (arith, some_words))))
 
   -- room stays young
   pub rooms_young : (start : ℕ → ℕ) → AreYoungRooms config start block → AreYoungRooms config start after
-  rooms_young start young x other b is room = ⊎_elim
-      (λ (old : ((x < address) ⊎ (address + words ≤ x)) × (block x ≡ Some b)). young x other b old.1 room)
-      (λ (now : (address ≤ x) × (x < address + words) × (new x ≡ Some b)).
-      let some = can.stretch.some in
-      young_behind config start can.stretch.region address x (of_region address (omega arith) (omega (arith, some))) (of_region x now.0 now.1) now.0 (young address seat can.stretch.first can.stretch.begins first_room))
-      (retiled_cases block new address words x b is)
+  rooms_young start young asked_address holder piece has_piece room = ⊎_elim
+      (λ (old : ((asked_address < address) ⊎ (address + words ≤ asked_address)) × (block asked_address ≡ Some piece)). young asked_address holder piece old.1 room)
+      (λ (in_stretch : (address ≤ asked_address) × (asked_address < address + words) × (new asked_address ≡ Some piece)).
+      let some_words = recut.stretch.some in
+      young_behind config start recut.stretch.region address asked_address (of_region address (omega arith) (omega (arith, some_words))) (of_region asked_address in_stretch.0 in_stretch.1) in_stretch.0 (young address seat recut.stretch.first recut.stretch.begins first_room))
+      (retiled_cases block new address words asked_address piece has_piece)
 
   -- and outside the set
   pub rooms_outside : (cset : ℕ) → AreRoomsOutside config cset block → AreRoomsOutside config cset after
-  rooms_outside cset outside x other b is room = ⊎_elim
-      (λ (old : ((x < address) ⊎ (address + words ≤ x)) × (block x ≡ Some b)). outside x other b old.1 room)
-      (λ (now : (address ≤ x) × (x < address + words) × (new x ≡ Some b)).
-      λ inside. outside address seat can.stretch.first can.stretch.begins first_room (subst (λ r. IsIn cset r) (same_region x now.0 now.1) inside))
-      (retiled_cases block new address words x b is)
+  rooms_outside cset outside asked_address holder piece has_piece room = ⊎_elim
+      (λ (old : ((asked_address < address) ⊎ (address + words ≤ asked_address)) × (block asked_address ≡ Some piece)). outside asked_address holder piece old.1 room)
+      (λ (in_stretch : (address ≤ asked_address) × (asked_address < address + words) × (new asked_address ≡ Some piece)).
+      λ inside. outside address seat recut.stretch.first recut.stretch.begins first_room (subst (λ any_region. IsIn cset any_region) (same_region asked_address in_stretch.0 in_stretch.1) inside))
+      (retiled_cases block new address words asked_address piece has_piece)
 
   -- room of another seat was there
-  pub others_room : (x other : ℕ) (piece : Block) → other ≢ seat → after x ≡ Some piece → room_of piece ≡ Some other → block x ≡ Some piece
-  others_room x other piece differ is room = ⊎_elim
-      (λ (old : ((x < address) ⊎ (address + words ≤ x)) × (block x ≡ Some piece)). old.1)
-      (λ (now : (address ≤ x) × (x < address + words) × (new x ≡ Some piece)). absurd (differ (can.own x other piece now.2 room)))
-      (retiled_cases block new address words x piece is)
+  pub others_room : (asked_address other_seat : ℕ) (piece : Block) → other_seat ≢ seat → after asked_address ≡ Some piece → room_of piece ≡ Some other_seat → block asked_address ≡ Some piece
+  others_room asked_address other_seat piece differ has_piece room_is = ⊎_elim
+      (λ (old : ((asked_address < address) ⊎ (address + words ≤ asked_address)) × (block asked_address ≡ Some piece)). old.1)
+      (λ (in_stretch : (address ≤ asked_address) × (asked_address < address + words) × (new asked_address ≡ Some piece)). absurd (differ (recut.own asked_address other_seat piece in_stretch.2 room_is)))
+      (retiled_cases block new address words asked_address piece has_piece)
 
   -- and stays
-  pub others_stay : (x other : ℕ) (piece : Block) → other ≢ seat → block x ≡ Some piece → room_of piece ≡ Some other → after x ≡ Some piece
-  others_stay x other piece differ is room = ⊎_elim
-      (λ (before : x < address). retiled_else block new address words x (inl before) ∙ is)
-      (λ (from : address ≤ x). ⊎_elim
-      (λ (to : x < address + words). absurd (differ (same_Some other seat (sym room ∙ can.olds x piece from to is))))
-      (λ (behind : address + words ≤ x). retiled_else block new address words x (inr behind) ∙ is)
-      (cases_lt x (address + words)))
-      (cases_lt x address)
+  pub others_stay : (asked_address other_seat : ℕ) (piece : Block) → other_seat ≢ seat → block asked_address ≡ Some piece → room_of piece ≡ Some other_seat → after asked_address ≡ Some piece
+  others_stay asked_address other_seat piece differ has_piece room_is = ⊎_elim
+      (λ (address_before : asked_address < address). retiled_else block new address words asked_address (inl address_before) ∙ has_piece)
+      (λ (from : address ≤ asked_address). ⊎_elim
+      (λ (below_end : asked_address < address + words). absurd (differ (same_Some other_seat seat (sym room_is ∙ recut.olds asked_address piece from below_end has_piece))))
+      (λ (address_beyond : address + words ≤ asked_address). retiled_else block new address words asked_address (inr address_beyond) ∙ has_piece)
+      (cases_lt asked_address (address + words)))
+      (cases_lt asked_address address)
 
   -- the heap is parsable
   pub parsable_again : IsParsable config top after
   parsable_again = record {
-    plotted = plotted_again config top block new address words can.parsable.plotted can.stretch can.tiling;
-    filled = filled_again config top block new address words can.parsable.plotted can.stretch can.tiling can.parsable.filled;
-    promises = λ x other more is. can.parsable.promises x other more (same_but_loose.came x (promised other more) refl is);
-    deads = λ x more is. can.parsable.deads x more (same_but_loose.came x (dead more) refl is);
-    fillers = λ other_address more is. ⊎_elim
-        (λ (old : ((other_address < address) ⊎ (address + words ≤ other_address)) × (block other_address ≡ Some (filler more))). can.parsable.fillers other_address more old.1)
-        (λ (now : (address ≤ other_address) × (other_address < address + words) × (new other_address ≡ Some (filler more))). can.tiling.some other_address (filler more) now.2)
-        (retiled_cases block new address words other_address (filler more) is);
-    spents = λ x more to is. can.parsable.spents x more to (same_but_loose.came x (spent more to) refl is);
+    plotted = plotted_again config top block new address words recut.parsable.plotted recut.stretch recut.tiling;
+    filled = filled_again config top block new address words recut.parsable.plotted recut.stretch recut.tiling recut.parsable.filled;
+    promises = λ place holder piece_words has_piece. recut.parsable.promises place holder piece_words (same_but_loose.came place (promised holder piece_words) refl has_piece);
+    deads = λ place piece_words has_piece. recut.parsable.deads place piece_words (same_but_loose.came place (dead piece_words) refl has_piece);
+    fillers = λ asked_address piece_words has_piece. ⊎_elim
+        (λ (old : ((asked_address < address) ⊎ (address + words ≤ asked_address)) × (block asked_address ≡ Some (filler piece_words))). recut.parsable.fillers asked_address piece_words old.1)
+        (λ (in_stretch : (address ≤ asked_address) × (asked_address < address + words) × (new asked_address ≡ Some (filler piece_words))). recut.tiling.some asked_address (filler piece_words) in_stretch.2)
+        (retiled_cases block new address words asked_address (filler piece_words) has_piece);
+    spents = λ place piece_words copy has_piece. recut.parsable.spents place piece_words copy (same_but_loose.came place (spent piece_words copy) refl has_piece);
   }
 
   -- room is as it should be
   pub rooms_again : AreRooms config after
   rooms_again = record {
-    seated = λ other_address other b is room. ⊎_elim
-        (λ (old : ((other_address < address) ⊎ (address + words ≤ other_address)) × (block other_address ≡ Some b)). can.rooms.seated other_address other b old.1 room)
-        (λ (now : (address ≤ other_address) × (other_address < address + words) × (new other_address ≡ Some b)).
-        subst (λ s. s < seat_count config.mutators config.helpers) (sym (can.own other_address other b now.2 room)) (can.rooms.seated address seat can.stretch.first can.stretch.begins first_room))
-        (retiled_cases block new address words other_address b is);
-    hands = λ other_address other more is. ⊎_elim
-        (λ (old : ((other_address < address) ⊎ (address + words ≤ other_address)) × (block other_address ≡ Some (hand other more))). can.rooms.hands other_address other more old.1)
-        (λ (now : (address ≤ other_address) × (other_address < address + words) × (new other_address ≡ Some (hand other more))). can.hands other_address other more now.2)
-        (retiled_cases block new address words other_address (hand other more) is);
-    spares = λ other_address other more is. ⊎_elim
-        (λ (old : ((other_address < address) ⊎ (address + words ≤ other_address)) × (block other_address ≡ Some (spare other more))). can.rooms.spares other_address other more old.1)
-        (λ (now : (address ≤ other_address) × (other_address < address + words) × (new other_address ≡ Some (spare other more))). can.tiling.some other_address (spare other more) now.2)
-        (retiled_cases block new address words other_address (spare other more) is);
-    carveds = λ other_address other more is. ⊎_elim
-        (λ (old : ((other_address < address) ⊎ (address + words ≤ other_address)) × (block other_address ≡ Some (carved other more))). can.rooms.carveds other_address other more old.1)
-        (λ (now : (address ≤ other_address) × (other_address < address + words) × (new other_address ≡ Some (carved other more))). can.carveds other_address other more now.2)
-        (retiled_cases block new address words other_address (carved other more) is);
+    seated = λ asked_address holder piece has_piece room_is. ⊎_elim
+        (λ (old : ((asked_address < address) ⊎ (address + words ≤ asked_address)) × (block asked_address ≡ Some piece)). recut.rooms.seated asked_address holder piece old.1 room_is)
+        (λ (in_stretch : (address ≤ asked_address) × (asked_address < address + words) × (new asked_address ≡ Some piece)).
+        subst (λ any_seat. any_seat < seat_count config.mutators config.helpers) (sym (recut.own asked_address holder piece in_stretch.2 room_is)) (recut.rooms.seated address seat recut.stretch.first recut.stretch.begins first_room))
+        (retiled_cases block new address words asked_address piece has_piece);
+    hands = λ asked_address holder piece_words has_piece. ⊎_elim
+        (λ (old : ((asked_address < address) ⊎ (address + words ≤ asked_address)) × (block asked_address ≡ Some (hand holder piece_words))). recut.rooms.hands asked_address holder piece_words old.1)
+        (λ (in_stretch : (address ≤ asked_address) × (asked_address < address + words) × (new asked_address ≡ Some (hand holder piece_words))). recut.hands asked_address holder piece_words in_stretch.2)
+        (retiled_cases block new address words asked_address (hand holder piece_words) has_piece);
+    spares = λ asked_address holder piece_words has_piece. ⊎_elim
+        (λ (old : ((asked_address < address) ⊎ (address + words ≤ asked_address)) × (block asked_address ≡ Some (spare holder piece_words))). recut.rooms.spares asked_address holder piece_words old.1)
+        (λ (in_stretch : (address ≤ asked_address) × (asked_address < address + words) × (new asked_address ≡ Some (spare holder piece_words))). recut.tiling.some asked_address (spare holder piece_words) in_stretch.2)
+        (retiled_cases block new address words asked_address (spare holder piece_words) has_piece);
+    carveds = λ asked_address holder piece_words has_piece. ⊎_elim
+        (λ (old : ((asked_address < address) ⊎ (address + words ≤ asked_address)) × (block asked_address ≡ Some (carved holder piece_words))). recut.rooms.carveds asked_address holder piece_words old.1)
+        (λ (in_stretch : (address ≤ asked_address) × (asked_address < address + words) × (new asked_address ≡ Some (carved holder piece_words))). recut.carveds asked_address holder piece_words in_stretch.2)
+        (retiled_cases block new address words asked_address (carved holder piece_words) has_piece);
   }
 
   -- the buffer of another seat stays
-  other_buffer : (other word : ℕ) → other ≢ seat → IsBuffer config top block other word → IsBuffer config top after other word
-  other_buffer other word differ was = record {
-    region = was.region;
-    within = was.within;
-    from_base = was.from_base;
-    some = was.some;
-    ordered = was.ordered;
-    to_top = was.to_top;
-    free = λ more. ⊎_elim
-        (λ there. inl (others_stay (next_in word) other (spare other (end_in word - next_in word)) differ there refl))
-        (λ has. inr (has.0, has.1, others_stay has.0 other (carved other has.1) differ has.2 refl))
-        (was.free more);
+  other_buffer : (other_seat word : ℕ) → other_seat ≢ seat → IsBuffer config top block other_seat word → IsBuffer config top after other_seat word
+  other_buffer other_seat word differ old_buffer = record {
+    region = old_buffer.region;
+    within = old_buffer.within;
+    from_base = old_buffer.from_base;
+    some = old_buffer.some;
+    ordered = old_buffer.ordered;
+    to_top = old_buffer.to_top;
+    free = λ words_left. ⊎_elim
+        (λ spare_there. inl (others_stay (next_in word) other_seat (spare other_seat (end_in word - next_in word)) differ spare_there refl))
+        (λ carved_there. inr (carved_there.0, carved_there.1, others_stay carved_there.0 other_seat (carved other_seat carved_there.1) differ carved_there.2 refl))
+        (old_buffer.free words_left);
   }
 
   -- Each seat has its buffer still, where the seat's own has another word, and that one's free words are the pieces that there are now.
-  pub buffers_again : (current then_current : ℕ → ℕ) → ((other : ℕ) → other ≢ seat → then_current other ≡ current other) → (then_current seat ≢ 0 → IsBuffer config top after seat (then_current seat))
-      → ((x more : ℕ) → after x ≡ Some (spare seat more) → (next_in (then_current seat) ≡ x) × (end_in (then_current seat) ≡ x + more))
+  pub buffers_again : (current then_current : ℕ → ℕ) → ((other_seat : ℕ) → other_seat ≢ seat → then_current other_seat ≡ current other_seat) → (then_current seat ≢ 0 → IsBuffer config top after seat (then_current seat))
+      → ((asked_address piece_words : ℕ) → after asked_address ≡ Some (spare seat piece_words) → (next_in (then_current seat) ≡ asked_address) × (end_in (then_current seat) ≡ asked_address + piece_words))
       → AreBuffers config top current block → AreBuffers config top then_current after
-  buffers_again current then_current others own spares buffers = record {
-    each = λ other some. ⊎_elim
-        (λ (same : other ≡ seat). subst (λ seat. IsBuffer config top after seat (then_current seat)) (sym same) (own (λ none. some (ap then_current same ∙ none))))
-        (λ (differ : other ≢ seat).
-        let is = others other differ in
-        subst (IsBuffer config top after other) (sym is) (other_buffer other (current other) differ (buffers.each other (λ none. some (is ∙ none)))))
-        (cases_eq other seat);
-    spares = λ x other more is. ⊎_elim
-        (λ (same : other ≡ seat). subst (λ s. (next_in (then_current s) ≡ x) × (end_in (then_current s) ≡ x + more)) (sym same) (spares x more (subst (λ seat. after x ≡ Some (spare seat more)) same is)))
-        (λ (differ : other ≢ seat).
-        subst (λ word. (next_in word ≡ x) × (end_in word ≡ x + more)) (sym (others other differ)) (buffers.spares x other more (others_room x other (spare other more) differ is refl)))
-        (cases_eq other seat);
+  buffers_again current then_current others_same own_buffer spares buffers = record {
+    each = λ other_seat some_buffer. ⊎_elim
+        (λ (same_seat : other_seat ≡ seat). subst (λ seat. IsBuffer config top after seat (then_current seat)) (sym same_seat) (own_buffer (λ no_buffer. some_buffer (ap then_current same_seat ∙ no_buffer))))
+        (λ (differ : other_seat ≢ seat).
+        let stands_so = others_same other_seat differ in
+        subst (IsBuffer config top after other_seat) (sym stands_so) (other_buffer other_seat (current other_seat) differ (buffers.each other_seat (λ no_buffer. some_buffer (stands_so ∙ no_buffer)))))
+        (cases_eq other_seat seat);
+    spares = λ asked_address other_seat piece_words stands_so. ⊎_elim
+        (λ (same_seat : other_seat ≡ seat). subst (λ any_seat. (next_in (then_current any_seat) ≡ asked_address) × (end_in (then_current any_seat) ≡ asked_address + piece_words)) (sym same_seat) (spares asked_address piece_words (subst (λ seat. after asked_address ≡ Some (spare seat piece_words)) same_seat stands_so)))
+        (λ (differ : other_seat ≢ seat).
+        subst (λ word. (next_in word ≡ asked_address) × (end_in word ≡ asked_address + piece_words)) (sym (others_same other_seat differ)) (buffers.spares asked_address other_seat piece_words (others_room asked_address other_seat (spare other_seat piece_words) differ stands_so refl)))
+        (cases_eq other_seat seat);
   }
 
   -- No buffer lies in the collection set, where the seat's own has another word that ends with the stretch.
-  pub buffers_outside : (cset : ℕ) (current then_current : ℕ → ℕ) → ((other : ℕ) → other ≢ seat → then_current other ≡ current other) → (then_current seat ≢ 0 → end_in (then_current seat) ≡ address + words)
+  pub buffers_outside : (cset : ℕ) (current then_current : ℕ → ℕ) → ((other_seat : ℕ) → other_seat ≢ seat → then_current other_seat ≡ current other_seat) → (then_current seat ≢ 0 → end_in (then_current seat) ≡ address + words)
       → AreRoomsOutside config cset block → AreBuffersOutside config cset current → AreBuffersOutside config cset then_current
-  buffers_outside cset current then_current others own rooms buffers other some inside = ⊎_elim
-      (λ (same : other ≡ seat).
-      let long = can.stretch.some in
-      let end = own (λ none. some (ap then_current same ∙ none)) in
-      let last : end_in (then_current other) - 1 ≡ address + words - 1 = ap (λ s. end_in (then_current s) - 1) same ∙ ap (λ e. e - 1) end in
-      rooms address seat can.stretch.first can.stretch.begins first_room
-      (subst (λ r. IsIn cset r) (ap (region_with config) last ∙ same_region (address + words - 1) (omega (arith, long)) (omega (arith, long))) inside))
-      (λ (differ : other ≢ seat).
-      let is = others other differ in
-      buffers other (λ none. some (is ∙ none)) (subst (λ word. IsIn cset (region_with config (end_in word - 1))) is inside))
-      (cases_eq other seat)
+  buffers_outside cset current then_current others_same own_end rooms_are_outside buffers other_seat some_buffer inside = ⊎_elim
+      (λ (same_seat : other_seat ≡ seat).
+      let some_words = recut.stretch.some in
+      let end_reached = own_end (λ no_buffer. some_buffer (ap then_current same_seat ∙ no_buffer)) in
+      let same_last : end_in (then_current other_seat) - 1 ≡ address + words - 1 = ap (λ any_seat. end_in (then_current any_seat) - 1) same_seat ∙ ap (λ any_end. any_end - 1) end_reached in
+      rooms_are_outside address seat recut.stretch.first recut.stretch.begins first_room
+      (subst (λ any_region. IsIn cset any_region) (ap (region_with config) same_last ∙ same_region (address + words - 1) (omega (arith, some_words)) (omega (arith, some_words))) inside))
+      (λ (differ : other_seat ≢ seat).
+      let same_current = others_same other_seat differ in
+      buffers other_seat (λ no_buffer. some_buffer (same_current ∙ no_buffer)) (subst (λ word. IsIn cset (region_with config (end_in word - 1))) same_current inside))
+      (cases_eq other_seat seat)

@@ -18,41 +18,41 @@ is_of_regions Free = true
 is_of_regions Share = true
 is_of_regions _ = false
 
-module _ (config : Config) (world : World) (memory : Word → ℕ) (owner : ℕ → Option ℕ) (others : (at : Word) → is_of_regions at ≡ false → memory at ≡ world.memory at) where
+module _ (config : Config) (world : World) (memory : Word → ℕ) (owner : ℕ → Option ℕ) (other_words_stay : (word : Word) → is_of_regions word ≡ false → memory word ≡ world.memory word) where
   -- the world after the step
   abbrev pub region_world : World
   region_world = record { memory = memory; block = world.block; ghost = with_owner world.ghost owner; graph = world.graph }
 
   -- marking goes on
   marks_kept : (seat : ℕ) → RelyMarks config seat world region_world
-  marks_kept seat = rely_marks config world region_world seat (others Phase refl) (λ number. others (Grey number) refl) (λ mutator. others (Count mutator) refl) (λ mutator entry. others (Buffer mutator entry) refl) refl (λ t. refl) refl (λ a is. is) (λ a is. others (Heap (a + 1)) refl)
+  marks_kept seat = rely_marks config world region_world seat (other_words_stay Phase refl) (λ number. other_words_stay (Grey number) refl) (λ mutator. other_words_stay (Count mutator) refl) (λ mutator entry. other_words_stay (Buffer mutator entry) refl) refl (λ t. refl) refl (λ address known_fact. known_fact) (λ address known_fact. other_words_stay (Heap (address + 1)) refl)
 
   -- copies stay
   copies_kept : CopiesStay config world region_world
-  copies_kept = same_plot config world region_world refl (others Cset refl) (others Evac refl) (λ region is. others (Top region) refl)
+  copies_kept = same_plot config world region_world refl (other_words_stay Cset refl) (other_words_stay Evac refl) (λ region known_fact. other_words_stay (Top region) refl)
 
   -- an object may be used still
   targets_kept : (address refs nums : ℕ) (name : Name) → TargetIn config world address refs nums name → TargetIn config region_world address refs nums name
-  targets_kept address refs nums name has = record {
-    piece = has.piece;
-    safe = λ inside. subst IsQuiet (sym (others Evac refl)) (has.safe (subst (λ cset. IsCollected config cset address) (others Cset refl) inside));
+  targets_kept address refs nums name has_target = record {
+    piece = has_target.piece;
+    safe = λ target_collected. subst IsQuiet (sym (other_words_stay Evac refl)) (has_target.safe (subst (λ cset. IsCollected config cset address) (other_words_stay Cset refl) target_collected));
   }
 
   -- the facts of the seat's machine stand
   pub keeps_regions : (seat : ℕ) → Keeps config seat world region_world
   keeps_regions seat = record {
-    names = λ a name is. is;
+    names = λ asked_address name known_fact. known_fact;
     targets = targets_kept;
-    promises = λ a words is. is;
-    no_promises = λ address words is. is;
-    promise_words = λ address words k is below. others (Heap (address + k)) refl;
-    root_words = λ index. others (Root seat index) refl;
+    promises = λ asked_address words known_fact. known_fact;
+    no_promises = λ address words known_fact. known_fact;
+    promise_words = λ address words offset known_fact offset_below. other_words_stay (Heap (address + offset)) refl;
+    root_words = λ index. other_words_stay (Root seat index) refl;
     roots = λ i. refl;
-    pin_words = λ index. others (Pin seat index) refl;
+    pin_words = λ index. other_words_stay (Pin seat index) refl;
     pins = λ i. refl;
     count = refl;
-    wait = others (Wait seat) refl;
-    answer = others (Answer seat) refl;
+    wait = other_words_stay (Wait seat) refl;
+    answer = other_words_stay (Answer seat) refl;
     marks = (marks_kept seat).keeps;
     copies = keeps_copies config world region_world copies_kept;
   }
@@ -60,28 +60,28 @@ module _ (config : Config) (world : World) (memory : Word → ℕ) (owner : ℕ 
   -- others can rely on what they knew, where they keep their regions, and regions that may be carved may be so still
   pub others_regions : (seat : ℕ) → ((region : ℕ) → world.ghost.owner region ≡ Some seat → owner region ≡ Some seat) → ((region : ℕ) → IsOpenIn config world region → IsOpenIn config region_world region) → Rely config seat world region_world
   others_regions seat owners opens = record {
-    names = λ a name is. is;
+    names = λ asked_address name known_fact. known_fact;
     targets = targets_kept;
-    rooms = λ a x is room. is;
-    no_rooms = λ a x is room. is;
-    room_words = λ a k x is room below. others (Heap (a + k)) refl;
-    promises = λ a words is. is;
-    no_promises = λ address words is. is;
-    promise_words = λ address words k is below. others (Heap (address + k)) refl;
-    current = others (Current seat) refl;
+    rooms = λ asked_address piece known_fact room. known_fact;
+    no_rooms = λ asked_address piece known_fact room. known_fact;
+    room_words = λ asked_address offset piece known_fact room offset_below. other_words_stay (Heap (asked_address + offset)) refl;
+    promises = λ asked_address words known_fact. known_fact;
+    no_promises = λ address words known_fact. known_fact;
+    promise_words = λ address words offset known_fact offset_below. other_words_stay (Heap (address + offset)) refl;
+    current = other_words_stay (Current seat) refl;
     opens = opens;
     owners = owners;
-    tops = λ region is. others (Top region) refl;
-    root_words = λ index. others (Root seat index) refl;
+    tops = λ region known_fact. other_words_stay (Top region) refl;
+    root_words = λ index. other_words_stay (Root seat index) refl;
     roots = λ i. refl;
-    pin_words = λ index. others (Pin seat index) refl;
+    pin_words = λ index. other_words_stay (Pin seat index) refl;
     pins = λ i. refl;
     count = refl;
-    wait = others (Wait seat) refl;
-    answer = others (Answer seat) refl;
-    state = others (State seat) refl;
-    asked = λ is. ap (λ n. bit_at n 1) (others Ask refl) ∙ is;
+    wait = other_words_stay (Wait seat) refl;
+    answer = other_words_stay (Answer seat) refl;
+    state = other_words_stay (State seat) refl;
+    asked = λ known_fact. ap (λ ask_bits. bit_at ask_bits 1) (other_words_stay Ask refl) ∙ known_fact;
     marks = marks_kept seat;
-    copies = rely_copies config world region_world seat copies_kept refl refl (λ a k b seated counted inside is from below. others (Heap (a + k)) refl);
-    fields = fields_kept config world region_world refl (λ region. others (Tams region) refl) (λ region. others (Limit region) refl) (others Claim refl) (λ address. others (Heap address) refl);
+    copies = rely_copies config world region_world seat copies_kept refl refl (λ asked_address offset body seated counted inside known_fact from offset_below. other_words_stay (Heap (asked_address + offset)) refl);
+    fields = fields_kept config world region_world refl (λ region. other_words_stay (Tams region) refl) (λ region. other_words_stay (Limit region) refl) (other_words_stay Claim refl) (λ address. other_words_stay (Heap address) refl);
   }

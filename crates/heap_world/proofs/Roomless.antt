@@ -6,21 +6,21 @@ use Rattle.heap_world.specs.World.{Block, thing, moved, spent, hand, promised, d
 -- where nobody has room in hand or carved words, all room is free words of a buffer
 pub only_spares : (block : Plot) → ((address seat words : ℕ) → block address ≡ Some (hand seat words) → ⊥) → ((address seat words : ℕ) → block address ≡ Some (carved seat words) → ⊥)
     → (address seat : ℕ) (piece : Block) → block address ≡ Some piece → room_of piece ≡ Some seat → (words : ℕ) × (piece ≡ spare seat words)
-only_spares block none uncarved address seat (thing name refs nums) is room = cc
-only_spares block none uncarved address seat (moved name refs nums to) is room = cc
-only_spares block none uncarved address seat (spent words to) is room = cc
-only_spares block none uncarved address seat (hand other words) is room = absurd (none address other words is)
-only_spares block none uncarved address seat (promised other words) is room = cc
-only_spares block none uncarved address seat (dead words) is room = cc
-only_spares block none uncarved address seat (filler words) is room = cc
-only_spares block none uncarved address seat (spare other words) is room = (words, cc)
-only_spares block none uncarved address seat (carved other words) is room = absurd (uncarved address other words is)
+only_spares block no_hand uncarved address seat (thing name refs nums) piece_there room_is = cc
+only_spares block no_hand uncarved address seat (moved name refs nums target) piece_there room_is = cc
+only_spares block no_hand uncarved address seat (spent words target) piece_there room_is = cc
+only_spares block no_hand uncarved address seat (hand piece_seat words) piece_there room_is = absurd (no_hand address piece_seat words piece_there)
+only_spares block no_hand uncarved address seat (promised piece_seat words) piece_there room_is = cc
+only_spares block no_hand uncarved address seat (dead words) piece_there room_is = cc
+only_spares block no_hand uncarved address seat (filler words) piece_there room_is = cc
+only_spares block no_hand uncarved address seat (spare piece_seat words) piece_there room_is = (words, cc)
+only_spares block no_hand uncarved address seat (carved piece_seat words) piece_there room_is = absurd (uncarved address piece_seat words piece_there)
 
 -- where there is no room, all room is as it should be
 pub rooms_none : (config : Config) (block : Plot) → HasNoRoom block → AreRooms config block
-rooms_none config block none = record {
-  seated = λ a seat x is room. absurd (none a seat x is room);
-  hands = λ a seat words is. absurd (none a seat (hand seat words) is refl);
-  spares = λ a seat words is. absurd (none a seat (spare seat words) is refl);
-  carveds = λ a seat words is. absurd (none a seat (carved seat words) is refl);
+rooms_none config block no_rooms = record {
+  seated = λ address seat piece piece_there room. absurd (no_rooms address seat piece piece_there room);
+  hands = λ address seat words piece_there. absurd (no_rooms address seat (hand seat words) piece_there refl);
+  spares = λ address seat words piece_there. absurd (no_rooms address seat (spare seat words) piece_there refl);
+  carveds = λ address seat words piece_there. absurd (no_rooms address seat (carved seat words) piece_there refl);
 }

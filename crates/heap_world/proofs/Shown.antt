@@ -24,139 +24,139 @@ use Rattle.heap_world.proofs.Standing.{facts, led_name, name_led, reference_same
 use Rattle.heap_world.proofs.TakenDown.{has-left, has-right}
 
 -- what holds of each word that a list has
-all_from-has : (P : ℕ → Type 0) (xs : List ℕ) → ((a : ℕ) → has xs a ≡ true → P a) → All P xs
-all_from-has P xs h = All-from_any nat_eq_equiv P xs h
+all_from-has : (P : ℕ → Type 0) (xs : List ℕ) → ((element : ℕ) → has xs element ≡ true → P element) → All P xs
+all_from-has P xs all_hold = All-from_any nat_eq_equiv P xs all_hold
 
 -- each element that is read is in its list
 has-element : (xs : List ℕ) (index : ℕ) → index < length xs → has xs (get_or xs index 0) ≡ true
-has-element xs index below = list_any_at (nat_eq (get_or xs index 0)) xs index 0 below (eq-eqb (get_or xs index 0) (get_or xs index 0) refl)
+has-element xs index index_below = list_any_at (nat_eq (get_or xs index 0)) xs index 0 index_below (eq-eqb (get_or xs index 0) (get_or xs index 0) refl)
 
-module _ (first : ℕ) (heap roots pins : List ℕ) (sound : IsWalkable first heap (roots ++ pins)) where
-  pub roots_named : All (IsNamed first heap) roots
-  roots_named = all_from-has (IsNamed first heap) roots (λ address h. sound.roots_named address (has-left roots pins address h))
+module _ (first_address : ℕ) (heap roots pins : List ℕ) (heap_walkable : IsWalkable first_address heap (roots ++ pins)) where
+  pub roots_named : All (IsNamed first_address heap) roots
+  roots_named = all_from-has (IsNamed first_address heap) roots (λ address listed. heap_walkable.roots_named address (has-left roots pins address listed))
 
-  pub pins_named : All (IsNamed first heap) pins
-  pins_named = all_from-has (IsNamed first heap) pins (λ address h. sound.roots_named address (has-right roots pins address h))
+  pub pins_named : All (IsNamed first_address heap) pins
+  pins_named = all_from-has (IsNamed first_address heap) pins (λ address listed. heap_walkable.roots_named address (has-right roots pins address listed))
 
-  module _ (order : List ℕ) (walk : IsWalk first heap (roots ++ pins) order) where
-    pub all_above : All (λ a. first ≤ a) order
-    all_above = all_from-has (λ a. first ≤ a) order (λ a h. sound.above a (walk.led a h))
+  module _ (order : List ℕ) (walk : IsWalk first_address heap (roots ++ pins) order) where
+    pub all_above : All (λ address. first_address ≤ address) order
+    all_above = all_from-has (λ address. first_address ≤ address) order (λ address listed. heap_walkable.above address (walk.led address listed))
 
-    pub all_below : All (λ a. a + size_at heap (a - first) ≤ first + length heap) order
+    pub all_below : All (λ address. address + size_at heap (address - first_address) ≤ first_address + length heap) order
     all_below =
-        all_from-has (λ a. a + size_at heap (a - first) ≤ first + length heap) order (λ a h. sound.below a (walk.led a h))
+        all_from-has (λ address. address + size_at heap (address - first_address) ≤ first_address + length heap) order (λ address listed. heap_walkable.below address (walk.led address listed))
 
-    pub all_named : All (λ a. All (IsNamed first heap) (refs_at heap (a - first))) order
+    pub all_named : All (λ any_address. All (IsNamed first_address heap) (refs_at heap (any_address - first_address))) order
     all_named =
-        all_from-has (λ a. All (IsNamed first heap) (refs_at heap (a - first))) order
-        (λ m h. all_from-has (IsNamed first heap) (refs_at heap (m - first))
-        (λ address field. sound.fields_named m address (walk.led m h) field))
+        all_from-has (λ any_address. All (IsNamed first_address heap) (refs_at heap (any_address - first_address))) order
+        (λ holder listed. all_from-has (IsNamed first_address heap) (refs_at heap (holder - first_address))
+        (λ address field. heap_walkable.fields_named holder address (walk.led holder listed) field))
 
     -- the objects take at most all words
-    pub all_fit : sum_by (λ a. size_at heap (a - first)) order ≤ length heap
+    pub all_fit : sum_by (λ address. size_at heap (address - first_address)) order ≤ length heap
     all_fit =
-        sizes_fit (λ a. size_at heap (a - first)) order first (length heap) walk.once
-        (λ a b ha hb. sound.apart a b (walk.led a ha) (walk.led b hb))
-        (λ a h. sound.above a (walk.led a h)) (λ a h. sound.below a (walk.led a h))
+        sizes_fit (λ address. size_at heap (address - first_address)) order first_address (length heap) walk.once
+        (λ address other_address first_listed second_listed. heap_walkable.apart address other_address (walk.led address first_listed) (walk.led other_address second_listed))
+        (λ address listed. heap_walkable.above address (walk.led address listed)) (λ address listed. heap_walkable.below address (walk.led address listed))
 
 -- what a function makes of an element is in the list that it makes of the whole
 Contains-map : {A B : Type 0} (f : A → B) (xs : List A) (x : A) → Contains xs x → Contains (map f xs) (f x)
 Contains-map f xs x contains =
     (contains.0, rw length-map contains.1, get_or-map f xs contains.0 x (f x) contains.1 ∙ ap f contains.2)
 
-module _ (first : ℕ) (heap roots pins order : List ℕ) (at : ℕ → Option Name) (graph : Graph) (one : 1 ≤ first)
-    (words_stand : WordsStand first heap roots pins at graph) (walk : IsWalk first heap (roots ++ pins) order) where
-  pub names_differ : IsDistinct same_name (map (λ r. r.name) (map (row_in_heap first heap) order))
+module _ (first_address : ℕ) (heap roots pins order : List ℕ) (name_at : ℕ → Option Name) (graph : Graph) (first_positive : 1 ≤ first_address)
+    (words_stand : WordsStand first_address heap roots pins name_at graph) (walk : IsWalk first_address heap (roots ++ pins) order) where
+  pub names_differ : IsDistinct same_name (map (λ any_row. any_row.name) (map (row_in_heap first_address heap) order))
   names_differ =
-      IsDistinct-from_apart same_name (map (λ r. r.name) (map (row_in_heap first heap) order))
+      IsDistinct-from_apart same_name (map (λ any_row. any_row.name) (map (row_in_heap first_address heap) order))
       (λ index other_index name before h.
-      let many : length (map (λ (row : Row). row.name) (map (row_in_heap first heap) order)) ≡ length order =
-      length-map (map (row_in_heap first heap) order) (λ (row : Row). row.name) ∙ length-map order (row_in_heap first heap) in
-      let low : other_index < length order = omega (arith, many, h) in
+      let same_count : length (map (λ (row : Row). row.name) (map (row_in_heap first_address heap) order)) ≡ length order =
+      length-map (map (row_in_heap first_address heap) order) (λ (row : Row). row.name) ∙ length-map order (row_in_heap first_address heap) in
+      let low : other_index < length order = omega (arith, same_count, h) in
       apart index other_index name before low)
     where
       read : (index : ℕ) (name : Name) → index < length order
-          → get_or (map (λ (row : Row). row.name) (map (row_in_heap first heap) order)) index name ≡ name_in_heap heap (get_or order index 0 - first)
-      read index name low =
-          get_or-map (λ (row : Row). row.name) (map (row_in_heap first heap) order) index (row_in_heap first heap 0) name (rw length-map low)
-          ∙ ap (λ (row : Row). row.name) (get_or-map (row_in_heap first heap) order index 0 (row_in_heap first heap 0) low)
+          → get_or (map (λ (row : Row). row.name) (map (row_in_heap first_address heap) order)) index name ≡ name_in_heap heap (get_or order index 0 - first_address)
+      read index name index_below =
+          get_or-map (λ (row : Row). row.name) (map (row_in_heap first_address heap) order) index (row_in_heap first_address heap 0) name (rw length-map index_below)
+          ∙ ap (λ (row : Row). row.name) (get_or-map (row_in_heap first_address heap) order index 0 (row_in_heap first_address heap 0) index_below)
 
       apart : (index other_index : ℕ) (name : Name) → index < other_index → other_index < length order
-          → same_name (get_or (map (λ (row : Row). row.name) (map (row_in_heap first heap) order)) index name)
-          (get_or (map (λ (row : Row). row.name) (map (row_in_heap first heap) order)) other_index name) ≡ false
-      apart index other_index name before low =
-          false_from_ne_true _ (λ is.
+          → same_name (get_or (map (λ (row : Row). row.name) (map (row_in_heap first_address heap) order)) index name)
+          (get_or (map (λ (row : Row). row.name) (map (row_in_heap first_address heap) order)) other_index name) ≡ false
+      apart index other_index name index_before other_below =
+          false_from_ne_true _ (λ names_equal.
           let earlier : index < length order = omega arith in
-          let a = get_or order index 0 in
-          let b = get_or order other_index 0 in
-          let u = led_name first heap roots pins at graph one words_stand a (walk.led a (has-element order index earlier)) in
-          let v = led_name first heap roots pins at graph one words_stand b (walk.led b (has-element order other_index low)) in
-          let e : u.0 ≡ v.0 =
-          sym (facts first heap roots pins at graph one words_stand a u.0 u.1).name ∙ sym (read index name earlier)
-          ∙ same_name-true _ _ is ∙ read other_index name low ∙ (facts first heap roots pins at graph one words_stand b v.0 v.1).name in
-          let same : a ≡ b = sym u.1.1 ∙ words_stand.once a b v.0 (u.1.0 ∙ ap (λ n. Some n) e) v.1.0 ∙ v.1.1 in
-          eqb-false a b (apart_from_distinct nat_eq order index other_index 0 walk.once before low) same)
+          let address = get_or order index 0 in
+          let other_address = get_or order other_index 0 in
+          let named = led_name first_address heap roots pins name_at graph first_positive words_stand address (walk.led address (has-element order index earlier)) in
+          let other_named = led_name first_address heap roots pins name_at graph first_positive words_stand other_address (walk.led other_address (has-element order other_index other_below)) in
+          let names_same : named.0 ≡ other_named.0 =
+          sym (facts first_address heap roots pins name_at graph first_positive words_stand address named.0 named.1).name ∙ sym (read index name earlier)
+          ∙ same_name-true _ _ names_equal ∙ read other_index name other_below ∙ (facts first_address heap roots pins name_at graph first_positive words_stand other_address other_named.0 other_named.1).name in
+          let same_address : address ≡ other_address = sym named.1.1 ∙ words_stand.once address other_address other_named.0 (named.1.0 ∙ ap (λ any_name. Some any_name) names_same) other_named.1.0 ∙ other_named.1.1 in
+          eqb-false address other_address (apart_from_distinct nat_eq order index other_index 0 walk.once index_before other_below) same_address)
 
   -- a row is that of an object of the walk
   abbrev IsFound : Row → Type 0
-  IsFound row = (a : ℕ) × (name : Name) × (has order a ≡ true) × (at a ≡ Some name) × IsReachable graph name × (row ≡ row_in graph name)
+  IsFound row = (address : ℕ) × (name : Name) × (has order address ≡ true) × (name_at address ≡ Some name) × IsReachable graph name × (row ≡ row_in graph name)
 
-  found : All IsFound (map (row_in_heap first heap) order)
+  found : All IsFound (map (row_in_heap first_address heap) order)
   found =
-      All-map IsFound (row_in_heap first heap) order
-      (All-from_any nat_eq_equiv (λ a. IsFound (row_in_heap first heap a)) order
-      (λ a h. let u = led_name first heap roots pins at graph one words_stand a (walk.led a h) in
-      (a, u.0, h, u.1.0, u.2, row_same first heap roots pins at graph one words_stand a u.0 u.1)))
+      All-map IsFound (row_in_heap first_address heap) order
+      (All-from_any nat_eq_equiv (λ address. IsFound (row_in_heap first_address heap address)) order
+      (λ address listed. let named = led_name first_address heap roots pins name_at graph first_positive words_stand address (walk.led address listed) in
+      (address, named.0, listed, named.1.0, named.2, row_same first_address heap roots pins name_at graph first_positive words_stand address named.0 named.1)))
 
-  module _ (text : Text) (moved : IsPermutation (map (row_in_heap first heap) order) text.rows) where
+  module _ (text : Text) (rows_permuted : IsPermutation (map (row_in_heap first_address heap) order) text.rows) where
     found_rows : All IsFound text.rows
-    found_rows = All-permutation IsFound (map (row_in_heap first heap) order) text.rows moved found
+    found_rows = All-permutation IsFound (map (row_in_heap first_address heap) order) text.rows rows_permuted found
 
     every : (name : Name) → IsReachable graph name → Contains (names_of text) name
     every name reach =
-        let u = name_led first heap roots pins at graph one words_stand name reach in
-        let row = row_in_heap first heap u.0 in
-        let c = Contains-from_any exact_unsigned_eq u.0 order (walk.all u.0 u.2) in
-        let there : Contains text.rows row =
-        Contains-permutation (map (row_in_heap first heap) order) text.rows row moved (Contains-map (row_in_heap first heap) order u.0 c) in
-        subst (λ (name : Name). Contains (names_of text) name) (facts first heap roots pins at graph one words_stand u.0 name u.1).name
-        (Contains-map (λ (row : Row). row.name) text.rows row there)
+        let led_object = name_led first_address heap roots pins name_at graph first_positive words_stand name reach in
+        let row = row_in_heap first_address heap led_object.0 in
+        let walked = Contains-from_any exact_unsigned_eq led_object.0 order (walk.all led_object.0 led_object.2) in
+        let has_row : Contains text.rows row =
+        Contains-permutation (map (row_in_heap first_address heap) order) text.rows row rows_permuted (Contains-map (row_in_heap first_address heap) order led_object.0 walked) in
+        subst (λ (name : Name). Contains (names_of text) name) (facts first_address heap roots pins name_at graph first_positive words_stand led_object.0 name led_object.1).name
+        (Contains-map (λ (row : Row). row.name) text.rows row has_row)
 
     only : (name : Name) → Contains (names_of text) name → IsReachable graph name
     only name contains =
-        let d = row_in_heap first heap 0 in
-        let low : contains.0 < length text.rows = omega (arith, length-map text.rows (λ (row : Row). row.name), contains.1) in
-        let f = found_rows contains.0 d low in
-        let same : f.1 ≡ name =
-        sym (ap (λ (row : Row). row.name) f.5) ∙ sym (get_or-map (λ (row : Row). row.name) text.rows contains.0 d name low) ∙ contains.2 in
-        subst (λ (name : Name). IsReachable graph name) same f.4
+        let default_row = row_in_heap first_address heap 0 in
+        let place_below : contains.0 < length text.rows = omega (arith, length-map text.rows (λ (row : Row). row.name), contains.1) in
+        let found_row = found_rows contains.0 default_row place_below in
+        let name_is : found_row.1 ≡ name =
+        sym (ap (λ (row : Row). row.name) found_row.5) ∙ sym (get_or-map (λ (row : Row). row.name) text.rows contains.0 default_row name place_below) ∙ contains.2 in
+        subst (λ (name : Name). IsReachable graph name) name_is found_row.4
 
     rows_same : text.rows ≡ map (row_in graph) (names_of text)
     rows_same =
-        let d = row_in_heap first heap 0 in
+        let default_row = row_in_heap first_address heap 0 in
         let names = names_of text in
-        let many : length names ≡ length text.rows = length-map text.rows (λ (row : Row). row.name) in
-        ext_get_or d text.rows (map (row_in graph) names) (sym (length-map names (row_in graph) ∙ many))
-        (λ i h.
-        let f = found_rows i d h in
-        let low : i < length names = omega (arith, many, h) in
-        f.5 ∙ ap (row_in graph) (sym (ap (λ (row : Row). row.name) f.5) ∙ sym (get_or-map (λ (row : Row). row.name) text.rows i d d.name h))
-        ∙ sym (get_or-map (row_in graph) names i d.name d low))
+        let same_count : length names ≡ length text.rows = length-map text.rows (λ (row : Row). row.name) in
+        ext_get_or default_row text.rows (map (row_in graph) names) (sym (length-map names (row_in graph) ∙ same_count))
+        (λ index index_below.
+        let found_row = found_rows index default_row index_below in
+        let row_below : index < length names = omega (arith, same_count, index_below) in
+        found_row.5 ∙ ap (row_in graph) (sym (ap (λ (row : Row). row.name) found_row.5) ∙ sym (get_or-map (λ (row : Row). row.name) text.rows index default_row default_row.name index_below))
+        ∙ sym (get_or-map (row_in graph) names index default_row.name default_row row_below))
 
     pub shows : (threads : ℕ) → InOrder (names_of text)
-        → text.roots ≡ root_rows (λ t i. reference_in first heap (root_word roots t i)) threads
-        → text.pins ≡ pin_rows (λ t i. reference_in first heap (pin_word pins t i)) threads → ShowsGraph text threads graph
-    shows threads ordered rooted pinned = record {
+        → text.roots ≡ root_rows (λ any_thread i. reference_in first_address heap (root_word roots any_thread i)) threads
+        → text.pins ≡ pin_rows (λ any_thread i. reference_in first_address heap (pin_word pins any_thread i)) threads → ShowsGraph text threads graph
+    shows threads ordered rooted same_pins = record {
       reach = record { in_order = ordered; all = every; only = only };
       rows = rows_same;
       roots = (rooted
-          ∙ ap (λ (f : ℕ → ℕ → Reference). root_rows f threads)
-          (same_functions (λ t i. reference_in first heap (root_word roots t i)) graph.root
-          (λ thread. same_functions (λ i. reference_in first heap (root_word roots thread i)) (graph.root thread)
-          (λ index. reference_same first heap roots pins at graph one words_stand (root_word roots thread index) (graph.root thread index) (words_stand.roots thread index)))));
-      pins = (pinned
-          ∙ ap (λ (f : ℕ → ℕ → Reference). pin_rows f threads)
-          (same_functions (λ t i. reference_in first heap (pin_word pins t i)) (λ thread slot. name_in (graph.pin thread slot))
-          (λ thread. same_functions (λ i. reference_in first heap (pin_word pins thread i)) (λ slot. name_in (graph.pin thread slot))
-          (λ slot. pin_same first heap roots pins at graph one words_stand (pin_word pins thread slot) (graph.pin thread slot) (words_stand.pins thread slot)))));
+          ∙ ap (λ (root_of : ℕ → ℕ → Reference). root_rows root_of threads)
+          (same_functions (λ any_thread i. reference_in first_address heap (root_word roots any_thread i)) graph.root
+          (λ thread. same_functions (λ i. reference_in first_address heap (root_word roots thread i)) (graph.root thread)
+          (λ index. reference_same first_address heap roots pins name_at graph first_positive words_stand (root_word roots thread index) (graph.root thread index) (words_stand.roots thread index)))));
+      pins = (same_pins
+          ∙ ap (λ (root_of : ℕ → ℕ → Reference). pin_rows root_of threads)
+          (same_functions (λ any_thread i. reference_in first_address heap (pin_word pins any_thread i)) (λ thread slot. name_in (graph.pin thread slot))
+          (λ thread. same_functions (λ i. reference_in first_address heap (pin_word pins thread i)) (λ slot. name_in (graph.pin thread slot))
+          (λ slot. pin_same first_address heap roots pins name_at graph first_positive words_stand (pin_word pins thread slot) (graph.pin thread slot) (words_stand.pins thread slot)))));
     }

@@ -14,209 +14,209 @@ use Rattle.std.proofs.lemmas.Cmp.{nat_eq_equiv}
 use Rattle.shen_graph.proofs.Bools.{or_false}
 use Rattle.heap_world.specs.Walk.{has, IsMarked, with_address, with_addresses}
 
-pub has-push : (order : List ℕ) (a q : ℕ) → has (order ++ a ∷ []) q ≡ (has order q || nat_eq q a)
-has-push order a q = list_any-append (nat_eq q) order (a ∷ []) ∙ ap (λ b. has order q || b) (or_false (nat_eq q a))
+pub has-push : (order : List ℕ) (address asked : ℕ) → has (order ++ address ∷ []) asked ≡ (has order asked || nat_eq asked address)
+has-push order address asked = list_any-append (nat_eq asked) order (address ∷ []) ∙ ap (λ is_same. has order asked || is_same) (or_false (nat_eq asked address))
 
 -- a range has each number in it
-pub has-range : (first n q : ℕ) → first ≤ q → q < first + n → has (range_with_len first n) q ≡ true
-has-range first n q low high =
-    let below : q - first < n = omega arith in
-    let within : q - first < length (range_with_len first n) = rw length-range_with_len below in
-    list_any_at (nat_eq q) (range_with_len first n) (q - first) 0 within
-    (eq-eqb _ _ (let at : get_or (range_with_len first n) (q - first) 0 ≡ first + (q - first) = get_or-range_with_len first n (q - first) 0 below in omega arith))
+pub has-range : (first count asked : ℕ) → first ≤ asked → asked < first + count → has (range_with_len first count) asked ≡ true
+has-range first count asked asked_past_first asked_below_end =
+    let offset_below : asked - first < count = omega arith in
+    let index_below : asked - first < length (range_with_len first count) = rw length-range_with_len offset_below in
+    list_any_at (nat_eq asked) (range_with_len first count) (asked - first) 0 index_below
+    (eq-eqb _ _ (let value_there : get_or (range_with_len first count) (asked - first) 0 ≡ first + (asked - first) = get_or-range_with_len first count (asked - first) 0 offset_below in omega arith))
 
 -- an address that is not marked yet is not in the list
-not_there : (first : ℕ) (marks : List Bool) (order : List ℕ) (a : ℕ) → IsMarked first marks order
-    → first ≤ a → a < first + length marks → get_or marks (a - first) false ≡ false → has order a ≡ false
-not_there first marks order a marked low high unset =
-    let same : first + (a - first) ≡ a = omega arith in
-    ap (has order) (sym same) ∙ sym (marked.flags (a - first) (omega arith)) ∙ unset
+not_there : (first : ℕ) (marks : List Bool) (order : List ℕ) (address : ℕ) → IsMarked first marks order
+    → first ≤ address → address < first + length marks → get_or marks (address - first) false ≡ false → has order address ≡ false
+not_there first marks order address order_marked address_past_first address_below_end unset =
+    let same_address : first + (address - first) ≡ address = omega arith in
+    ap (has order) (sym same_address) ∙ sym (order_marked.flags (address - first) (omega arith)) ∙ unset
 
-among_push : (first n : ℕ) (order : List ℕ) (a : ℕ) → first ≤ a → a < first + n
-    → ((q : ℕ) → has order q ≡ true → (first ≤ q) × (q < first + n))
-    → (q : ℕ) → has (order ++ a ∷ []) q ≡ true → (first ≤ q) × (q < first + n)
-among_push first n order a low high among q same =
-    elim (or_cases (has order q) (nat_eq q a) (sym (has-push order a q) ∙ same)) [
-      | inl old ↦ among q old
-      | inr new ↦ (let e : q ≡ a = eqb-true q a new in (omega arith, omega arith))
+among_push : (first count : ℕ) (order : List ℕ) (address : ℕ) → first ≤ address → address < first + count
+    → ((asked : ℕ) → has order asked ≡ true → (first ≤ asked) × (asked < first + count))
+    → (asked : ℕ) → has (order ++ address ∷ []) asked ≡ true → (first ≤ asked) × (asked < first + count)
+among_push first count order address address_past_first address_below_end order_inside asked asked_there =
+    elim (or_cases (has order asked) (nat_eq asked address) (sym (has-push order address asked) ∙ asked_there)) [
+      | inl old ↦ order_inside asked old
+      | inr new ↦ (let same_address : asked ≡ address = eqb-true asked address new in (omega arith, omega arith))
     ]
 
 -- where an address is not marked yet, the list has fewer addresses than there are flags
-pub room_left : (first : ℕ) (marks : List Bool) (order : List ℕ) (a : ℕ) → IsMarked first marks order
-    → first ≤ a → a < first + length marks → get_or marks (a - first) false ≡ false → length order < length marks
-room_left first marks order a marked low high unset =
-    let more = order ++ a ∷ [] in
-    let all = range_with_len first (length marks) in
-    let few : length more ≤ length all =
-    length-le_from_is_member nat_eq_equiv more all
-    (IsDistinct-push nat_eq_equiv order a marked.once (not_there first marks order a marked low high unset))
-    (λ q h. let k = among_push first (length marks) order a low high marked.among q h in has-range first (length marks) q k.0 k.1) in
-    omega (arith, length-append order (a ∷ []), length-range_with_len first (length marks), few)
+pub room_left : (first : ℕ) (marks : List Bool) (order : List ℕ) (address : ℕ) → IsMarked first marks order
+    → first ≤ address → address < first + length marks → get_or marks (address - first) false ≡ false → length order < length marks
+room_left first marks order address order_marked address_past_first address_below_end unset =
+    let longer_order = order ++ address ∷ [] in
+    let all_addresses = range_with_len first (length marks) in
+    let few_longer : length longer_order ≤ length all_addresses =
+    length-le_from_is_member nat_eq_equiv longer_order all_addresses
+    (IsDistinct-push nat_eq_equiv order address order_marked.once (not_there first marks order address order_marked address_past_first address_below_end unset))
+    (λ listed_address is_listed. let in_range = among_push first (length marks) order address address_past_first address_below_end order_marked.among listed_address is_listed in has-range first (length marks) listed_address in_range.0 in_range.1) in
+    omega (arith, length-append order (address ∷ []), length-range_with_len first (length marks), few_longer)
 
-flags_push : (first : ℕ) (marks : List Bool) (order : List ℕ) (a : ℕ) → IsMarked first marks order
-    → first ≤ a → a < first + length marks → (index : ℕ) → index < length marks
-    → get_or (set marks (a - first) true) index false ≡ has (order ++ a ∷ []) (first + index)
-flags_push first marks order a marked low high index below =
-    rw has-push (elim (cases_eq index (a - first)) [
-      | inl e ↦ (let same : first + index ≡ a = omega arith in
-          ap (λ i. get_or (set marks (a - first) true) i false) e ∙ get_or-set_same marks (a - first) true false (omega arith)
-          ∙ sym (or_right (has order (first + index)) (nat_eq (first + index) a) (eq-eqb _ _ same)))
-      | inr ne ↦ (let other : first + index ≢ a = λ e. ne (omega (arith, e)) in
-          get_or-set_other marks (a - first) index true false ne ∙ marked.flags index below
-          ∙ sym (ap (λ b. has order (first + index) || b) (ne_eqb _ _ other) ∙ or_false (has order (first + index))))
+flags_push : (first : ℕ) (marks : List Bool) (order : List ℕ) (address : ℕ) → IsMarked first marks order
+    → first ≤ address → address < first + length marks → (index : ℕ) → index < length marks
+    → get_or (set marks (address - first) true) index false ≡ has (order ++ address ∷ []) (first + index)
+flags_push first marks order address order_marked address_past_first address_below_end index index_below =
+    rw has-push (elim (cases_eq index (address - first)) [
+      | inl same_index ↦ (let same_address : first + index ≡ address = omega arith in
+          ap (λ place. get_or (set marks (address - first) true) place false) same_index ∙ get_or-set_same marks (address - first) true false (omega arith)
+          ∙ sym (or_right (has order (first + index)) (nat_eq (first + index) address) (eq-eqb _ _ same_address)))
+      | inr other_index ↦ (let other_address : first + index ≢ address = λ same_index. other_index (omega (arith, same_index)) in
+          get_or-set_other marks (address - first) index true false other_index ∙ order_marked.flags index index_below
+          ∙ sym (ap (λ is_same. has order (first + index) || is_same) (ne_eqb _ _ other_address) ∙ or_false (has order (first + index))))
     ])
 
 -- the list has at most as many addresses as there are flags
 pub few : (first : ℕ) (marks : List Bool) (order : List ℕ) → IsMarked first marks order → length order ≤ length marks
-few first marks order marked =
-    let all = range_with_len first (length marks) in
-    let few_in_order : length order ≤ length all =
-    length-le_from_is_member nat_eq_equiv order all marked.once
-    (λ q h. has-range first (length marks) q (marked.among q h).0 (marked.among q h).1) in
+few first marks order order_marked =
+    let all_addresses = range_with_len first (length marks) in
+    let few_in_order : length order ≤ length all_addresses =
+    length-le_from_is_member nat_eq_equiv order all_addresses order_marked.once
+    (λ listed_address is_listed. has-range first (length marks) listed_address (order_marked.among listed_address is_listed).0 (order_marked.among listed_address is_listed).1) in
     omega (arith, length-range_with_len first (length marks))
 
 -- an address more, which is marked
-pub IsMarked-push : (first : ℕ) (marks : List Bool) (order : List ℕ) (a : ℕ) → IsMarked first marks order
-    → first ≤ a → a < first + length marks → get_or marks (a - first) false ≡ false
-    → IsMarked first (set marks (a - first) true) (order ++ a ∷ [])
-IsMarked-push first marks order a marked low high unset = record {
-  once = IsDistinct-push nat_eq_equiv order a marked.once (not_there first marks order a marked low high unset);
-  among = λ q h. rw length-set (among_push first (length marks) order a low high marked.among q h);
-  flags = λ index h. flags_push first marks order a marked low high index (rw length-set at h);
+pub IsMarked-push : (first : ℕ) (marks : List Bool) (order : List ℕ) (address : ℕ) → IsMarked first marks order
+    → first ≤ address → address < first + length marks → get_or marks (address - first) false ≡ false
+    → IsMarked first (set marks (address - first) true) (order ++ address ∷ [])
+IsMarked-push first marks order address order_marked address_past_first address_below_end unset = record {
+  once = IsDistinct-push nat_eq_equiv order address order_marked.once (not_there first marks order address order_marked address_past_first address_below_end unset);
+  among = λ listed_address known. rw length-set (among_push first (length marks) order address address_past_first address_below_end order_marked.among listed_address known);
+  flags = λ index known. flags_push first marks order address order_marked address_past_first address_below_end index (rw length-set at known);
 }
 
 -- a list without its last address has no address twice where the whole has none, nor that last one
-distinct_before : (order : List ℕ) (a : ℕ) → IsDistinct nat_eq (order ++ a ∷ []) → IsDistinct nat_eq order
-distinct_before order a once = IsDistinct-from_apart nat_eq order (λ i j d low high.
-    let first : get_or (order ++ a ∷ []) i d ≡ get_or order i d = get_or_append_left order (a ∷ []) d i (omega (arith, low, high)) in
-    let second : get_or (order ++ a ∷ []) j d ≡ get_or order j d = get_or_append_left order (a ∷ []) d j high in
-    ap (λ x. nat_eq x (get_or order j d)) (sym first) ∙ ap (nat_eq (get_or (order ++ a ∷ []) i d)) (sym second)
-    ∙ apart_from_distinct nat_eq (order ++ a ∷ []) i j d once low (omega (arith, high, length-append order (a ∷ []))))
+distinct_before : (order : List ℕ) (address : ℕ) → IsDistinct nat_eq (order ++ address ∷ []) → IsDistinct nat_eq order
+distinct_before order address distinct = IsDistinct-from_apart nat_eq order (λ earlier later otherwise earlier_before later_below.
+    let same_first : get_or (order ++ address ∷ []) earlier otherwise ≡ get_or order earlier otherwise = get_or_append_left order (address ∷ []) otherwise earlier (omega (arith, earlier_before, later_below)) in
+    let same_second : get_or (order ++ address ∷ []) later otherwise ≡ get_or order later otherwise = get_or_append_left order (address ∷ []) otherwise later later_below in
+    ap (λ x. nat_eq x (get_or order later otherwise)) (sym same_first) ∙ ap (nat_eq (get_or (order ++ address ∷ []) earlier otherwise)) (sym same_second)
+    ∙ apart_from_distinct nat_eq (order ++ address ∷ []) earlier later otherwise distinct earlier_before (omega (arith, later_below, length-append order (address ∷ []))))
 
-last_apart : (order : List ℕ) (a : ℕ) → IsDistinct nat_eq (order ++ a ∷ []) → has order a ≡ false
-last_apart order a once = false_from_ne_true (has order a) (λ there.
-    let at = Contains-from_any exact_unsigned_eq a order there in
-    let is : get_or order at.0 0 ≡ a = get_or_default order at.0 0 a at.1 ∙ at.2 in
-    let here : get_or (order ++ a ∷ []) at.0 0 ≡ a = get_or_append_left order (a ∷ []) 0 at.0 at.1 ∙ is in
-    let end : get_or (order ++ a ∷ []) (length order) 0 ≡ a = get_or_at order a [] 0 (length order) refl in
-    let apart = apart_from_distinct nat_eq (order ++ a ∷ []) at.0 (length order) 0 once at.1 (omega (arith, length-append order (a ∷ []))) in
-    false≢true (sym apart ∙ eq-eqb _ _ (here ∙ sym end)))
+last_apart : (order : List ℕ) (address : ℕ) → IsDistinct nat_eq (order ++ address ∷ []) → has order address ≡ false
+last_apart order address distinct = false_from_ne_true (has order address) (λ address_there.
+    let found_place = Contains-from_any exact_unsigned_eq address order address_there in
+    let found_address : get_or order found_place.0 0 ≡ address = get_or_default order found_place.0 0 address found_place.1 ∙ found_place.2 in
+    let longer_has : get_or (order ++ address ∷ []) found_place.0 0 ≡ address = get_or_append_left order (address ∷ []) 0 found_place.0 found_place.1 ∙ found_address in
+    let last_address : get_or (order ++ address ∷ []) (length order) 0 ≡ address = get_or_at order address [] 0 (length order) refl in
+    let last_differs = apart_from_distinct nat_eq (order ++ address ∷ []) found_place.0 (length order) 0 distinct found_place.1 (omega (arith, length-append order (address ∷ []))) in
+    false≢true (sym last_differs ∙ eq-eqb _ _ (longer_has ∙ sym last_address)))
 
-last_is : (order : List ℕ) (a : ℕ) → has (order ++ a ∷ []) a ≡ true
-last_is order a = has-push order a a ∙ or_right (has order a) (nat_eq a a) (eq-eqb a a refl)
+last_is : (order : List ℕ) (address : ℕ) → has (order ++ address ∷ []) address ≡ true
+last_is order address = has-push order address address ∙ or_right (has order address) (nat_eq address address) (eq-eqb address address refl)
 
-flags_pop : (first : ℕ) (marks : List Bool) (order : List ℕ) (a : ℕ) → IsMarked first marks (order ++ a ∷ [])
-    → first ≤ a → a < first + length marks → (index : ℕ) → index < length marks
-    → get_or (set marks (a - first) false) index false ≡ has order (first + index)
-flags_pop first marks order a marked low high index below =
-    elim (cases_eq index (a - first)) [
-      | inl e ↦ (let same : first + index ≡ a = omega (arith, e, low) in
-          ap (λ i. get_or (set marks (a - first) false) i false) e ∙ get_or-set_same marks (a - first) false false (omega (arith, low, high))
-          ∙ sym (ap (has order) same ∙ last_apart order a marked.once))
-      | inr ne ↦ (let other : first + index ≢ a = λ e. ne (omega (arith, e)) in
-          get_or-set_other marks (a - first) index false false ne ∙ marked.flags index below ∙ has-push order a (first + index)
-          ∙ ap (λ b. has order (first + index) || b) (ne_eqb _ _ other) ∙ or_false (has order (first + index)))
+flags_pop : (first : ℕ) (marks : List Bool) (order : List ℕ) (address : ℕ) → IsMarked first marks (order ++ address ∷ [])
+    → first ≤ address → address < first + length marks → (index : ℕ) → index < length marks
+    → get_or (set marks (address - first) false) index false ≡ has order (first + index)
+flags_pop first marks order address longer_marked address_past_first address_below_end index index_below =
+    elim (cases_eq index (address - first)) [
+      | inl same_index ↦ (let same_address : first + index ≡ address = omega (arith, same_index, address_past_first) in
+          ap (λ place. get_or (set marks (address - first) false) place false) same_index ∙ get_or-set_same marks (address - first) false false (omega (arith, address_past_first, address_below_end))
+          ∙ sym (ap (has order) same_address ∙ last_apart order address longer_marked.once))
+      | inr other_index ↦ (let other_address : first + index ≢ address = λ same_index. other_index (omega (arith, same_index)) in
+          get_or-set_other marks (address - first) index false false other_index ∙ longer_marked.flags index index_below ∙ has-push order address (first + index)
+          ∙ ap (λ is_same. has order (first + index) || is_same) (ne_eqb _ _ other_address) ∙ or_false (has order (first + index)))
     ]
 
 -- the last address of a list lies where there are flags
-pub last_among : (first : ℕ) (marks : List Bool) (now order : List ℕ) (a : ℕ) → now ≡ order ++ a ∷ [] → IsMarked first marks now
-    → (first ≤ a) × (a < first + length marks)
-last_among first marks now order a is marked = marked.among a (ap (λ xs. has xs a) is ∙ last_is order a)
+pub last_among : (first : ℕ) (marks : List Bool) (longer_order order : List ℕ) (address : ℕ) → longer_order ≡ order ++ address ∷ [] → IsMarked first marks longer_order
+    → (first ≤ address) × (address < first + length marks)
+last_among first marks longer_order order address same_order longer_marked = longer_marked.among address (ap (λ xs. has xs address) same_order ∙ last_is order address)
 
 -- an address less, whose flag is taken away
-pub IsMarked-pop : (first : ℕ) (marks : List Bool) (now order : List ℕ) (a : ℕ) → now ≡ order ++ a ∷ [] → IsMarked first marks now
-    → IsMarked first (set marks (a - first) false) order
-IsMarked-pop first marks now order a is before =
-    let marked : IsMarked first marks (order ++ a ∷ []) = subst (IsMarked first marks) is before in
-    let inside = marked.among a (last_is order a) in
+pub IsMarked-pop : (first : ℕ) (marks : List Bool) (longer_order order : List ℕ) (address : ℕ) → longer_order ≡ order ++ address ∷ [] → IsMarked first marks longer_order
+    → IsMarked first (set marks (address - first) false) order
+IsMarked-pop first marks longer_order order address same_order marked_before =
+    let longer_order_marked : IsMarked first marks (order ++ address ∷ []) = subst (IsMarked first marks) same_order marked_before in
+    let address_inside = longer_order_marked.among address (last_is order address) in
     record {
-      once = distinct_before order a marked.once;
-      among = λ q h. rw length-set (marked.among q (has-push order a q ∙ or_left (has order q) (nat_eq q a) h));
-      flags = λ index h. flags_pop first marks order a marked inside.0 inside.1 index (rw length-set at h);
+      once = distinct_before order address longer_order_marked.once;
+      among = λ listed_address known. rw length-set (longer_order_marked.among listed_address (has-push order address listed_address ∙ or_left (has order listed_address) (nat_eq listed_address address) known));
+      flags = λ index known. flags_pop first marks order address longer_order_marked address_inside.0 address_inside.1 index (rw length-set at known);
     }
 
 -- that flags and list say the same has one proof
 pub IsMarked-prop : (first : ℕ) (marks : List Bool) (order : List ℕ) → IsProp (IsMarked first marks order)
-IsMarked-prop first marks order one other = λ i. record {
-  once = IsDistinct-prop nat_eq order one.once other.once i;
-  among = λ a h. let x = one.among a h in let y = other.among a h in (le_prop x.0 y.0 i, le_prop x.1 y.1 i);
-  flags = λ k h. Bool-set _ _ (one.flags k h) (other.flags k h) i;
+IsMarked-prop first marks order first_marked second_marked = λ i. record {
+  once = IsDistinct-prop nat_eq order first_marked.once second_marked.once i;
+  among = λ listed_address known. let first_among = first_marked.among listed_address known in let second_among = second_marked.among listed_address known in (le_prop first_among.0 second_among.0 i, le_prop first_among.1 second_among.1 i);
+  flags = λ index known. Bool-set _ _ (first_marked.flags index known) (second_marked.flags index known) i;
 }
 
 -- what was in the list stays in it
-kept_one : (order : List ℕ) (a q : ℕ) → has order q ≡ true → has (with_address order a) q ≡ true
-kept_one order a q same =
-    cond_both ((a == 0) || has order a) order (order ++ a ∷ []) (λ xs. has xs q ≡ true) (λ _. same)
-    (λ _. has-push order a q ∙ or_left _ _ same)
+kept_one : (order : List ℕ) (address asked : ℕ) → has order asked ≡ true → has (with_address order address) asked ≡ true
+kept_one order address asked asked_there =
+    cond_both ((address == 0) || has order address) order (order ++ address ∷ []) (λ xs. has xs asked ≡ true) (λ _. asked_there)
+    (λ _. has-push order address asked ∙ or_left _ _ asked_there)
 
-pub kept : (order words : List ℕ) (q : ℕ) → has order q ≡ true → has (with_addresses order words) q ≡ true
-kept order [] q same = same
-kept order (a ∷ words) q same = kept (with_address order a) words q (kept_one order a q same)
+pub kept : (order words : List ℕ) (asked : ℕ) → has order asked ≡ true → has (with_addresses order words) asked ≡ true
+kept order [] asked asked_there = asked_there
+kept order (address ∷ words) asked asked_there = kept (with_address order address) words asked (kept_one order address asked asked_there)
 
 -- the list has each of the words that is not null
-new_one : (order : List ℕ) (a : ℕ) → a ≢ 0 → has (with_address order a) a ≡ true
-new_one order a ne =
-    cond_both ((a == 0) || has order a) order (order ++ a ∷ []) (λ xs. has xs a ≡ true)
-    (λ e. elim (or_cases (a == 0) (has order a) e) [ inl is_zero ↦ absurd (ne (eqb-true a 0 is_zero)) | inr old ↦ old ])
-    (λ _. has-push order a a ∙ or_right (has order a) (nat_eq a a) (eq-eqb a a refl))
+new_one : (order : List ℕ) (address : ℕ) → address ≢ 0 → has (with_address order address) address ≡ true
+new_one order address not_null =
+    cond_both ((address == 0) || has order address) order (order ++ address ∷ []) (λ xs. has xs address ≡ true)
+    (λ is_listed. elim (or_cases (address == 0) (has order address) is_listed) [ inl is_zero ↦ absurd (not_null (eqb-true address 0 is_zero)) | inr old ↦ old ])
+    (λ _. has-push order address address ∙ or_right (has order address) (nat_eq address address) (eq-eqb address address refl))
 
-pub new : (order words : List ℕ) (q : ℕ) → q ≢ 0 → has words q ≡ true → has (with_addresses order words) q ≡ true
-new order [] q ne same = absurd (false≢true same)
-new order (a ∷ words) q ne same =
-    elim (or_cases (nat_eq q a) (has words q) same) [
-      | inl first ↦ kept (with_address order a) words q
-          (let e : a ≡ q = sym (eqb-true q a first) in ap (λ x. has (with_address order x) q) e ∙ new_one order q ne)
-      | inr rest ↦ new (with_address order a) words q ne rest
+pub new : (order words : List ℕ) (asked : ℕ) → asked ≢ 0 → has words asked ≡ true → has (with_addresses order words) asked ≡ true
+new order [] asked not_null asked_there = absurd (false≢true asked_there)
+new order (address ∷ words) asked not_null asked_there =
+    elim (or_cases (nat_eq asked address) (has words asked) asked_there) [
+      | inl first_word ↦ kept (with_address order address) words asked
+          (let same_address : address ≡ asked = sym (eqb-true asked address first_word) in ap (λ added. has (with_address order added) asked) same_address ∙ new_one order asked not_null)
+      | inr rest ↦ new (with_address order address) words asked not_null rest
     ]
 
 -- nothing else came into the list
-only_one : (order : List ℕ) (a q : ℕ) → has (with_address order a) q ≡ true → (has order q ≡ true) ⊎ ((q ≢ 0) × (q ≡ a))
-only_one order a q =
-    cond_both ((a == 0) || has order a) order (order ++ a ∷ [])
-    (λ xs. has xs q ≡ true → (has order q ≡ true) ⊎ ((q ≢ 0) × (q ≡ a)))
-    (λ _ h. inl h)
-    (λ e h. elim (or_cases (has order q) (nat_eq q a) (sym (has-push order a q) ∙ h)) [
+only_one : (order : List ℕ) (address asked : ℕ) → has (with_address order address) asked ≡ true → (has order asked ≡ true) ⊎ ((asked ≢ 0) × (asked ≡ address))
+only_one order address asked =
+    cond_both ((address == 0) || has order address) order (order ++ address ∷ [])
+    (λ xs. has xs asked ≡ true → (has order asked ≡ true) ⊎ ((asked ≢ 0) × (asked ≡ address)))
+    (λ _ is_listed. inl is_listed)
+    (λ is_new is_listed. elim (or_cases (has order asked) (nat_eq asked address) (sym (has-push order address asked) ∙ is_listed)) [
       | inl old ↦ inl old
-      | inr is ↦ (let same : q ≡ a = eqb-true q a is in
-          inr ((λ is_zero. eqb-false a 0 (or_parts (a == 0) (has order a) e).0 (sym same ∙ is_zero), same)))
+      | inr asked_last ↦ (let same_address : asked ≡ address = eqb-true asked address asked_last in
+          inr ((λ is_zero. eqb-false address 0 (or_parts (address == 0) (has order address) is_new).0 (sym same_address ∙ is_zero), same_address)))
     ])
 
-pub only : (order words : List ℕ) (q : ℕ) → has (with_addresses order words) q ≡ true
-    → (has order q ≡ true) ⊎ ((q ≢ 0) × (has words q ≡ true))
-only order [] q same = inl same
-only order (a ∷ words) q same =
-    elim (only (with_address order a) words q same) [
-      | inl one ↦ elim (only_one order a q one)
-          [ inl old ↦ inl old | inr is ↦ inr (is.0, or_left (nat_eq q a) (has words q) (eq-eqb q a is.1)) ]
-      | inr rest ↦ inr (rest.0, or_right (nat_eq q a) (has words q) rest.1)
+pub only : (order words : List ℕ) (asked : ℕ) → has (with_addresses order words) asked ≡ true
+    → (has order asked ≡ true) ⊎ ((asked ≢ 0) × (has words asked ≡ true))
+only order [] asked asked_there = inl asked_there
+only order (address ∷ words) asked asked_there =
+    elim (only (with_address order address) words asked asked_there) [
+      | inl among_first ↦ elim (only_one order address asked among_first)
+          [ inl old ↦ inl old | inr asked_new ↦ inr (asked_new.0, or_left (nat_eq asked address) (has words asked) (eq-eqb asked address asked_new.1)) ]
+      | inr rest ↦ inr (rest.0, or_right (nat_eq asked address) (has words asked) rest.1)
     ]
 
 -- what was in the list stays where it is
-prefix_one : (order : List ℕ) (a : ℕ) → (more : List ℕ) × (with_address order a ≡ order ++ more)
-prefix_one order a =
-    cond_both ((a == 0) || has order a) order (order ++ a ∷ []) (λ xs. (more : List ℕ) × (xs ≡ order ++ more))
-    (λ _. ([], sym (append-nil order))) (λ _. (a ∷ [], refl))
+prefix_one : (order : List ℕ) (address : ℕ) → (added : List ℕ) × (with_address order address ≡ order ++ added)
+prefix_one order address =
+    cond_both ((address == 0) || has order address) order (order ++ address ∷ []) (λ xs. (added : List ℕ) × (xs ≡ order ++ added))
+    (λ _. ([], sym (append-nil order))) (λ _. (address ∷ [], refl))
 
-pub prefix : (order words : List ℕ) → (more : List ℕ) × (with_addresses order words ≡ order ++ more)
+pub prefix : (order words : List ℕ) → (added : List ℕ) × (with_addresses order words ≡ order ++ added)
 prefix order [] = ([], sym (append-nil order))
-prefix order (a ∷ words) =
-    let one = prefix_one order a in
-    let rest = prefix (with_address order a) words in
-    (one.0 ++ rest.0, rest.1 ∙ ap (λ xs. xs ++ rest.0) one.1 ∙ append_assoc order one.0 rest.0)
+prefix order (address ∷ words) =
+    let first_added = prefix_one order address in
+    let later_prefix = prefix (with_address order address) words in
+    (first_added.0 ++ later_prefix.0, later_prefix.1 ∙ ap (λ xs. xs ++ later_prefix.0) first_added.1 ∙ append_assoc order first_added.0 later_prefix.0)
 
 -- one word more
-pub with_addresses-push : (order words : List ℕ) (a : ℕ) → with_addresses order (words ++ a ∷ []) ≡ with_address (with_addresses order words) a
-with_addresses-push order [] a = refl
-with_addresses-push order (w ∷ words) a = with_addresses-push (with_address order w) words a
+pub with_addresses-push : (order words : List ℕ) (address : ℕ) → with_addresses order (words ++ address ∷ []) ≡ with_address (with_addresses order words) address
+with_addresses-push order [] address = refl
+with_addresses-push order (word ∷ words) address = with_addresses-push (with_address order word) words address
 
 -- and many words more
-pub with_addresses-append : (order words more : List ℕ) → with_addresses order (words ++ more) ≡ with_addresses (with_addresses order words) more
-with_addresses-append order [] more = refl
-with_addresses-append order (w ∷ words) more = with_addresses-append (with_address order w) words more
+pub with_addresses-append : (order words later_words : List ℕ) → with_addresses order (words ++ later_words) ≡ with_addresses (with_addresses order words) later_words
+with_addresses-append order [] later_words = refl
+with_addresses-append order (word ∷ words) later_words = with_addresses-append (with_address order word) words later_words
 
 -- a word of one of two lists is one of both together
-pub has-left : (xs ys : List ℕ) (w : ℕ) → has xs w ≡ true → has (xs ++ ys) w ≡ true
-has-left xs ys w same = list_any-append (nat_eq w) xs ys ∙ or_left (has xs w) (has ys w) same
+pub has-left : (xs ys : List ℕ) (word : ℕ) → has xs word ≡ true → has (xs ++ ys) word ≡ true
+has-left xs ys word word_there = list_any-append (nat_eq word) xs ys ∙ or_left (has xs word) (has ys word) word_there
 
-pub has-right : (xs ys : List ℕ) (w : ℕ) → has ys w ≡ true → has (xs ++ ys) w ≡ true
-has-right xs ys w same = list_any-append (nat_eq w) xs ys ∙ or_right (has xs w) (has ys w) same
+pub has-right : (xs ys : List ℕ) (word : ℕ) → has ys word ≡ true → has (xs ++ ys) word ≡ true
+has-right xs ys word word_there = list_any-append (nat_eq word) xs ys ∙ or_right (has xs word) (has ys word) word_there

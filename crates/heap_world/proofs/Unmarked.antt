@@ -1,4 +1,5 @@
 -- While nobody marks, all that marking counts on holds.
+use Rattle.heap_words.specs.Phases.{marking_phase, idle_phase}
 use Rattle.std.proofs.Common.{◌≡◌, ◌≢◌, ℕ, Option, refl, arith}
 use Rattle.std.proofs.lemmas.Bool.{false≢true}
 use Rattle.std.proofs.lemmas.Option.{none-some}
@@ -6,22 +7,22 @@ use Rattle.heap_words.specs.declared.config.Config.{Config}
 use Rattle.heap_world.specs.World.{Plot, Scan, no_snapshot, KeepsSnapshot}
 
 pub none_marked_in : (config : Config) (phase : ℕ) (grey black count : ℕ → ℕ) (buffer : ℕ → ℕ → ℕ) (top tams heap : ℕ → ℕ) (block : Plot) (recording : ℕ → Option ℕ) (scanning : ℕ → Option Scan)
-    → phase ≢ 1 → KeepsSnapshot config phase grey black count buffer top tams heap block no_snapshot recording scanning
-none_marked_in config phase grey black count buffer top tams heap block recording scanning is = record {
-  empty = λ other. refl;
+    → phase ≢ marking_phase → KeepsSnapshot config phase grey black count buffer top tams heap block no_snapshot recording scanning
+none_marked_in config phase grey black count buffer top tams heap block recording scanning other_phase = record {
+  empty = λ not_marking. refl;
   traced = record {
-    edges = λ address refs nums k name there. absurd (none-some _ there);
-    starts = λ a there. absurd (false≢true there);
+    edges = λ address refs nums field name in_snapshot. absurd (none-some _ in_snapshot);
+    starts = λ object_address in_snapshot. absurd (false≢true in_snapshot);
   };
-  led = λ a refs nums name there. absurd (none-some _ there);
-  old = λ a refs nums name there. absurd (none-some _ there);
-  kept = λ a refs nums name there. absurd (none-some _ there);
-  floors = λ r inside. omega arith;
-  marking = λ on. absurd (is on);
+  led = λ object_address refs nums name in_snapshot. absurd (none-some _ in_snapshot);
+  old = λ object_address refs nums name in_snapshot. absurd (none-some _ in_snapshot);
+  kept = λ object_address refs nums name in_snapshot. absurd (none-some _ in_snapshot);
+  floors = λ region inside. omega arith;
+  marking = λ phase_one. absurd (other_phase phase_one);
 }
 
 -- so it is in phase 0
 pub none_marked : (config : Config) (phase : ℕ) (grey black count : ℕ → ℕ) (buffer : ℕ → ℕ → ℕ) (top tams heap : ℕ → ℕ) (block : Plot) (recording : ℕ → Option ℕ) (scanning : ℕ → Option Scan)
-    → phase ≡ 0 → KeepsSnapshot config phase grey black count buffer top tams heap block no_snapshot recording scanning
-none_marked config phase grey black count buffer top tams heap block recording scanning is =
-    none_marked_in config phase grey black count buffer top tams heap block recording scanning (λ on. omega (arith, is, on))
+    → phase ≡ idle_phase → KeepsSnapshot config phase grey black count buffer top tams heap block no_snapshot recording scanning
+none_marked config phase grey black count buffer top tams heap block recording scanning phase_zero =
+    none_marked_in config phase grey black count buffer top tams heap block recording scanning (λ phase_one. omega (arith, phase_zero, phase_one))

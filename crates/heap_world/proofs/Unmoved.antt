@@ -11,15 +11,15 @@ use Rattle.heap_world.proofs.Keeping.{usable_now}
 module _ (config : Config) (world : World) (shared : Shared config world) (early : world.memory Phase < 2) where
   -- nothing lies in the collection set
   pub none_collected : (address : ℕ) → IsCollected config (world.memory Cset) address → ⊥
-  none_collected address is = none_in_0 config address (subst (λ set. IsCollected config set address) (shared.phased.cset_is early) is)
+  none_collected address address_collected = none_in_0 config address (subst (λ cset. IsCollected config cset address) (shared.phased.cset_is early) address_collected)
 
   -- so no copy is old
-  pub unmoved : (address refs nums to : ℕ) (name : Name) → world.block address ≡ Some (moved name refs nums to) → ⊥
-  unmoved address refs nums to name is = none_collected address (shared.evacuated.moved.moveds address refs nums to name is).inside
+  pub unmoved : (address refs nums new_address : ℕ) (name : Name) → world.block address ≡ Some (moved name refs nums new_address) → ⊥
+  unmoved address refs nums new_address name moved_there = none_collected address (shared.evacuated.moved.moveds address refs nums new_address name moved_there).inside
 
-  pub unspent : (address words to : ℕ) → world.block address ≡ Some (spent words to) → ⊥
-  unspent address words to is = none_collected address (shared.evacuated.moved.spents address words to is).inside
+  pub unspent : (address words new_address : ℕ) → world.block address ≡ Some (spent words new_address) → ⊥
+  unspent address words new_address spent_there = none_collected address (shared.evacuated.moved.spents address words new_address spent_there).inside
 
   -- and each word that stands for a reference may be used
   pub usable_unmoved : (word : ℕ) (reference : Reference) → Points world.block word reference → UsableIn config world word
-  usable_unmoved word reference points = subst (λ set. IsUsable config set (world.memory Evac) world.block word) (sym (shared.phased.cset_is early)) (usable_now config (world.memory Evac) world.block unmoved word reference points)
+  usable_unmoved word reference points = subst (λ cset. IsUsable config cset (world.memory Evac) world.block word) (sym (shared.phased.cset_is early)) (usable_now config (world.memory Evac) world.block unmoved word reference points)

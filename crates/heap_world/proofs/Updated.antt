@@ -9,56 +9,56 @@ use Rattle.heap_world.specs.World.{Block, thing, room_of, Plot, Scan, IsCollecte
 -- a word that may be used as a reference is current
 pub usable_current : (config : Config) (cset evac : ℕ) (block : Plot) (word : ℕ) → IsUsable config cset evac block word → IsCurrent block word
 usable_current config cset evac block word (inl null) = IsCurrent.null null
-usable_current config cset evac block word (inr at) = IsCurrent.names at.1 at.2 at.0 at.3.piece
+usable_current config cset evac block word (inr target) = IsCurrent.names target.1 target.2 target.0 target.3.piece
 
 -- a current word stays so where objects stay where they are
-pub current_stays : (plot other_plot : Plot) → ((address refs nums : ℕ) (name : Name) → plot address ≡ Some (thing name refs nums) → other_plot address ≡ Some (thing name refs nums)) → (word : ℕ) → IsCurrent plot word → IsCurrent other_plot word
-current_stays plot other_plot things word (IsCurrent.null null) = IsCurrent.null null
-current_stays plot other_plot things word (IsCurrent.names refs nums name is) = IsCurrent.names refs nums name (things word refs nums name is)
+pub current_stays : (plot next_plot : Plot) → ((address refs nums : ℕ) (name : Name) → plot address ≡ Some (thing name refs nums) → next_plot address ≡ Some (thing name refs nums)) → (word : ℕ) → IsCurrent plot word → IsCurrent next_plot word
+current_stays plot next_plot objects_stay word (IsCurrent.null null) = IsCurrent.null null
+current_stays plot next_plot objects_stay word (IsCurrent.names refs nums name object_there) = IsCurrent.names refs nums name (objects_stay word refs nums name object_there)
 
 module _ (config : Config) (cset claim : ℕ) (top limit heap : ℕ → ℕ) (block : Plot) (scanning : ℕ → Option Scan) (updating : IsUpdating config cset claim top limit heap block scanning) where
   -- Words change, but each field of an object stays, or is current then.
   pub updated_stored : (after : ℕ → ℕ)
-      → ((address refs nums k : ℕ) (name : Name) → block address ≡ Some (thing name refs nums) → k < refs → (after (address + 3 + k) ≡ heap (address + 3 + k)) ⊎ IsCurrent block (after (address + 3 + k)))
+      → ((address refs nums field : ℕ) (name : Name) → block address ≡ Some (thing name refs nums) → field < refs → (after (address + 3 + field) ≡ heap (address + 3 + field)) ⊎ IsCurrent block (after (address + 3 + field)))
       → IsUpdating config cset claim top limit after block scanning
   updated_stored after fields = record {
     outside = updating.outside;
-    renewed = λ address refs nums k name is below. ⊎_elim
-        (λ same. subst (λ word. IsCurrent block word ⊎ IsToUpdate config claim limit scanning address k) (sym same) (updating.renewed address refs nums k name is below))
+    renewed = λ address refs nums field name object_there field_below. ⊎_elim
+        (λ same_word. subst (λ word. IsCurrent block word ⊎ IsToUpdate config claim limit scanning address field) (sym same_word) (updating.renewed address refs nums field name object_there field_below))
         (λ current. inl current)
-        (fields address refs nums k name is below);
+        (fields address refs nums field name object_there field_below);
     young = updating.young;
     limits = updating.limits;
   }
 
   -- so it is where no word of an object changes
-  pub updated_elsewhere : (after : ℕ → ℕ) → ((address refs nums k : ℕ) (name : Name) → block address ≡ Some (thing name refs nums) → k < refs → after (address + 3 + k) ≡ heap (address + 3 + k))
+  pub updated_elsewhere : (after : ℕ → ℕ) → ((address refs nums field : ℕ) (name : Name) → block address ≡ Some (thing name refs nums) → field < refs → after (address + 3 + field) ≡ heap (address + 3 + field))
       → IsUpdating config cset claim top limit after block scanning
-  updated_elsewhere after stays = updated_stored after (λ address refs nums k name is below. inl (stays address refs nums k name is below))
+  updated_elsewhere after fields_stay = updated_stored after (λ address refs nums field name object_there field_below. inl (fields_stay address refs nums field name object_there field_below))
 
   -- A piece that stands for no object becomes one, outside of the collection set, whose references are current.
   pub updated_made : (new_block : Plot) (address refs nums : ℕ) (name : Name) → new_block address ≡ Some (thing name refs nums)
-      → (IsCollected config cset address → ⊥) → ((k : ℕ) → k < refs → IsCurrent new_block (heap (address + 3 + k)))
-      → ((other_address more_refs more_nums : ℕ) (other_name : Name) → block other_address ≡ Some (thing other_name more_refs more_nums) → new_block other_address ≡ Some (thing other_name more_refs more_nums))
+      → (IsCollected config cset address → ⊥) → ((field : ℕ) → field < refs → IsCurrent new_block (heap (address + 3 + field)))
+      → ((other_address other_refs other_nums : ℕ) (other_name : Name) → block other_address ≡ Some (thing other_name other_refs other_nums) → new_block other_address ≡ Some (thing other_name other_refs other_nums))
       → ((other_address : ℕ) (piece : Block) → new_block other_address ≡ Some piece → other_address ≢ address → block other_address ≡ Some piece)
       → IsUpdating config cset claim top limit heap new_block scanning
-  updated_made new_block address refs nums name here outside fields things only = record {
-    outside = λ other_address more_refs more_nums other_name is inside. ⊎_elim
-        (λ (same : other_address ≡ address). outside (subst (IsCollected config cset) same inside))
-        (λ (other : other_address ≢ address). updating.outside other_address more_refs more_nums other_name (only other_address (thing other_name more_refs more_nums) is other) inside)
+  updated_made new_block address refs nums name object_here outside fields objects_stay only_object = record {
+    outside = λ other_address other_refs other_nums other_name object_there inside. ⊎_elim
+        (λ (same_address : other_address ≡ address). outside (subst (IsCollected config cset) same_address inside))
+        (λ (other_place : other_address ≢ address). updating.outside other_address other_refs other_nums other_name (only_object other_address (thing other_name other_refs other_nums) object_there other_place) inside)
         (cases_eq other_address address);
-    renewed = λ other_address more_refs more_nums k other_name is below. ⊎_elim
-        (λ (same : other_address ≡ address).
-        let both : Some (thing name refs nums) ≡ Some (thing other_name more_refs more_nums) = sym here ∙ ap new_block (sym same) ∙ is in
-        let refs_are : more_refs ≡ refs = cc in
-        inl (subst (λ x. IsCurrent new_block (heap (x + 3 + k))) (sym same) (fields k (omega (arith, below, refs_are)))))
-        (λ (other : other_address ≢ address). ⊎_elim
-        (λ current. inl (current_stays block new_block things (heap (other_address + 3 + k)) current))
+    renewed = λ other_address other_refs other_nums field other_name object_there field_below. ⊎_elim
+        (λ (same_address : other_address ≡ address).
+        let same_piece : Some (thing name refs nums) ≡ Some (thing other_name other_refs other_nums) = sym object_here ∙ ap new_block (sym same_address) ∙ object_there in
+        let refs_are : other_refs ≡ refs = cc in
+        inl (subst (λ x. IsCurrent new_block (heap (x + 3 + field))) (sym same_address) (fields field (omega (arith, field_below, refs_are)))))
+        (λ (other_place : other_address ≢ address). ⊎_elim
+        (λ current. inl (current_stays block new_block objects_stay (heap (other_address + 3 + field)) current))
         (λ due. inr due)
-        (updating.renewed other_address more_refs more_nums k other_name (only other_address (thing other_name more_refs more_nums) is other) below))
+        (updating.renewed other_address other_refs other_nums field other_name (only_object other_address (thing other_name other_refs other_nums) object_there other_place) field_below))
         (cases_eq other_address address);
-    young = λ other_address seat x is room. updating.young other_address seat x
-        (only other_address x is (λ same. none-some seat (ap room_of (same_Some (thing name refs nums) x (sym here ∙ ap new_block (sym same) ∙ is)) ∙ room)))
+    young = λ other_address seat x object_there room. updating.young other_address seat x
+        (only_object other_address x object_there (λ same_address. none-some seat (ap room_of (same_Some (thing name refs nums) x (sym object_here ∙ ap new_block (sym same_address) ∙ object_there)) ∙ room)))
         room;
     limits = updating.limits;
   }

@@ -9,102 +9,102 @@ use Rattle.heap_world.specs.Walk.{has, refs_at, current_at, currents, Leads, fro
 use Rattle.heap_world.proofs.TakenDown.{kept, new, only, prefix, with_addresses-append, has-left, has-right}
 
 -- with no flag set, the list without an address is marked
-pub IsMarked-none : (first n : ℕ) (marks : List Bool) (order : List ℕ) → marks ≡ replicate n false → order ≡ [] → IsMarked first marks order
-IsMarked-none first n marks order same none =
-    rw (same, none) (record {
-      once = IsDistinct-from_apart nat_eq [] (λ i j d _ h. absurd (omega arith));
-      among = λ a h. absurd (false≢true h);
-      flags = λ k h. get_or-replicate n k false false (rw length-replicate at h);
+pub IsMarked-none : (first count : ℕ) (marks : List Bool) (order : List ℕ) → marks ≡ replicate count false → order ≡ [] → IsMarked first marks order
+IsMarked-none first count marks order no_flags no_addresses =
+    rw (no_flags, no_addresses) (record {
+      once = IsDistinct-from_apart nat_eq [] (λ earlier later otherwise _ known. absurd (omega arith));
+      among = λ listed_address known. absurd (false≢true known);
+      flags = λ index known. get_or-replicate count index false false (rw length-replicate at known);
     })
 
 -- what holds of each word that a list has
-pub all_named-in : (words : List ℕ) (P : ℕ → Type 0) → ((a : ℕ) → has words a ≡ true → P a) → All P words
-all_named-in words P h = λ k d below. h _ (list_any_at _ words k d below (eq-eqb _ _ refl))
+pub all_named-in : (words : List ℕ) (P : ℕ → Type 0) → ((word : ℕ) → has words word ≡ true → P word) → All P words
+all_named-in words P each_word = λ index otherwise index_below. each_word _ (list_any_at _ words index otherwise index_below (eq-eqb _ _ refl))
 
 -- the address of an object that the roots lead to has a flag
-pub among_from_led : (first : ℕ) (heap roots : List ℕ) (n a : ℕ) → IsWalkable first heap roots → n ≡ length heap
-    → Leads first heap roots a → (first ≤ a) × (a < first + n)
-among_from_led first heap roots n a sound same led =
-    (sound.above a led, omega (arith, sound.below a led))
+pub among_from_led : (first : ℕ) (heap roots : List ℕ) (count address : ℕ) → IsWalkable first heap roots → count ≡ length heap
+    → Leads first heap roots address → (first ≤ address) × (address < first + count)
+among_from_led first heap roots count address sound same_length led =
+    (sound.above address led, omega (arith, sound.below address led))
 
 -- the words that lead to objects each have a flag, or are null
-pub all_among : (first : ℕ) (heap roots : List ℕ) (n : ℕ) (words : List ℕ) → IsWalkable first heap roots → n ≡ length heap
-    → ((a : ℕ) → a ≢ 0 → has words a ≡ true → Leads first heap roots a) → All (IsNullOrAmong first n) words
-all_among first heap roots n words sound same led =
-    λ k d h ne. among_from_led first heap roots n _ sound same (led _ ne (list_any_at _ words k d h (eq-eqb _ _ refl)))
+pub all_among : (first : ℕ) (heap roots : List ℕ) (count : ℕ) (words : List ℕ) → IsWalkable first heap roots → count ≡ length heap
+    → ((address : ℕ) → address ≢ 0 → has words address ≡ true → Leads first heap roots address) → All (IsNullOrAmong first count) words
+all_among first heap roots count words sound same_length led =
+    λ index otherwise index_below not_null. among_from_led first heap roots count _ sound same_length (led _ not_null (list_any_at _ words index otherwise index_below (eq-eqb _ _ refl)))
 
 -- taking down words that lead to objects keeps that each address does
 pub led_step : (first : ℕ) (heap roots order words : List ℕ)
-    → ((a : ℕ) → has order a ≡ true → Leads first heap roots a)
-    → ((a : ℕ) → a ≢ 0 → has words a ≡ true → Leads first heap roots a)
-    → (a : ℕ) → has (with_addresses order words) a ≡ true → Leads first heap roots a
-led_step first heap roots order words before more a same =
-    elim (only order words a same) [ inl old ↦ before a old | inr is ↦ more a is.0 is.1 ]
+    → ((address : ℕ) → has order address ≡ true → Leads first heap roots address)
+    → ((address : ℕ) → address ≢ 0 → has words address ≡ true → Leads first heap roots address)
+    → (address : ℕ) → has (with_addresses order words) address ≡ true → Leads first heap roots address
+led_step first heap roots order words before words_lead address address_there =
+    elim (only order words address address_there) [ inl old ↦ before address old | inr address_new ↦ words_lead address address_new.0 address_new.1 ]
 
 -- each reference of the first so many objects of the list is null or in the list
 abbrev pub IsClosed : ℕ → List ℕ → List ℕ → ℕ → Type 0
 IsClosed first heap order next =
-    (index a : ℕ) → index < next → a ≢ 0 → has (currents first heap (refs_at heap (get_or order index 0 - first))) a ≡ true → has order a ≡ true
+    (index address : ℕ) → index < next → address ≢ 0 → has (currents first heap (refs_at heap (get_or order index 0 - first))) address ≡ true → has order address ≡ true
 
 -- an element of the list stands where it stood
 stays : (order words : List ℕ) (index : ℕ) → index < length order → get_or (with_addresses order words) index 0 ≡ get_or order index 0
-stays order words index below =
-    let p = prefix order words in
-    ap (λ xs. get_or xs index 0) p.1 ∙ get_or_append_left order p.0 0 index below
+stays order words index index_below =
+    let added = prefix order words in
+    ap (λ xs. get_or xs index 0) added.1 ∙ get_or_append_left order added.0 0 index index_below
 
 pub closed_step : (first : ℕ) (heap order words : List ℕ) (next : ℕ) → next < length order
     → words ≡ currents first heap (refs_at heap (get_or order next 0 - first)) → IsClosed first heap order next
     → IsClosed first heap (with_addresses order words) (next + 1)
-closed_step first heap order words next low same closed j a h ne refers =
-    let within : j < length order = omega arith in
-    let there : has (currents first heap (refs_at heap (get_or order j 0 - first))) a ≡ true =
-    subst (λ (x : ℕ). has (currents first heap (refs_at heap (x - first))) a ≡ true) (stays order words j within) refers in
-    elim (cases_lt j next) [
-      | inl before ↦ kept order words a (closed j a before ne there)
-      | inr after ↦ (let at : j ≡ next = omega arith in
-          new order words a ne (ap (λ xs. has xs a) (same ∙ ap (λ index. currents first heap (refs_at heap (get_or order index 0 - first))) (sym at)) ∙ there))
+closed_step first heap order words next low same_words closed place address place_below not_null refers =
+    let within : place < length order = omega arith in
+    let address_there : has (currents first heap (refs_at heap (get_or order place 0 - first))) address ≡ true =
+    subst (λ (word : ℕ). has (currents first heap (refs_at heap (word - first))) address ≡ true) (stays order words place within) refers in
+    elim (cases_lt place next) [
+      | inl before ↦ kept order words address (closed place address before not_null address_there)
+      | inr after ↦ (let same_index : place ≡ next = omega arith in
+          new order words address not_null (ap (λ xs. has xs address) (same_words ∙ ap (λ index. currents first heap (refs_at heap (get_or order index 0 - first))) (sym same_index)) ∙ address_there))
     ]
 
 -- what is read from a list is in it
-pub has-read : (order : List ℕ) (index x : ℕ) → index < length order → x ≡ get_or order index x → has order x ≡ true
-has-read order index x below is = list_any_at (nat_eq x) order index x below (eq-eqb x (get_or order index x) is)
+pub has-read : (order : List ℕ) (index word : ℕ) → index < length order → word ≡ get_or order index word → has order word ≡ true
+has-read order index word index_below word_read = list_any_at (nat_eq word) order index word index_below (eq-eqb word (get_or order index word) word_read)
 
 -- a list that has the roots, and with each object its references, has each address that the roots lead to
 pub all_found : (first : ℕ) (heap roots order : List ℕ)
-    → ((a : ℕ) → a ≢ 0 → has (currents first heap roots) a ≡ true → has order a ≡ true)
+    → ((address : ℕ) → address ≢ 0 → has (currents first heap roots) address ≡ true → has order address ≡ true)
     → IsClosed first heap order (length order)
-    → (a : ℕ) → Leads first heap roots a → has order a ≡ true
-all_found first heap roots order rooted closed a (from_root from ne h) = rooted a ne h
-all_found first heap roots order rooted closed a (from_field m from led ne h) =
-    let at = Contains-from_any exact_unsigned_eq m order (all_found first heap roots order rooted closed m led) in
-    let is : get_or order at.0 0 ≡ m = get_or_default order at.0 0 m at.1 ∙ at.2 in
-    closed at.0 a at.1 ne (subst (λ (x : ℕ). has (currents first heap (refs_at heap (x - first))) a ≡ true) (sym is) h)
+    → (address : ℕ) → Leads first heap roots address → has order address ≡ true
+all_found first heap roots order rooted closed address (from_root from not_null address_there) = rooted address not_null address_there
+all_found first heap roots order rooted closed address (from_field holder from led not_null address_there) =
+    let holder_found = Contains-from_any exact_unsigned_eq holder order (all_found first heap roots order rooted closed holder led) in
+    let holder_there : get_or order holder_found.0 0 ≡ holder = get_or_default order holder_found.0 0 holder holder_found.1 ∙ holder_found.2 in
+    closed holder_found.0 address holder_found.1 not_null (subst (λ (word : ℕ). has (currents first heap (refs_at heap (word - first))) address ≡ true) (sym holder_there) address_there)
 
 pub IsWalk-from : (first : ℕ) (heap roots order : List ℕ) (marks : List Bool) (next : ℕ) → IsMarked first marks order
-    → ((a : ℕ) → has order a ≡ true → Leads first heap roots a)
-    → ((a : ℕ) → a ≢ 0 → has (currents first heap roots) a ≡ true → has order a ≡ true)
+    → ((address : ℕ) → has order address ≡ true → Leads first heap roots address)
+    → ((address : ℕ) → address ≢ 0 → has (currents first heap roots) address ≡ true → has order address ≡ true)
     → IsClosed first heap order next → length order ≤ next → IsWalk first heap roots order
-IsWalk-from first heap roots order marks next marked led rooted closed all = record {
+IsWalk-from first heap roots order marks next marked led rooted closed all_done = record {
   once = marked.once;
   led = led;
-  all = all_found first heap roots order rooted (λ j a h. closed j a (omega arith));
+  all = all_found first heap roots order rooted (λ index address among. closed index address (omega arith));
 }
 
 -- the current copies of what two lists of words name are those of what one of them names, and of what the other does
 currents-append : (first : ℕ) (heap xs words : List ℕ) → currents first heap (xs ++ words) ≡ currents first heap xs ++ currents first heap words
 currents-append first heap xs words = map-append (current_at first heap) xs words
 
-pub currents-left : (first : ℕ) (heap xs ys : List ℕ) (a : ℕ) → has (currents first heap xs) a ≡ true → has (currents first heap (xs ++ ys)) a ≡ true
-currents-left first heap xs ys a same =
-    ap (λ zs. has zs a) (currents-append first heap xs ys) ∙ has-left (currents first heap xs) (currents first heap ys) a same
+pub currents-left : (first : ℕ) (heap xs ys : List ℕ) (address : ℕ) → has (currents first heap xs) address ≡ true → has (currents first heap (xs ++ ys)) address ≡ true
+currents-left first heap xs ys address address_there =
+    ap (λ zs. has zs address) (currents-append first heap xs ys) ∙ has-left (currents first heap xs) (currents first heap ys) address address_there
 
-pub currents-right : (first : ℕ) (heap address words : List ℕ) (a : ℕ) → has (currents first heap words) a ≡ true → has (currents first heap (address ++ words)) a ≡ true
-currents-right first heap address words a same =
-    ap (λ zs. has zs a) (currents-append first heap address words) ∙ has-right (currents first heap address) (currents first heap words) a same
+pub currents-right : (first : ℕ) (heap front_words words : List ℕ) (asked : ℕ) → has (currents first heap words) asked ≡ true → has (currents first heap (front_words ++ words)) asked ≡ true
+currents-right first heap front_words words asked asked_there =
+    ap (λ zs. has zs asked) (currents-append first heap front_words words) ∙ has-right (currents first heap front_words) (currents first heap words) asked asked_there
 
 -- taking down those of one list and then those of the other takes down all
-pub taken_both : (first : ℕ) (heap order words other_words : List ℕ)
-    → with_addresses (with_addresses order (currents first heap words)) (currents first heap other_words) ≡ with_addresses order (currents first heap (words ++ other_words))
-taken_both first heap order words other_words =
-    sym (with_addresses-append order (currents first heap words) (currents first heap other_words))
-    ∙ ap (with_addresses order) (sym (currents-append first heap words other_words))
+pub taken_both : (first : ℕ) (heap order words later_words : List ℕ)
+    → with_addresses (with_addresses order (currents first heap words)) (currents first heap later_words) ≡ with_addresses order (currents first heap (words ++ later_words))
+taken_both first heap order words later_words =
+    sym (with_addresses-append order (currents first heap words) (currents first heap later_words))
+    ∙ ap (with_addresses order) (sym (currents-append first heap words later_words))

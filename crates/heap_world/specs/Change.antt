@@ -28,9 +28,9 @@ image_view config image = view config (replicate (image_start config) 0 ++ image
 abbrev pub Answers : Asking → Asking → Type 0
 Answers nothing nothing = Unit {0}
 Answers refused refused = Unit {0}
-Answers (given refs nums) (given more_refs more_nums) = (refs ≡ more_refs) × (nums ≡ more_nums)
+Answers (given refs nums) (given given_refs given_nums) = (refs ≡ given_refs) × (nums ≡ given_nums)
 Answers (asks refs nums) refused = Unit {0}
-Answers (asks refs nums) (given more_refs more_nums) = (refs ≡ more_refs) × (nums ≡ more_nums)
+Answers (asks refs nums) (given given_refs given_nums) = (refs ≡ given_refs) × (nums ≡ given_nums)
 Answers _ _ = ⊥
 
 -- the words of the object that was made for a mutator
@@ -41,9 +41,9 @@ words_given _ = 0
 -- Live objects that are not pinned and objects made for other mutators crowd the regions without a pinned object: were each of these short of
 -- so many words, so many would be in use there.
 abbrev pub IsCrowded : Config → Graph → (ℕ → Asking) → ℕ → ℕ → Type 0
-IsCrowded config graph asking t words =
+IsCrowded config graph asking mutator words =
     (names : List Name) × (held : ℕ) × (pinned : ℕ) × IsReach graph names × Held graph held × PinnedRegions config.region_words graph pinned
-    × ((config.regions - pinned) * (config.region_words - words + 1) ≤ sum_by (λ n. size (named graph (Some n))) names - held + sum_below (λ u. if u == t then 0 else words_given (asking u)) config.mutators)
+    × ((config.regions - pinned) * (config.region_words - words + 1) ≤ sum_by (λ name. size (named graph (Some name))) names - held + sum_below (λ other_mutator. if other_mutator == mutator then 0 else words_given (asking other_mutator)) config.mutators)
 
 -- What a pause owes whose words before it stand for a graph: those after it stand for the same graph, each mutator that asks is
 -- answered, and it is refused an object only where the heap is crowded.

@@ -37,7 +37,7 @@ pin_word = cell_word 4
 
 -- what the cells of the threads 1 to `threads` hold, so many each
 abbrev pub cell_rows : (cells : ℕ) → (ℕ → ℕ → Reference) → ℕ → List (List Reference)
-cell_rows cells held threads = map (λ t. map (held t) (range_with_len 0 cells)) (range_with_len 1 threads)
+cell_rows cells held threads = map (λ thread. map (held thread) (range_with_len 0 cells)) (range_with_len 1 threads)
 
 -- the roots of the threads, and what their pin slots hold
 abbrev pub root_rows : (ℕ → ℕ → Reference) → ℕ → List (List Reference)

@@ -65,12 +65,12 @@ pub record IsMarked (first : ℕ) (marks : List Bool) (order : List ℕ) : Type 
 
 -- the list with an address at its end, unless that is null or is there already
 abbrev pub with_address : List ℕ → ℕ → List ℕ
-with_address order a = if (a == 0) || has order a then order else order ++ a ∷ []
+with_address order address = if (address == 0) || has order address then order else order ++ address ∷ []
 
 -- the list with each of these addresses
 abbrev pub with_addresses : List ℕ → List ℕ → List ℕ
 with_addresses order [] = order
-with_addresses order (a ∷ others) = with_addresses (with_address order a) others
+with_addresses order (address ∷ others) = with_addresses (with_address order address) others
 
 -- the addresses that the roots lead to, each once
 pub record IsWalk (first : ℕ) (heap roots order : List ℕ) : Type 0 where

@@ -200,7 +200,7 @@ PinStands config cset evac block word (Some pinned) = (word ≡ pinned.place) ×
 
 -- so do the pin words of all mutators
 abbrev pub ArePinned : Config → (cset evac : ℕ) → Plot → (words : ℕ → ℕ → ℕ) → (pin : ℕ → ℕ → Option Pinned) → Type 0
-ArePinned config cset evac block words pin = (mutator i : ℕ) → mutator < config.mutators → i < 4 → PinStands config cset evac block (words mutator i) (pin (mutator + 1) i)
+ArePinned config cset evac block words pin = (mutator slot : ℕ) → mutator < config.mutators → slot < 4 → PinStands config cset evac block (words mutator slot) (pin (mutator + 1) slot)
 
 -- so many words from an address on lie in the part of a region that is in use
 pub record IsInUse (config : Config) (top : ℕ → ℕ) (address words : ℕ) : Type 0 where
@@ -384,11 +384,11 @@ pub data IsToScan (config : Config) (black : ℕ → ℕ) (scanning : ℕ → Op
 
 -- the reference that a field of the snapshot had
 abbrev pub was_at : Snapshot → ℕ → ℕ → ℕ
-was_at snapshot address k = snapshot.heap (address + 3 + k)
+was_at snapshot address field = snapshot.heap (address + 3 + field)
 
 -- marking needs that field no more: it was null, or its object is noted
 abbrev pub NeedsNoMarking : Snapshot → (ℕ → Type 0) → ℕ → ℕ → Type 0
-NeedsNoMarking snapshot Noted a k = (was_at snapshot a k ≡ 0) ⊎ Noted (was_at snapshot a k)
+NeedsNoMarking snapshot Noted address field = (was_at snapshot address field ≡ 0) ⊎ Noted (was_at snapshot address field)
 
 -- A reference of the snapshot is not lost: marking needs it no more, or the field still holds it and a scan has still to come to it.
 pub data IsTracedAt (config : Config) (snapshot : Snapshot) (heap black : ℕ → ℕ) (scanning : ℕ → Option Scan) (Noted : ℕ → Type 0) (address k : ℕ) : Type 0 where
@@ -469,7 +469,7 @@ pub record HaveMoved (config : Config) (cset : ℕ) (heap : ℕ → ℕ) (block 
 -- how many of so many seats copy
 unfoldable pub copiers : (ℕ → Bool) → ℕ → ℕ
 copiers copying zero = 0
-copiers copying (suc n) = copiers copying n + (if copying n then 1 else 0)
+copiers copying (suc seat) = copiers copying seat + (if copying seat then 1 else 0)
 
 -- the counter counts the seats that copy
 pub record IsCounted (config : Config) (evac : ℕ) (copying : ℕ → Bool) : Type 0 where
@@ -537,8 +537,8 @@ pub data IsCurrent (block : Plot) (word : ℕ) : Type 0 where
   names : (refs nums : ℕ) (name : Name) → block word ≡ Some (thing name refs nums) → IsCurrent block word
 
 -- a field comes where a machine stands in its unit of updating, or behind
-abbrev pub IsAhead : Scan → (a k : ℕ) → Type 0
-IsAhead at a k = (at.object < a) ⊎ ((at.object ≡ a) × (at.field ≤ k))
+abbrev pub IsAhead : Scan → (address field : ℕ) → Type 0
+IsAhead scan address field = (scan.object < address) ⊎ ((scan.object ≡ address) × (scan.field ≤ field))
 
 -- A field is still to be updated: its object lies below the limit of its region, and the region's unit is not claimed, or a machine is in
 -- the unit that has not come past the field.
@@ -593,4 +593,4 @@ NotedIn config world address = IsNoted config (λ number. world.memory (Grey num
 
 -- marking needs a field of the snapshot no more, if an object of it has that field
 abbrev pub IsCovered : Config → World → ℕ → ℕ → Type 0
-IsCovered config world address k = (refs nums : ℕ) (name : Name) → world.ghost.snapshot.block address ≡ Some (thing name refs nums) → k < refs → NeedsNoMarking world.ghost.snapshot (NotedIn config world) address k
+IsCovered config world address field = (refs nums : ℕ) (name : Name) → world.ghost.snapshot.block address ≡ Some (thing name refs nums) → field < refs → NeedsNoMarking world.ghost.snapshot (NotedIn config world) address field

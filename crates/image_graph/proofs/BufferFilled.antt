@@ -19,7 +19,7 @@ use Rattle.image_graph.proofs.StandsStill.{IsOfRoots, standing, stands_still}
 use Rattle.image_graph.proofs.Emptied.{fewer_outside, without_fewer}
 
 module _ (Asks : (Word → ℕ) → Plot → Type 0) (of_roots : IsOfRoots Asks) (config : Config) (memory : Word → ℕ) (graph : Graph) (asking : ℕ → Asking) (represents_with : RepresentsWith (Asks memory) config memory graph asking) (seat address words : ℕ)
-    (here : represents_with.block address ≡ Some (spare seat words)) where
+    (spare_there : represents_with.block address ≡ Some (spare seat words)) where
   abbrev tops : ℕ → ℕ
   tops region = memory (Top region)
 
@@ -37,24 +37,24 @@ module _ (Asks : (Word → ℕ) → Plot → Type 0) (of_roots : IsOfRoots Asks)
 
   -- it has a word at least
   some : 1 ≤ words
-  some = represents_with.shared.owned.rooms.spares address seat words here
+  some = represents_with.shared.owned.rooms.spares address seat words spare_there
 
   -- the new piece is the one
-  only_new : (x : ℕ) (piece : Block) → new x ≡ Some piece → (x ≡ address) × (filler words ≡ piece)
-  only_new x piece is = ⊎_elim (λ one. one) (λ (none : (x ≢ address) × (None ≡ Some piece)). absurd (none-some piece none.1)) (piece_cases (λ k. None) address (filler words) x piece is)
+  only_new : (place : ℕ) (piece : Block) → new place ≡ Some piece → (place ≡ address) × (filler words ≡ piece)
+  only_new place piece new_piece = ⊎_elim (λ only_there. only_there) (λ (elsewhere : (place ≢ address) × (None ≡ Some piece)). absurd (none-some piece elsewhere.1)) (piece_cases (λ k. None) address (filler words) place piece new_piece)
 
   -- the old piece is the one
-  only_old : (x : ℕ) (piece : Block) → address ≤ x → x < address + words → represents_with.block x ≡ Some piece → (x ≡ address) × (spare seat words ≡ piece)
-  only_old x piece at_most below is =
-      let long = some in
+  only_old : (place : ℕ) (piece : Block) → address ≤ place → place < address + words → represents_with.block place ≡ Some piece → (place ≡ address) × (spare seat words ≡ piece)
+  only_old place piece at_most below_end piece_there =
+      let some_words = some in
       ⊎_elim
-      (λ (same : x ≡ address). (same, same_Some (spare seat words) piece (sym here ∙ ap represents_with.block (sym same) ∙ is)))
-      (λ (other : x ≢ address). let far = represents_with.shared.parsable.plotted.apart address x (spare seat words) piece here is (omega (arith, at_most, other)) in absurd (omega (arith, far, below)))
-      (cases_eq x address)
+      (λ (same_place : place ≡ address). (same_place, same_Some (spare seat words) piece (sym spare_there ∙ ap represents_with.block (sym same_place) ∙ piece_there)))
+      (λ (place_differs : place ≢ address). let ends_before = represents_with.shared.parsable.plotted.apart address place (spare seat words) piece spare_there piece_there (omega (arith, at_most, place_differs)) in absurd (omega (arith, ends_before, below_end)))
+      (cases_eq place address)
 
   can : CanRecut config tops represents_with.block new seat address words
   can =
-      let used = represents_with.shared.parsable.plotted.in_use address (spare seat words) here in
+      let used = represents_with.shared.parsable.plotted.in_use address (spare seat words) spare_there in
       record {
         parsable = represents_with.shared.parsable;
         rooms = represents_with.shared.owned.rooms;
@@ -65,19 +65,19 @@ module _ (Asks : (Word → ℕ) → Plot → Type 0) (of_roots : IsOfRoots Asks)
           to_top = used.to_top;
           some = some;
           first = spare seat words;
-          begins = here;
+          begins = spare_there;
           last_at = address;
           last_from = omega arith;
           last = spare seat words;
-          ends = here;
+          ends = spare_there;
           ends_there = refl;
         };
         tiling = one_tile address (filler words) some;
-        olds = λ other_address piece from to is. ap room_of (sym (only_old other_address piece from to is).1);
-        loose = λ other_address piece is. ap is_loose (sym (only_new other_address piece is).1);
-        own = λ x other b is room. absurd (none-some other (ap room_of (only_new x b is).1 ∙ room));
-        hands = λ x other more is. absurd (let differ = (only_new x (hand other more) is).1 in cc);
-        carveds = λ x other more is. absurd (let differ = (only_new x (carved other more) is).1 in cc);
+        olds = λ other_address piece from before_end piece_there. ap room_of (sym (only_old other_address piece from before_end piece_there).1);
+        loose = λ other_address piece piece_there. ap is_loose (sym (only_new other_address piece piece_there).1);
+        own = λ old_address other_seat old_piece piece_there room. absurd (none-some other_seat (ap room_of (only_new old_address old_piece piece_there).1 ∙ room));
+        hands = λ old_address other_seat other_words piece_there. absurd (let differ = (only_new old_address (hand other_seat other_words) piece_there).1 in cc);
+        carveds = λ old_address other_seat other_words piece_there. absurd (let differ = (only_new old_address (carved other_seat other_words) piece_there).1 in cc);
       }
 
   -- the plot then
@@ -85,45 +85,45 @@ module _ (Asks : (Word → ℕ) → Plot → Type 0) (of_roots : IsOfRoots Asks)
   after = retiled represents_with.block new address words
 
   -- a piece that is no filler was there
-  was_there : (x : ℕ) (piece : Block) → (filler words ≡ piece → ⊥) → after x ≡ Some piece → (((x < address) ⊎ (address + words ≤ x)) × (represents_with.block x ≡ Some piece))
-  was_there x piece differs is = ⊎_elim
+  was_there : (place : ℕ) (piece : Block) → (filler words ≡ piece → ⊥) → after place ≡ Some piece → (((place < address) ⊎ (address + words ≤ place)) × (represents_with.block place ≡ Some piece))
+  was_there place piece differs piece_there = ⊎_elim
       (λ old. old)
-      (λ (now : (address ≤ x) × (x < address + words) × (new x ≡ Some piece)). absurd (differs (only_new x piece now.2).1))
-      (retiled_cases represents_with.block new address words x piece is)
+      (λ (new_inside : (address ≤ place) × (place < address + words) × (new place ≡ Some piece)). absurd (differs (only_new place piece new_inside.2).1))
+      (retiled_cases represents_with.block new address words place piece piece_there)
 
   -- words elsewhere stay
-  elsewhere : (x : ℕ) → (x < address) ⊎ (address + words ≤ x) → heap_filled x ≡ memory (Heap x)
-  elsewhere x away = (let long = some in updated_else (λ address. memory (Heap address)) address (filler_header words) x (omega (arith, away, long)))
+  elsewhere : (place : ℕ) → (place < address) ⊎ (address + words ≤ place) → heap_filled place ≡ memory (Heap place)
+  elsewhere place away = (let some_words = some in updated_else (λ address. memory (Heap address)) address (filler_header words) place (omega (arith, away, some_words)))
 
   -- the header of the new piece
-  header : (x more : ℕ) → new x ≡ Some (filler more) → heap_filled x ≡ filler_header more
-  header x more is =
-      let one = only_new x (filler more) is in
-      let long : words ≡ more = ap words_of one.1 in
-      ap heap_filled one.0 ∙ updated_there (λ address. memory (Heap address)) address (filler_header words) ∙ ap filler_header long
+  header : (place filler_words : ℕ) → new place ≡ Some (filler filler_words) → heap_filled place ≡ filler_header filler_words
+  header place filler_words filler_there =
+      let only_there = only_new place (filler filler_words) filler_there in
+      let same_words : words ≡ filler_words = ap words_of only_there.1 in
+      ap heap_filled only_there.0 ∙ updated_there (λ address. memory (Heap address)) address (filler_header words) ∙ ap filler_header same_words
 
   -- the seat's free words were these
   buffers : AreBuffers config tops buffers_without after
   buffers = buffers_again config tops represents_with.block new seat address words can (λ seat. memory (Current seat)) buffers_without
-      (λ other differs. updated_else (λ seat. memory (Current seat)) seat 0 other (λ same. differs (sym same)))
+      (λ other_seat differs. updated_else (λ seat. memory (Current seat)) seat 0 other_seat (λ same_seat. differs (sym same_seat)))
       (λ is_some. absurd (is_some (updated_there (λ seat. memory (Current seat)) seat 0)))
-      (λ x more is. absurd (
-      let old = was_there x (spare seat more) (λ differ. cc) is in
-      let was = represents_with.shared.owned.buffers.spares x seat more old.1 in
-      let own = represents_with.shared.owned.buffers.spares address seat words here in
-      let long = some in
+      (λ old_address other_words piece_there. absurd (
+      let old = was_there old_address (spare seat other_words) (λ differ. cc) piece_there in
+      let old_buffer = represents_with.shared.owned.buffers.spares old_address seat other_words old.1 in
+      let seat_buffer = represents_with.shared.owned.buffers.spares address seat words spare_there in
+      let some_words = some in
       let away = old.0 in
-      let one = was.0 in
-      let two = own.0 in
-      omega (arith, away, one, two, long)
+      let old_next = old_buffer.0 in
+      let seat_next = seat_buffer.0 in
+      omega (arith, away, old_next, seat_next, some_words)
       ))
       represents_with.shared.owned.buffers
 
   -- The words represent the graph still.
   pub filled_stands : RepresentsWith (Asks (refitted memory tops heap_filled buffers_without)) config (refitted memory tops heap_filled buffers_without) graph asking
   filled_stands = stands_still Asks of_roots config memory graph asking represents_with tops heap_filled buffers_without after (same_but_loose config tops represents_with.block new seat address words can)
-      (λ x other more is. (was_there x (hand other more) (λ differ. cc) is).1)
-      (λ x other more is. (was_there x (carved other more) (λ differ. cc) is).1)
-      (λ x k other more is below. fixed_stay config (standing Asks of_roots config memory graph asking represents_with) new seat address words represents_with.shared can heap_filled elsewhere x k (promised other more) refl is below)
+      (λ old_address other_seat other_words piece_there. (was_there old_address (hand other_seat other_words) (λ differ. cc) piece_there).1)
+      (λ old_address other_seat other_words piece_there. (was_there old_address (carved other_seat other_words) (λ differ. cc) piece_there).1)
+      (λ old_address offset other_seat other_words piece_there offset_below. fixed_stay config (standing Asks of_roots config memory graph asking represents_with) new seat address words represents_with.shared can heap_filled elsewhere old_address offset (promised other_seat other_words) refl piece_there offset_below)
       (shared_recut config (standing Asks of_roots config memory graph asking represents_with) new seat address words represents_with.shared can heap_filled elsewhere buffers_without header buffers
       (fewer_outside config (memory Cset) (λ seat. memory (Current seat)) buffers_without (without_fewer (λ seat. memory (Current seat)) seat) represents_with.shared.owned.outside))

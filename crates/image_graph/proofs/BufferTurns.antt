@@ -18,36 +18,36 @@ use Rattle.image_graph.proofs.LettingGo as letting
 
 -- a table has no more seats than the heap
 pub no_more_seats : (config : Config) (words : List ℕ) → HasNoMoreSeats config (view config words)
-no_more_seats config words seat past = view_none config words (Current seat) (grind (arith, nat_tests))
+no_more_seats config words seat seat_past = view_none config words (Current seat) (grind (arith, nat_tests))
 
 module _ (config : Config) (memory : Word → ℕ) where
   -- What a turn makes: nothing, where the seat has no buffer, or settling finds that it ends at the top; and else the word is 0.
   pub settled_none : (seat : ℕ) → memory (Current seat) ≡ 0 → memory ≡ settled_at config memory seat
-  settled_none seat none =
+  settled_none seat no_buffer =
       sym (cond-true ((memory (Current seat) == 0) || is_last config memory (memory (Current seat))) memory (write (filled_over memory (memory (Current seat))) (Current seat) 0)
-      (ap (λ b. b || is_last config memory (memory (Current seat))) (eq-eqb (memory (Current seat)) 0 none)))
+      (ap (λ is_null. is_null || is_last config memory (memory (Current seat))) (eq-eqb (memory (Current seat)) 0 no_buffer)))
 
   pub settled_stays : (seat : ℕ) → memory (Current seat) ≢ 0 → is_last config memory (memory (Current seat)) ≡ true → memory ≡ settled_at config memory seat
-  settled_stays seat positive last =
+  settled_stays seat positive buffer_last =
       sym (cond-true ((memory (Current seat) == 0) || is_last config memory (memory (Current seat))) memory (write (filled_over memory (memory (Current seat))) (Current seat) 0)
-      (ap (λ b. b || is_last config memory (memory (Current seat))) (ne_eqb (memory (Current seat)) 0 positive) ∙ last))
+      (ap (λ is_null. is_null || is_last config memory (memory (Current seat))) (ne_eqb (memory (Current seat)) 0 positive) ∙ buffer_last))
 
   pub settled_gone : (seat : ℕ) → memory (Current seat) ≢ 0 → is_last config memory (memory (Current seat)) ≡ false
       → write (filled_over memory (memory (Current seat))) (Current seat) 0 ≡ settled_at config memory seat
   settled_gone seat positive inner =
       sym (cond-false ((memory (Current seat) == 0) || is_last config memory (memory (Current seat))) memory (write (filled_over memory (memory (Current seat))) (Current seat) 0)
-      (ap (λ b. b || is_last config memory (memory (Current seat))) (ne_eqb (memory (Current seat)) 0 positive) ∙ inner))
+      (ap (λ is_null. is_null || is_last config memory (memory (Current seat))) (ne_eqb (memory (Current seat)) 0 positive) ∙ inner))
 
   abbrev without : ℕ → Word → ℕ
   without seat = write (if is_last config memory (memory (Current seat)) then given_back config memory (memory (Current seat)) else filled_over memory (memory (Current seat))) (Current seat) 0
 
   pub let_go_none : (seat : ℕ) → memory (Current seat) ≡ 0 → memory ≡ let_go_at config memory seat
-  let_go_none seat none = sym (cond-true (memory (Current seat) == 0) memory (without seat) (eq-eqb (memory (Current seat)) 0 none))
+  let_go_none seat no_buffer = sym (cond-true (memory (Current seat) == 0) memory (without seat) (eq-eqb (memory (Current seat)) 0 no_buffer))
 
   pub let_go_back : (seat : ℕ) → memory (Current seat) ≢ 0 → is_last config memory (memory (Current seat)) ≡ true
       → write (given_back config memory (memory (Current seat))) (Current seat) 0 ≡ let_go_at config memory seat
-  let_go_back seat positive last =
-      sym (ap (λ (memory : Word → ℕ). write memory (Current seat) 0) (cond-true (is_last config memory (memory (Current seat))) (given_back config memory (memory (Current seat))) (filled_over memory (memory (Current seat))) last))
+  let_go_back seat positive buffer_last =
+      sym (ap (λ (memory : Word → ℕ). write memory (Current seat) 0) (cond-true (is_last config memory (memory (Current seat))) (given_back config memory (memory (Current seat))) (filled_over memory (memory (Current seat))) buffer_last))
       ∙ sym (cond-false (memory (Current seat) == 0) memory (without seat) (ne_eqb (memory (Current seat)) 0 positive))
 
   pub let_go_filled : (seat : ℕ) → memory (Current seat) ≢ 0 → is_last config memory (memory (Current seat)) ≡ false
@@ -63,7 +63,7 @@ module _ (config : Config) (memory : Word → ℕ) where
 
   pub settled_next : (seat : ℕ) → settled_at config (settled_below config memory seat) seat ≡ settled_below config memory (seat + 1)
   unfolding settled_below
-  settled_next seat = let one : suc seat ≡ seat + 1 = omega arith in ap (settled_below config memory) one
+  settled_next seat = let next_seat : suc seat ≡ seat + 1 = omega arith in ap (settled_below config memory) next_seat
 
   pub let_go_first : memory ≡ let_go_below config memory 0
   unfolding let_go_below
@@ -71,20 +71,20 @@ module _ (config : Config) (memory : Word → ℕ) where
 
   pub let_go_next : (seat : ℕ) → let_go_at config (let_go_below config memory seat) seat ≡ let_go_below config memory (seat + 1)
   unfolding let_go_below
-  let_go_next seat = let one : suc seat ≡ seat + 1 = omega arith in ap (let_go_below config memory) one
+  let_go_next seat = let next_seat : suc seat ≡ seat + 1 = omega arith in ap (let_go_below config memory) next_seat
 
   -- who had no turn yet has the buffer of before
-  pub settled_later : (n seat : ℕ) → n ≤ seat → settled_below config memory n (Current seat) ≡ memory (Current seat)
+  pub settled_later : (turns seat : ℕ) → turns ≤ seat → settled_below config memory turns (Current seat) ≡ memory (Current seat)
   unfolding settled_below
   settled_later zero seat later = refl
-  settled_later (suc n) seat later =
-      settling.turn_other config (settled_below config memory n) n seat (λ same. omega (arith, same, later)) ∙ settled_later n seat (omega (arith, later))
+  settled_later (suc turns) seat later =
+      settling.turn_other config (settled_below config memory turns) turns seat (λ same_seat. omega (arith, same_seat, later)) ∙ settled_later turns seat (omega (arith, later))
 
-  pub let_go_later : (n seat : ℕ) → n ≤ seat → let_go_below config memory n (Current seat) ≡ memory (Current seat)
+  pub let_go_later : (turns seat : ℕ) → turns ≤ seat → let_go_below config memory turns (Current seat) ≡ memory (Current seat)
   unfolding let_go_below
   let_go_later zero seat later = refl
-  let_go_later (suc n) seat later =
-      letting.turn_other config (let_go_below config memory n) n seat (λ same. omega (arith, same, later)) ∙ let_go_later n seat (omega (arith, later))
+  let_go_later (suc turns) seat later =
+      letting.turn_other config (let_go_below config memory turns) turns seat (λ same_seat. omega (arith, same_seat, later)) ∙ let_go_later turns seat (omega (arith, later))
 
   -- the edge that seats leave
   pub edge_first : (region : ℕ) → memory (Top region) ≡ edge_below config memory region 0
@@ -95,4 +95,4 @@ module _ (config : Config) (memory : Word → ℕ) where
       → (if is_last_in config memory region seat && nat_lt (next_in (memory (Current seat)) - base_of config region) (edge_below config memory region seat) then next_in (memory (Current seat)) - base_of config region else edge_below config memory region seat)
       ≡ edge_below config memory region (seat + 1)
   unfolding edge_below
-  edge_next region seat = let one : suc seat ≡ seat + 1 = omega arith in ap (edge_below config memory region) one
+  edge_next region seat = let next_seat : suc seat ≡ seat + 1 = omega arith in ap (edge_below config memory region) next_seat

@@ -27,38 +27,38 @@ module _ (Asks : (Word → ℕ) → Plot → Type 0) (of_roots : IsOfRoots Asks)
   abbrev Stand : (Word → ℕ) → Type 0
   Stand memory = RepresentsWith (Asks memory) config memory graph asking
 
-  module _ (memory : Word → ℕ) (r : Stand memory) (seat word : ℕ) (is : memory (Current seat) ≡ word) (some : word ≢ 0) where
-    its : IsBuffer config (tops_of memory) r.block seat word
-    its = subst (IsBuffer config (tops_of memory) r.block seat) is (r.shared.owned.buffers.each seat (λ none. some (sym is ∙ none)))
+  module _ (memory : Word → ℕ) (stand : Stand memory) (seat word : ℕ) (current_word : memory (Current seat) ≡ word) (some_word : word ≢ 0) where
+    its : IsBuffer config (tops_of memory) stand.block seat word
+    its = subst (IsBuffer config (tops_of memory) stand.block seat) current_word (stand.shared.owned.buffers.each seat (λ no_word. some_word (sym current_word ∙ no_word)))
 
     lies : IsInside config word
-    lies = buffer_inside config (tops_of memory) r.block seat word its (r.shared.parsable.plotted.tops its.region its.within)
+    lies = buffer_inside config (tops_of memory) stand.block seat word its (stand.shared.parsable.plotted.tops its.region its.within)
 
     -- its free words are a piece
-    free_piece : next_in word < end_in word → r.block (next_in word) ≡ Some (spare seat (end_in word - next_in word))
-    free_piece below = ⊎_elim (λ there. there) (λ has. absurd (r.uncarved has.0 seat has.1 has.2)) (its.free below)
+    free_piece : next_in word < end_in word → stand.block (next_in word) ≡ Some (spare seat (end_in word - next_in word))
+    free_piece some_free = ⊎_elim (λ piece_there. piece_there) (λ is_carved. absurd (stand.uncarved is_carved.0 seat is_carved.1 is_carved.2)) (its.free some_free)
 
   keeps_filling : KeepsFilling config Stand
   keeps_filling = record {
-    drops = λ memory r. rebuffered Asks of_roots config memory graph asking r;
-    fills = λ memory r seat word is some more other. filled_stands Asks of_roots config memory graph asking r seat (next_in word) (end_in word - next_in word) (free_piece memory r seat word is some more);
+    drops = λ memory represents. rebuffered Asks of_roots config memory graph asking represents;
+    fills = λ memory represents seat word current_word some_word some_free not_last. filled_stands Asks of_roots config memory graph asking represents seat (next_in word) (end_in word - next_in word) (free_piece memory represents seat word current_word some_word some_free);
   }
 
   keeps_turns : KeepsTurns config Stand
   keeps_turns = record {
     filling = keeps_filling;
     lies = lies;
-    gives = λ memory r seat word is some more last full.
-        let end : end_in word ≡ base_of config (buffer_region config word) + memory (Top (buffer_region config word)) = eqb-true (end_in word) (base_of config (buffer_region config word) + memory (Top (buffer_region config word))) last in
-        back_stands Asks of_roots config memory graph asking r seat (next_in word) (end_in word - next_in word) (buffer_region config word) (free_piece memory r seat word is some more)
-        (lies memory r seat word is some).region (lies memory r seat word is some).from_base (omega (arith, more, end)) full;
+    gives = λ memory represents seat word current_word some_word some_free buffer_last full.
+        let end : end_in word ≡ base_of config (buffer_region config word) + memory (Top (buffer_region config word)) = eqb-true (end_in word) (base_of config (buffer_region config word) + memory (Top (buffer_region config word))) buffer_last in
+        back_stands Asks of_roots config memory graph asking represents seat (next_in word) (end_in word - next_in word) (buffer_region config word) (free_piece memory represents seat word current_word some_word some_free)
+        (lies memory represents seat word current_word some_word).region (lies memory represents seat word current_word some_word).from_base (omega (arith, some_free, end)) full;
   }
 
   pub settled_stands : (memory : Word → ℕ) → Stand memory → Stand (buffers_settled config memory)
-  settled_stands memory r = settled_by_turns config Stand keeps_filling memory r (seat_count config.mutators config.helpers)
+  settled_stands memory stand = settled_by_turns config Stand keeps_filling memory stand (seat_count config.mutators config.helpers)
 
   pub let_go_stands : (memory : Word → ℕ) → ((seat : ℕ) → seat_count config.mutators config.helpers ≤ seat → memory (Current seat) ≡ 0) → Stand memory → Stand (let_go config memory)
-  let_go_stands memory beyond = let_go_by_turns config Stand keeps_turns memory beyond
+  let_go_stands memory none_beyond = let_go_by_turns config Stand keeps_turns memory none_beyond
 
   pub let_go_trims : (memory : Word → ℕ) → Stand memory → Stand (trim (let_go config memory))
-  let_go_trims memory r = trimmed_by_turns config Stand keeps_turns memory r
+  let_go_trims memory stand = trimmed_by_turns config Stand keeps_turns memory stand

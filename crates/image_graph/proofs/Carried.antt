@@ -24,15 +24,15 @@ use Rattle.image_graph.specs.Holds.{HasMoved, HoldsBy}
 
 -- the current copy goes by the header
 pub now_same : (memory other_memory : Word → ℕ) (address : ℕ) → memory (Heap address) ≡ other_memory (Heap address) → now_in memory address ≡ now_in other_memory address
-now_same memory other_memory address same = ap (λ header. if is_forwarded header then forwardee_in header else address) same
+now_same memory other_memory address same_word = ap (λ header. if is_forwarded header then forwardee_in header else address) same_word
 
 -- A word is as it was, or names the current copy of what it named; null, and an answer that is no address, stay.
 pub record IsRenamed (memory : Word → ℕ) (v w : ℕ) : Type 0 where
   pub small : v ≤ 1 → w ≡ v
   pub either : (w ≡ v) ⊎ (w ≡ now_in memory v)
 
-pub not_renamed : (memory : Word → ℕ) (v w : ℕ) → w ≡ v → IsRenamed memory v w
-not_renamed memory v w same = record { small = λ low. same; either = inl same }
+pub not_renamed : (memory : Word → ℕ) (old_word new_word : ℕ) → new_word ≡ old_word → IsRenamed memory old_word new_word
+not_renamed memory old_word new_word same_word = record { small = λ low. same_word; either = inl same_word }
 
 -- An object at an address comes from one at its origin, has that one's words, and fields that name the same; and so do roots and
 -- answers. Of two addresses with one origin one at most is a current copy. Pin words stay, and what they hold does not move.
@@ -56,8 +56,8 @@ pub record IsCarried (config : Config) (memory other_memory : Word → ℕ) (blo
       → is_forwarded (other_memory (Heap (memory (Pin mutator index)))) ≡ false
   pub waits : (mutator : ℕ) → other_memory (Wait mutator) ≡ memory (Wait mutator)
 
-module _ (config : Config) (memory other_memory : Word → ℕ) (block plot : Plot) (owner : ℕ → Option ℕ) (promises : Promises) (graph : Graph) (holds : HoldsBy config memory block owner promises graph)
-    (origin : ℕ → ℕ) (Lands : ℕ → Type 0) (is : IsCarried config memory other_memory block plot origin Lands) where
+module _ (config : Config) (memory carried_memory : Word → ℕ) (block plot : Plot) (owner : ℕ → Option ℕ) (promises : Promises) (graph : Graph) (holds : HoldsBy config memory block owner promises graph)
+    (origin : ℕ → ℕ) (Lands : ℕ → Type 0) (carried : IsCarried config memory carried_memory block plot origin Lands) where
   abbrev top : ℕ → ℕ
   top region = memory (Top region)
 
@@ -65,7 +65,7 @@ module _ (config : Config) (memory other_memory : Word → ℕ) (block plot : Pl
   heap address = memory (Heap address)
 
   abbrev after : ℕ → ℕ
-  after address = other_memory (Heap address)
+  after address = carried_memory (Heap address)
 
   abbrev more : Graph
   more = with_promised graph promises
@@ -74,33 +74,33 @@ module _ (config : Config) (memory other_memory : Word → ℕ) (block plot : Pl
   IsLedWas = IsLedTo (now_in memory) heap (IsAmong (held_words config memory))
 
   abbrev IsLedNow : ℕ → Type 0
-  IsLedNow = IsLedTo (now_in other_memory) after (IsAmong (held_words config other_memory))
+  IsLedNow = IsLedTo (now_in carried_memory) after (IsAmong (held_words config carried_memory))
 
   -- a current copy is its own
   now_own : (address : ℕ) (name : Name) → name_at (block address) ≡ Some name → now_in memory (now_in memory address) ≡ now_in memory address
   now_own address name named = ⊎_elim
       (λ (moved : is_forwarded (heap address) ≡ true).
       let piece = holds.pieces.named address name named in
-      let was = holds.moved address piece.0 piece.1 name piece.2 moved in
-      cond-false (is_forwarded (heap (now_in memory address))) (forwardee_in (heap (now_in memory address))) (now_in memory address) was.current)
+      let has_moved = holds.moved address piece.0 piece.1 name piece.2 moved in
+      cond-false (is_forwarded (heap (now_in memory address))) (forwardee_in (heap (now_in memory address))) (now_in memory address) has_moved.current)
       (λ (plain : is_forwarded (heap address) ≡ false). ap (now_in memory) (cond-false (is_forwarded (heap address)) (forwardee_in (heap address)) address plain))
       (cases_Bool (is_forwarded (heap address)))
 
   -- what a word names it names once it is renamed
-  renamed_names : (address other_address : ℕ) (name : Name) → IsRenamed memory address other_address → name_at (block address) ≡ Some name → (name_at (block other_address) ≡ Some name) × (now_in memory other_address ≡ now_in memory address)
-  renamed_names address other_address name renamed named = ⊎_elim
-      (λ (same : other_address ≡ address). (ap (λ address. name_at (block address)) same ∙ named, ap (now_in memory) same))
-      (λ (now : other_address ≡ now_in memory address).
+  renamed_names : (address renamed_address : ℕ) (name : Name) → IsRenamed memory address renamed_address → name_at (block address) ≡ Some name → (name_at (block renamed_address) ≡ Some name) × (now_in memory renamed_address ≡ now_in memory address)
+  renamed_names address renamed_address name renamed named = ⊎_elim
+      (λ (same_address : renamed_address ≡ address). (ap (λ address. name_at (block address)) same_address ∙ named, ap (now_in memory) same_address))
+      (λ (is_copy : renamed_address ≡ now_in memory address).
       let copy = holds.objects.current address name named in
-      (ap (λ address. name_at (block address)) now ∙ ap name_at copy.2, ap (now_in memory) now ∙ now_own address name named))
+      (ap (λ address. name_at (block address)) is_copy ∙ ap name_at copy.2, ap (now_in memory) is_copy ∙ now_own address name named))
       renamed.either
 
-  points_again : (address other_address : ℕ) (reference : Reference) → IsRenamed memory address other_address → Points block address reference → Points plot other_address reference
-  points_again address other_address None renamed points = renamed.small (omega (arith, points)) ∙ points
-  points_again address other_address (Some name) renamed points = is.names other_address name (renamed_names address other_address name renamed points).0
+  points_again : (address renamed_address : ℕ) (reference : Reference) → IsRenamed memory address renamed_address → Points block address reference → Points plot renamed_address reference
+  points_again address renamed_address None renamed points = renamed.small (omega (arith, points)) ∙ points
+  points_again address renamed_address (Some name) renamed points = carried.names renamed_address name (renamed_names address renamed_address name renamed points).0
 
-  not_null : (v w : ℕ) → IsRenamed memory v w → w ≢ 0 → v ≢ 0
-  not_null v w renamed positive none = positive (renamed.small (omega (arith, none)) ∙ none)
+  not_null : (old_word new_word : ℕ) → IsRenamed memory old_word new_word → new_word ≢ 0 → old_word ≢ 0
+  not_null old_word new_word renamed positive no_word = positive (renamed.small (omega (arith, no_word)) ∙ no_word)
 
   -- an object that is led to, and that comes from one that was
   pub record ComesFrom (address : ℕ) : Type 0 where
@@ -111,148 +111,148 @@ module _ (config : Config) (memory other_memory : Word → ℕ) (block plot : Pl
     pub there : Lands address
     pub led : IsLedWas (origin address)
 
-  comes : (address other_address : ℕ) (name : Name) → IsRenamed memory address other_address → name_at (block address) ≡ Some name → IsLedWas (now_in memory address) → ComesFrom (now_in other_memory other_address)
-  comes address other_address name renamed named led =
-      let to = renamed_names address other_address name renamed named in
-      let copy = is.current other_address name (is.names other_address name to.0) in
+  comes : (address renamed_address : ℕ) (name : Name) → IsRenamed memory address renamed_address → name_at (block address) ≡ Some name → IsLedWas (now_in memory address) → ComesFrom (now_in carried_memory renamed_address)
+  comes address renamed_address name renamed named led =
+      let target_named = renamed_names address renamed_address name renamed named in
+      let copy = carried.current renamed_address name (carried.names renamed_address name target_named.0) in
       record {
         name = name;
         refs = copy.0;
         nums = copy.1;
         here = copy.2;
-        there = is.lands other_address name to.0;
-        led = subst IsLedWas (sym (is.now other_address name to.0 ∙ to.1)) led;
+        there = carried.lands renamed_address name target_named.0;
+        led = subst IsLedWas (sym (carried.now renamed_address name target_named.0 ∙ target_named.1)) led;
       }
 
-  root_comes : (mutator index : ℕ) → mutator < config.mutators → index < 16 → other_memory (Root mutator index) ≢ 0 → ComesFrom (now_in other_memory (other_memory (Root mutator index)))
-  root_comes mutator index inside below positive =
-      let renamed = is.roots mutator index inside below in
-      let other = not_null (memory (Root mutator index)) (other_memory (Root mutator index)) renamed positive in
-      let to = named_if_not_0 config top block holds.objects.plotted (memory (Root mutator index)) (graph.root (mutator + 1) index) (holds.rooted.roots mutator index inside below) other in
-      comes (memory (Root mutator index)) (other_memory (Root mutator index)) to.0 renamed to.2
-      (from_root (memory (Root mutator index)) (root_among config top memory block graph promises holds.objects.plotted holds.rooted mutator index inside below) other)
+  root_comes : (mutator index : ℕ) → mutator < config.mutators → index < 16 → carried_memory (Root mutator index) ≢ 0 → ComesFrom (now_in carried_memory (carried_memory (Root mutator index)))
+  root_comes mutator index inside index_low positive =
+      let renamed = carried.roots mutator index inside index_low in
+      let old_some = not_null (memory (Root mutator index)) (carried_memory (Root mutator index)) renamed positive in
+      let target_named = named_if_not_0 config top block holds.objects.plotted (memory (Root mutator index)) (graph.root (mutator + 1) index) (holds.rooted.roots mutator index inside index_low) old_some in
+      comes (memory (Root mutator index)) (carried_memory (Root mutator index)) target_named.0 renamed target_named.2
+      (from_root (memory (Root mutator index)) (root_among config top memory block graph promises holds.objects.plotted holds.rooted mutator index inside index_low) old_some)
 
-  answer_comes : (mutator : ℕ) → mutator < config.mutators → 1 < other_memory (Answer mutator) → ComesFrom (now_in other_memory (other_memory (Answer mutator)))
-  answer_comes mutator inside below = ⊎_elim
+  answer_comes : (mutator : ℕ) → mutator < config.mutators → 1 < carried_memory (Answer mutator) → ComesFrom (now_in carried_memory (carried_memory (Answer mutator)))
+  answer_comes mutator inside answer_big = ⊎_elim
       (λ (big : 1 < memory (Answer mutator)).
-      let renamed = is.answers mutator inside in
-      let to = answer_names config top memory block graph promises holds.objects.plotted holds.rooted (memory (Answer mutator)) (promises.ref (mutator + 1)) big (holds.rooted.answers mutator inside) in
-      comes (memory (Answer mutator)) (other_memory (Answer mutator)) to.0 renamed to.2
-      (from_root (memory (Answer mutator)) (answer_among config top memory block graph promises holds.objects.plotted holds.rooted mutator inside big) (λ none. omega (arith, none, big))))
-      (λ (low : memory (Answer mutator) ≤ 1). absurd (let same = (is.answers mutator inside).small low in omega (arith, same, low, below)))
+      let renamed = carried.answers mutator inside in
+      let target_named = answer_names config top memory block graph promises holds.objects.plotted holds.rooted (memory (Answer mutator)) (promises.ref (mutator + 1)) big (holds.rooted.answers mutator inside) in
+      comes (memory (Answer mutator)) (carried_memory (Answer mutator)) target_named.0 renamed target_named.2
+      (from_root (memory (Answer mutator)) (answer_among config top memory block graph promises holds.objects.plotted holds.rooted mutator inside big) (λ no_word. omega (arith, no_word, big))))
+      (λ (low : memory (Answer mutator) ≤ 1). absurd (let same_answer = (carried.answers mutator inside).small low in omega (arith, same_answer, low, answer_big)))
       (cases_lt 1 (memory (Answer mutator)))
 
   -- what a pin slot holds has a name
   pin_named : (mutator index : ℕ) → mutator < config.mutators → index < 4 → memory (Pin mutator index) ≢ 0 → (name : Name) × (name_at (block (memory (Pin mutator index))) ≡ Some name)
-  pin_named mutator index inside below positive =
-      let stands = holds.rooted.pins mutator index inside below in
-      let held = pin_some memory block (memory (Pin mutator index)) (graph.pin (mutator + 1) index) stands positive in
-      let copy = (pin_copy memory block (memory (Pin mutator index)) (graph.pin (mutator + 1) index) held.0 stands held.1).1 in
-      (held.0.name, ap name_at copy.2)
+  pin_named mutator index inside index_low positive =
+      let stands = holds.rooted.pins mutator index inside index_low in
+      let slot_held = pin_some memory block (memory (Pin mutator index)) (graph.pin (mutator + 1) index) stands positive in
+      let copy = (pin_copy memory block (memory (Pin mutator index)) (graph.pin (mutator + 1) index) slot_held.0 stands slot_held.1).1 in
+      (slot_held.0.name, ap name_at copy.2)
 
-  pin_comes : (mutator index : ℕ) → mutator < config.mutators → index < 4 → other_memory (Pin mutator index) ≢ 0 → ComesFrom (now_in other_memory (other_memory (Pin mutator index)))
-  pin_comes mutator index inside below positive =
-      let same = is.pins mutator index inside below in
-      let other : memory (Pin mutator index) ≢ 0 = λ none. positive (same ∙ none) in
-      let to = pin_named mutator index inside below other in
-      comes (memory (Pin mutator index)) (other_memory (Pin mutator index)) to.0 (not_renamed memory (memory (Pin mutator index)) (other_memory (Pin mutator index)) same) to.1
-      (from_root (memory (Pin mutator index)) (pin_among config top memory block graph promises holds.objects.plotted holds.rooted mutator index inside below) other)
+  pin_comes : (mutator index : ℕ) → mutator < config.mutators → index < 4 → carried_memory (Pin mutator index) ≢ 0 → ComesFrom (now_in carried_memory (carried_memory (Pin mutator index)))
+  pin_comes mutator index inside index_low positive =
+      let same_pin = carried.pins mutator index inside index_low in
+      let old_some : memory (Pin mutator index) ≢ 0 = λ no_word. positive (same_pin ∙ no_word) in
+      let target_named = pin_named mutator index inside index_low old_some in
+      comes (memory (Pin mutator index)) (carried_memory (Pin mutator index)) target_named.0 (not_renamed memory (memory (Pin mutator index)) (carried_memory (Pin mutator index)) same_pin) target_named.1
+      (from_root (memory (Pin mutator index)) (pin_among config top memory block graph promises holds.objects.plotted holds.rooted mutator index inside index_low) old_some)
 
-  named_comes : (w : ℕ) → IsAmong (root_words config other_memory) w → w ≢ 0 → ComesFrom (now_in other_memory w)
-  named_comes w among positive = ⊎_elim
-      (λ (root : has (roots_below other_memory config.mutators) w ≡ true).
-      let at = root_in other_memory config.mutators w root in
-      subst (λ k. ComesFrom (now_in other_memory k)) at.4 (root_comes at.0 at.1 at.2 at.3 (λ none. positive (sym at.4 ∙ none))))
-      (λ (answer : has (answers_below other_memory config.mutators) w ≡ true).
-      let at = answer_in other_memory config.mutators w answer in
-      subst (λ k. ComesFrom (now_in other_memory k)) at.3 (answer_comes at.0 at.1 at.2))
-      (has_either (roots_below other_memory config.mutators) (answers_below other_memory config.mutators) w among)
+  named_comes : (word : ℕ) → IsAmong (root_words config carried_memory) word → word ≢ 0 → ComesFrom (now_in carried_memory word)
+  named_comes word among positive = ⊎_elim
+      (λ (root : has (roots_below carried_memory config.mutators) word ≡ true).
+      let word_found = root_in carried_memory config.mutators word root in
+      subst (λ found_word. ComesFrom (now_in carried_memory found_word)) word_found.4 (root_comes word_found.0 word_found.1 word_found.2 word_found.3 (λ no_word. positive (sym word_found.4 ∙ no_word))))
+      (λ (answer : has (answers_below carried_memory config.mutators) word ≡ true).
+      let word_found = answer_in carried_memory config.mutators word answer in
+      subst (λ found_word. ComesFrom (now_in carried_memory found_word)) word_found.3 (answer_comes word_found.0 word_found.1 word_found.2))
+      (has_either (roots_below carried_memory config.mutators) (answers_below carried_memory config.mutators) word among)
 
-  word_comes : (w : ℕ) → IsAmong (held_words config other_memory) w → w ≢ 0 → ComesFrom (now_in other_memory w)
-  word_comes w among positive = ⊎_elim
-      (λ (named : has (root_words config other_memory) w ≡ true). named_comes w named positive)
-      (λ (pin : has (pins_below other_memory config.mutators) w ≡ true).
-      let at = pin_in other_memory config.mutators w pin in
-      subst (λ k. ComesFrom (now_in other_memory k)) at.4 (pin_comes at.0 at.1 at.2 at.3 (λ none. positive (sym at.4 ∙ none))))
-      (has_either (root_words config other_memory) (pins_below other_memory config.mutators) w among)
+  word_comes : (word : ℕ) → IsAmong (held_words config carried_memory) word → word ≢ 0 → ComesFrom (now_in carried_memory word)
+  word_comes word among positive = ⊎_elim
+      (λ (named : has (root_words config carried_memory) word ≡ true). named_comes word named positive)
+      (λ (pin : has (pins_below carried_memory config.mutators) word ≡ true).
+      let word_found = pin_in carried_memory config.mutators word pin in
+      subst (λ found_word. ComesFrom (now_in carried_memory found_word)) word_found.4 (pin_comes word_found.0 word_found.1 word_found.2 word_found.3 (λ no_word. positive (sym word_found.4 ∙ no_word))))
+      (has_either (root_words config carried_memory) (pins_below carried_memory config.mutators) word among)
 
   -- how many references an object has
   reads : (address refs nums : ℕ) (name : Name) → IsLedWas (origin address) → plot address ≡ Some (thing name refs nums) → refs_in (heap (origin address + 1)) ≡ refs
-  reads address refs nums name led here =
-      let object = holds.objects.each (origin address) refs nums name led (is.pieces address refs nums name here) in
+  reads address refs nums name led thing_there =
+      let object = holds.objects.each (origin address) refs nums name led (carried.pieces address refs nums name thing_there) in
       ap refs_in object.2.shape ∙ refs_read refs nums object.2.few_refs object.2.few_nums
 
-  field_comes : (address i : ℕ) → ComesFrom address → i < refs_in (after (address + 1)) → after (address + 3 + i) ≢ 0 → ComesFrom (now_in other_memory (after (address + 3 + i)))
-  field_comes address i from few positive =
-      let object = holds.objects.each (origin address) from.refs from.nums from.name from.led (is.pieces address from.refs from.nums from.name from.here) in
+  field_comes : (address index : ℕ) → ComesFrom address → index < refs_in (after (address + 1)) → after (address + 3 + index) ≢ 0 → ComesFrom (now_in carried_memory (after (address + 3 + index)))
+  field_comes address index from few positive =
+      let object = holds.objects.each (origin address) from.refs from.nums from.name from.led (carried.pieces address from.refs from.nums from.name from.here) in
       let refs_are : refs_in (heap (origin address + 1)) ≡ from.refs = reads address from.refs from.nums from.name from.led from.here in
-      let shape : after (address + 1) ≡ heap (origin address + 1) = is.words address 1 from.refs from.nums from.name from.here from.there refs_are (omega arith) (omega arith) (inl (omega arith)) in
-      let below : i < from.refs = subst (λ k. i < k) (ap refs_in shape ∙ refs_are) few in
-      let renamed = is.fields address i from.refs from.nums from.name from.here from.there below in
-      let other = not_null (heap (origin address + 3 + i)) (after (address + 3 + i)) renamed positive in
-      let reference : Reference = get_or object.0.refs i None in
-      let at : slice_get object.0.refs i ≡ Some reference = slice_get-get_or object.0.refs i None (let long = object.2.refs_are in omega (arith, below, long)) in
-      let to = named_if_not_0 config top block holds.objects.plotted (heap (origin address + 3 + i)) reference (object.2.references i reference at) other in
-      comes (heap (origin address + 3 + i)) (after (address + 3 + i)) to.0 renamed to.2 (from_field (origin address) i from.led (omega (arith, below, refs_are)) other)
+      let shape : after (address + 1) ≡ heap (origin address + 1) = carried.words address 1 from.refs from.nums from.name from.here from.there refs_are (omega arith) (omega arith) (inl (omega arith)) in
+      let index_below : index < from.refs = subst (λ refs. index < refs) (ap refs_in shape ∙ refs_are) few in
+      let renamed = carried.fields address index from.refs from.nums from.name from.here from.there index_below in
+      let old_some = not_null (heap (origin address + 3 + index)) (after (address + 3 + index)) renamed positive in
+      let reference : Reference = get_or object.0.refs index None in
+      let reference_there : slice_get object.0.refs index ≡ Some reference = slice_get-get_or object.0.refs index None (let refs_length = object.2.refs_are in omega (arith, index_below, refs_length)) in
+      let target_named = named_if_not_0 config top block holds.objects.plotted (heap (origin address + 3 + index)) reference (object.2.references index reference reference_there) old_some in
+      comes (heap (origin address + 3 + index)) (after (address + 3 + index)) target_named.0 renamed target_named.2 (from_field (origin address) index from.led (omega (arith, index_below, refs_are)) old_some)
 
-  pub led_comes : (x : ℕ) → IsLedNow x → ComesFrom x
-  led_comes _ (from_root word among some) = word_comes word among some
-  led_comes _ (from_field address i led few some) = field_comes address i (led_comes address led) few some
+  pub led_comes : (target : ℕ) → IsLedNow target → ComesFrom target
+  led_comes _ (from_root word among some_word) = word_comes word among some_word
+  led_comes _ (from_field address index led few some_word) = field_comes address index (led_comes address led) few some_word
 
   object_again : (address refs nums : ℕ) (name : Name) → ComesFrom address → plot address ≡ Some (thing name refs nums) → (object : Object) × (more.object name ≡ Some object) × IsThing after plot address refs nums name object
-  object_again address refs nums name from here =
-      let object = holds.objects.each (origin address) refs nums name from.led (is.pieces address refs nums name here) in
-      let was = object.2 in
-      let refs_are : refs_in (heap (origin address + 1)) ≡ refs = reads address refs nums name from.led here in (
+  object_again address refs nums name from thing_there =
+      let object = holds.objects.each (origin address) refs nums name from.led (carried.pieces address refs nums name thing_there) in
+      let old_thing = object.2 in
+      let refs_are : refs_in (heap (origin address + 1)) ≡ refs = reads address refs nums name from.led thing_there in (
         object.0,
         object.1,
         record {
-          header = is.header address refs nums name here from.there was.header;
-          shape = is.words address 1 refs nums name here from.there refs_are (omega arith) (omega arith) (inl (omega arith)) ∙ was.shape;
-          name_word = is.words address 2 refs nums name here from.there refs_are (omega arith) (omega arith) (inl (omega arith)) ∙ was.name_word;
-          few_refs = was.few_refs;
-          few_nums = was.few_nums;
-          refs_are = was.refs_are;
-          nums_are = was.nums_are;
-          references = λ i reference at.
-              let within : i < length object.0.refs = slice_get_within object.0.refs i reference at in
-              points_again (heap (origin address + 3 + i)) (after (address + 3 + i)) reference
-              (is.fields address i refs nums name here from.there (let long = was.refs_are in omega (arith, within, long))) (was.references i reference at);
-          numbers = λ i k at.
-              let within : i < length object.0.nums = slice_get_within object.0.nums i k at in
-              let long = was.nums_are in
-              let place : address + (3 + refs + i) ≡ address + 3 + refs + i = omega arith in
-              let back : origin address + (3 + refs + i) ≡ origin address + 3 + refs + i = omega arith in
-              sym (ap after place) ∙ is.words address (3 + refs + i) refs nums name here from.there refs_are (omega arith) (omega (arith, within, long)) (inr (omega arith))
-              ∙ ap heap back ∙ was.numbers i k at;
+          header = carried.header address refs nums name thing_there from.there old_thing.header;
+          shape = carried.words address 1 refs nums name thing_there from.there refs_are (omega arith) (omega arith) (inl (omega arith)) ∙ old_thing.shape;
+          name_word = carried.words address 2 refs nums name thing_there from.there refs_are (omega arith) (omega arith) (inl (omega arith)) ∙ old_thing.name_word;
+          few_refs = old_thing.few_refs;
+          few_nums = old_thing.few_nums;
+          refs_are = old_thing.refs_are;
+          nums_are = old_thing.nums_are;
+          references = λ index reference entry_there.
+              let within : index < length object.0.refs = slice_get_within object.0.refs index reference entry_there in
+              points_again (heap (origin address + 3 + index)) (after (address + 3 + index)) reference
+              (carried.fields address index refs nums name thing_there from.there (let lengths_are = old_thing.refs_are in omega (arith, within, lengths_are))) (old_thing.references index reference entry_there);
+          numbers = λ index entry entry_there.
+              let within : index < length object.0.nums = slice_get_within object.0.nums index entry entry_there in
+              let lengths_are = old_thing.nums_are in
+              let place : address + (3 + refs + index) ≡ address + 3 + refs + index = omega arith in
+              let same_place : origin address + (3 + refs + index) ≡ origin address + 3 + refs + index = omega arith in
+              sym (ap after place) ∙ carried.words address (3 + refs + index) refs nums name thing_there from.there refs_are (omega arith) (omega (arith, within, lengths_are)) (inr (omega arith))
+              ∙ ap heap same_place ∙ old_thing.numbers index entry entry_there;
         },
       )
 
-  answer_again : (mutator : ℕ) → mutator < config.mutators → AnswerStands plot (other_memory (Answer mutator)) (promises.ref (mutator + 1))
+  answer_again : (mutator : ℕ) → mutator < config.mutators → AnswerStands plot (carried_memory (Answer mutator)) (promises.ref (mutator + 1))
   answer_again mutator inside = ⊎_elim
-      (λ (none : (memory (Answer mutator) ≤ 1) × (promises.ref (mutator + 1) ≡ None)).
-      inl ((let same = (is.answers mutator inside).small none.0 in let low = none.0 in omega (arith, same, low)), none.1))
-      (λ (some : (1 < memory (Answer mutator)) × (name : Name) × (promises.ref (mutator + 1) ≡ Some name) × (name_at (block (memory (Answer mutator))) ≡ Some name)).
-      let to = renamed_names (memory (Answer mutator)) (other_memory (Answer mutator)) some.1 (is.answers mutator inside) some.3 in
-      let piece = named_piece (block (other_memory (Answer mutator))) some.1 to.0 in
-      let lies = piece_inside config top block holds.objects.plotted (other_memory (Answer mutator)) piece.0 piece.1 in
-      let long = config.in_range.least_words in
-      inr (omega (arith, lies.0, long), some.1, some.2, is.names (other_memory (Answer mutator)) some.1 to.0))
+      (λ (no_answer : (memory (Answer mutator) ≤ 1) × (promises.ref (mutator + 1) ≡ None)).
+      inl ((let same_answer = (carried.answers mutator inside).small no_answer.0 in let low = no_answer.0 in omega (arith, same_answer, low)), no_answer.1))
+      (λ (some_answer : (1 < memory (Answer mutator)) × (name : Name) × (promises.ref (mutator + 1) ≡ Some name) × (name_at (block (memory (Answer mutator))) ≡ Some name)).
+      let target_named = renamed_names (memory (Answer mutator)) (carried_memory (Answer mutator)) some_answer.1 (carried.answers mutator inside) some_answer.3 in
+      let piece = named_piece (block (carried_memory (Answer mutator))) some_answer.1 target_named.0 in
+      let lies_inside = piece_inside config top block holds.objects.plotted (carried_memory (Answer mutator)) piece.0 piece.1 in
+      let enough_words = config.in_range.least_words in
+      inr (omega (arith, lies_inside.0, enough_words), some_answer.1, some_answer.2, carried.names (carried_memory (Answer mutator)) some_answer.1 target_named.0))
       (holds.rooted.answers mutator inside)
 
-  pin_again : (mutator index : ℕ) → mutator < config.mutators → index < 4 → PinWordStands other_memory plot (other_memory (Pin mutator index)) (graph.pin (mutator + 1) index)
-  pin_again mutator index inside below =
-      let w = memory (Pin mutator index) in
-      let stay : (name : Name) → IsCopy block w name → is_forwarded (heap w) ≡ false → IsCopy plot w name × (is_forwarded (after w) ≡ false) = λ name was still.
-      let plain = is.pinned mutator index inside below name was still in
-      let own : now_in other_memory w ≡ w = cond-false (is_forwarded (after w)) (forwardee_in (after w)) w plain in
-      (subst (λ k. IsCopy plot k name) own (is.current w name (is.names w name (ap name_at was.2))), plain) in
-      subst (λ k. PinWordStands other_memory plot k (graph.pin (mutator + 1) index)) (sym (is.pins mutator index inside below))
-      (pin_stays memory other_memory block plot w (graph.pin (mutator + 1) index) stay (holds.rooted.pins mutator index inside below))
+  pin_again : (mutator index : ℕ) → mutator < config.mutators → index < 4 → PinWordStands carried_memory plot (carried_memory (Pin mutator index)) (graph.pin (mutator + 1) index)
+  pin_again mutator index inside index_low =
+      let pin_word = memory (Pin mutator index) in
+      let stay : (name : Name) → IsCopy block pin_word name → is_forwarded (heap pin_word) ≡ false → IsCopy plot pin_word name × (is_forwarded (after pin_word) ≡ false) = λ name old_name not_forwarded.
+      let plain = carried.pinned mutator index inside index_low name old_name not_forwarded in
+      let own_copy : now_in carried_memory pin_word ≡ pin_word = cond-false (is_forwarded (after pin_word)) (forwardee_in (after pin_word)) pin_word plain in
+      (subst (λ current_word. IsCopy plot current_word name) own_copy (carried.current pin_word name (carried.names pin_word name (ap name_at old_name.2))), plain) in
+      subst (λ current_word. PinWordStands carried_memory plot current_word (graph.pin (mutator + 1) index)) (sym (carried.pins mutator index inside index_low))
+      (pin_stays memory carried_memory block plot pin_word (graph.pin (mutator + 1) index) stay (holds.rooted.pins mutator index inside index_low))
 
-  pub rooted_again : RootsStand config other_memory plot graph promises
+  pub rooted_again : RootsStand config carried_memory plot graph promises
   rooted_again = record {
-    roots = λ mutator index inside few. points_again (memory (Root mutator index)) (other_memory (Root mutator index)) (graph.root (mutator + 1) index) (is.roots mutator index inside few) (holds.rooted.roots mutator index inside few);
+    roots = λ mutator index inside few. points_again (memory (Root mutator index)) (carried_memory (Root mutator index)) (graph.root (mutator + 1) index) (carried.roots mutator index inside few) (holds.rooted.roots mutator index inside few);
     answers = answer_again;
     no_more_roots = holds.rooted.no_more_roots;
     pins = pin_again;
@@ -260,39 +260,39 @@ module _ (config : Config) (memory other_memory : Word → ℕ) (block plot : Pl
     no_more_promised = holds.rooted.no_more_promised;
   }
 
-  pub objects_again : HoldsGraph config (λ region. other_memory (Top region)) after plot (now_in other_memory) (IsAmong (held_words config other_memory)) more
+  pub objects_again : HoldsGraph config (λ region. carried_memory (Top region)) after plot (now_in carried_memory) (IsAmong (held_words config carried_memory)) more
   objects_again = record {
-    plotted = is.plotted;
-    current = is.current;
-    each = λ address refs nums name led here. object_again address refs nums name (led_comes address led) here;
-    once = λ x y refs nums more_refs more_nums name led_x led_y here_x here_y.
-        let from_x = led_comes x led_x in
-        let from_y = led_comes y led_y in
-        is.one x y from_x.there from_y.there
-        (holds.objects.once (origin x) (origin y) refs nums more_refs more_nums name from_x.led from_y.led (is.pieces x refs nums name here_x) (is.pieces y more_refs more_nums name here_y));
-    root_named = roots.root_named config (λ region. other_memory (Top region)) other_memory plot graph promises is.plotted rooted_again;
-    root_held = roots.root_held config (λ region. other_memory (Top region)) other_memory plot graph promises is.plotted rooted_again;
+    plotted = carried.plotted;
+    current = carried.current;
+    each = λ address refs nums name led thing_there. object_again address refs nums name (led_comes address led) thing_there;
+    once = λ first_address second_address refs nums other_refs other_nums name led_x led_y here_x here_y.
+        let from_x = led_comes first_address led_x in
+        let from_y = led_comes second_address led_y in
+        carried.one first_address second_address from_x.there from_y.there
+        (holds.objects.once (origin first_address) (origin second_address) refs nums other_refs other_nums name from_x.led from_y.led (carried.pieces first_address refs nums name here_x) (carried.pieces second_address other_refs other_nums name here_y));
+    root_named = roots.root_named config (λ region. carried_memory (Top region)) carried_memory plot graph promises carried.plotted rooted_again;
+    root_held = roots.root_held config (λ region. carried_memory (Top region)) carried_memory plot graph promises carried.plotted rooted_again;
     pinless = holds.objects.pinless;
   }
 
-  asking_again : AreAsking config other_memory graph promises 0
-  asking_again t from below some =
-      let wait = is.waits t in
-      let was = holds.asking t from below (λ none. some (wait ∙ none)) in
-      let shape : asked_shape other_memory t ≡ asked_shape memory t = ap request_shape_in wait in
+  asking_again : AreAsking config carried_memory graph promises 0
+  asking_again asking_mutator from mutator_below is_waiting =
+      let wait = carried.waits asking_mutator in
+      let old_asking = holds.asking asking_mutator from mutator_below (λ no_answer. is_waiting (wait ∙ no_answer)) in
+      let shape : asked_shape carried_memory asking_mutator ≡ asked_shape memory asking_mutator = ap request_shape_in wait in
       record {
-        shape = subst (λ k. k ≡ shape_word (refs_in k) (nums_in k)) (sym shape) was.shape;
-        few_refs = subst (λ k. refs_in k ≤ 16) (sym shape) was.few_refs;
-        few_nums = subst (λ k. nums_in k ≤ 16) (sym shape) was.few_nums;
-        unanswered = (is.answers t below).small (let none = was.unanswered in omega (arith, none)) ∙ was.unanswered;
-        new = subst (λ k. more.object (record { thread = t + 1; count = request_count_in k }) ≡ None) (sym wait) was.new;
+        shape = subst (λ shape_now. shape_now ≡ shape_word (refs_in shape_now) (nums_in shape_now)) (sym shape) old_asking.shape;
+        few_refs = subst (λ shape_now. refs_in shape_now ≤ 16) (sym shape) old_asking.few_refs;
+        few_nums = subst (λ shape_now. nums_in shape_now ≤ 16) (sym shape) old_asking.few_nums;
+        unanswered = (carried.answers asking_mutator mutator_below).small (let no_answer = old_asking.unanswered in omega (arith, no_answer)) ∙ old_asking.unanswered;
+        new = subst (λ shape_now. more.object (record { thread = asking_mutator + 1; count = request_count_in shape_now }) ≡ None) (sym wait) old_asking.new;
       }
 
   -- so the words hold the graph, where the regions are as they should be
-  pub carried_holds : ((address refs nums : ℕ) (name : Name) → plot address ≡ Some (thing name refs nums) → is_forwarded (after address) ≡ true → HasMoved config other_memory plot address refs nums name)
-      → IsFilled config (λ region. other_memory (Top region)) plot → NamedAreThings plot → IsFreeWord config (other_memory Free) (λ region. other_memory (Top region)) owner → ShareIsOpen config (other_memory Share) (other_memory Free) (other_memory Cset) owner
-      → AreBuffers config (λ region. other_memory (Top region)) (λ seat. other_memory (Current seat)) plot
-      → HoldsBy config other_memory plot owner promises graph
+  pub carried_holds : ((address refs nums : ℕ) (name : Name) → plot address ≡ Some (thing name refs nums) → is_forwarded (after address) ≡ true → HasMoved config carried_memory plot address refs nums name)
+      → IsFilled config (λ region. carried_memory (Top region)) plot → NamedAreThings plot → IsFreeWord config (carried_memory Free) (λ region. carried_memory (Top region)) owner → ShareIsOpen config (carried_memory Share) (carried_memory Free) (carried_memory Cset) owner
+      → AreBuffers config (λ region. carried_memory (Top region)) (λ seat. carried_memory (Current seat)) plot
+      → HoldsBy config carried_memory plot owner promises graph
   carried_holds moved filled pieces free_word shared_one buffers = record {
     objects = objects_again;
     rooted = rooted_again;
@@ -304,7 +304,7 @@ module _ (config : Config) (memory other_memory : Word → ℕ) (block plot : Pl
     buffers = buffers;
     asking = asking_again;
     next = record {
-      asked = λ t below some. ap request_count_in (is.waits t) ∙ holds.next.asked t below (λ none. some (is.waits t ∙ none));
+      asked = λ mutator mutator_below is_waiting. ap request_count_in (carried.waits mutator) ∙ holds.next.asked mutator mutator_below (λ not_waiting. is_waiting (carried.waits mutator ∙ not_waiting));
       promised = holds.next.promised;
       given = holds.next.given;
     };

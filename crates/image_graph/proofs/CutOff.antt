@@ -18,116 +18,116 @@ pub record CanCutOff (config : Config) (top : ℕ → ℕ) (block : Plot) (regio
   pub here : block other_address ≡ Some piece
   pub at_top : other_address + words_of piece ≡ base_of config region + top region
 
-module _ (config : Config) (top : ℕ → ℕ) (block : Plot) (region at : ℕ) (piece : Block) (can : CanCutOff config top block region at piece) where
+module _ (config : Config) (top : ℕ → ℕ) (block : Plot) (region cut_address : ℕ) (piece : Block) (cuttable : CanCutOff config top block region cut_address piece) where
   -- the tops then
   abbrev pub lower_top : ℕ → ℕ
-  lower_top = updated top region (at - base_of config region)
+  lower_top = updated top region (cut_address - base_of config region)
 
   -- the plot then
   abbrev pub block_without : Plot
-  block_without = updated block at None
+  block_without = updated block cut_address None
 
   -- the top of its region, and of others
-  top_now : lower_top region ≡ at - base_of config region
-  top_now = updated_there top region (at - base_of config region)
+  top_now : lower_top region ≡ cut_address - base_of config region
+  top_now = updated_there top region (cut_address - base_of config region)
 
-  pub top_else : (r : ℕ) → r ≢ region → lower_top r ≡ top r
-  top_else r other = updated_else top region (at - base_of config region) r (λ same. other (sym same))
+  pub top_else : (given_region : ℕ) → given_region ≢ region → lower_top given_region ≡ top given_region
+  top_else given_region region_differs = updated_else top region (cut_address - base_of config region) given_region (λ same_region. region_differs (sym same_region))
 
   -- the part in use ends where the piece began
-  pub ends : base_of config region + lower_top region ≡ at
-  ends = (let now = top_now in let from = can.from_base in omega (arith, now, from))
+  pub ends : base_of config region + lower_top region ≡ cut_address
+  ends = (let new_top = top_now in let from = cuttable.from_base in omega (arith, new_top, from))
 
   -- no top rises
-  pub falls : (r : ℕ) → lower_top r ≤ top r
-  falls r = ⊎_elim
-      (λ (same : r ≡ region). let now : lower_top r ≡ at - base_of config region = ap lower_top same ∙ top_now in let was : top r ≡ top region = ap top same in let end = can.at_top in let from = can.from_base in omega (arith, now, was, end, from))
-      (λ (other : r ≢ region). let now = top_else r other in omega (arith, now))
-      (cases_eq r region)
+  pub falls : (given_region : ℕ) → lower_top given_region ≤ top given_region
+  falls given_region = ⊎_elim
+      (λ (same_region : given_region ≡ region). let new_top : lower_top given_region ≡ cut_address - base_of config region = ap lower_top same_region ∙ top_now in let old_top : top given_region ≡ top region = ap top same_region in let end = cuttable.at_top in let from = cuttable.from_base in omega (arith, new_top, old_top, end, from))
+      (λ (region_differs : given_region ≢ region). let new_top = top_else given_region region_differs in omega (arith, new_top))
+      (cases_eq given_region region)
 
   -- pieces elsewhere stay, and no other comes
-  pub stays : (address : ℕ) → address ≢ at → block_without address ≡ block address
-  stays address other = updated_else block at None address (λ same. other (sym same))
+  pub stays : (address : ℕ) → address ≢ cut_address → block_without address ≡ block address
+  stays address address_differs = updated_else block cut_address None address (λ same_address. address_differs (sym same_address))
 
-  pub came : (address : ℕ) (piece : Block) → block_without address ≡ Some piece → (address ≢ at) × (block address ≡ Some piece)
-  came address piece is = ⊎_elim
-      (λ (same : at ≡ address). absurd (none-some piece (sym (updated_same block at None address same) ∙ is)))
-      (λ (other : at ≢ address). ((λ same. other (sym same)), sym (updated_else block at None address other) ∙ is))
-      (cases_eq at address)
+  pub came : (address : ℕ) (piece : Block) → block_without address ≡ Some piece → (address ≢ cut_address) × (block address ≡ Some piece)
+  came address piece piece_there = ⊎_elim
+      (λ (same_address : cut_address ≡ address). absurd (none-some piece (sym (updated_same block cut_address None address same_address) ∙ piece_there)))
+      (λ (address_differs : cut_address ≢ address). ((λ same_address. address_differs (sym same_address)), sym (updated_else block cut_address None address address_differs) ∙ piece_there))
+      (cases_eq cut_address address)
 
-  some_piece : (address : ℕ) → address ≢ at → (piece : Block) × (block address ≡ Some piece) → (piece : Block) × (block_without address ≡ Some piece)
-  some_piece address other old = (old.0, stays address other ∙ old.1)
+  some_piece : (address : ℕ) → address ≢ cut_address → (piece : Block) × (block address ≡ Some piece) → (piece : Block) × (block_without address ≡ Some piece)
+  some_piece address address_differs old = (old.0, stays address address_differs ∙ old.1)
 
   -- another piece that ends below the top ends before it
-  pub before_it : (address : ℕ) (x : Block) → address ≢ at → block address ≡ Some x → address + words_of x ≤ base_of config region + top region → address + words_of x ≤ at
-  before_it address x other is to_top = ⊎_elim
-      (λ same. absurd (other same))
+  pub before_it : (address : ℕ) (other_piece : Block) → address ≢ cut_address → block address ≡ Some other_piece → address + words_of other_piece ≤ base_of config region + top region → address + words_of other_piece ≤ cut_address
+  before_it address other_piece address_differs piece_there to_top = ⊎_elim
+      (λ same_address. absurd (address_differs same_address))
       (λ order. ⊎_elim
-      (λ less. can.plotted.apart address at x piece is can.here less)
-      (λ more.
-      let after = can.plotted.apart at address piece x can.here is more in
-      let some = can.long address x is in
-      let end = can.at_top in
-      absurd (omega (arith, after, some, end, to_top)))
+      (λ is_below. cuttable.plotted.apart address cut_address other_piece piece piece_there cuttable.here is_below)
+      (λ is_above.
+      let after = cuttable.plotted.apart cut_address address piece other_piece cuttable.here piece_there is_above in
+      let has_words = cuttable.long address other_piece piece_there in
+      let end = cuttable.at_top in
+      absurd (omega (arith, after, has_words, end, to_top)))
       order)
-      (cases_order address at)
+      (cases_order address cut_address)
 
   -- pieces lie where they should
   pub plotted_without : IsPlotted config lower_top block_without
   plotted_without = record {
-    tops = λ r inside. (let most = can.plotted.tops r inside in let less = falls r in omega (arith, most, less));
-    in_use = λ a x is.
-        let was = came a x is in
-        let used = can.plotted.in_use a x was.1 in
+    tops = λ any_region inside. (let top_low = cuttable.plotted.tops any_region inside in let top_falls = falls any_region in omega (arith, top_low, top_falls));
+    in_use = λ own_address own_piece piece_there.
+        let old_piece = came own_address own_piece piece_there in
+        let used = cuttable.plotted.in_use own_address own_piece old_piece.1 in
         ⊎_elim
-        (λ (same : used.region ≡ region).
-        let to_top : a + words_of x ≤ base_of config region + top region = subst (λ r. a + words_of x ≤ base_of config r + top r) same used.to_top in
-        let from : base_of config region ≤ a = subst (λ r. base_of config r ≤ a) same used.from_base in
-        let before = before_it a x was.0 was.1 to_top in
+        (λ (same_region : used.region ≡ region).
+        let to_top : own_address + words_of own_piece ≤ base_of config region + top region = subst (λ any_region. own_address + words_of own_piece ≤ base_of config any_region + top any_region) same_region used.to_top in
+        let from : base_of config region ≤ own_address = subst (λ any_region. base_of config any_region ≤ own_address) same_region used.from_base in
+        let before = before_it own_address own_piece old_piece.0 old_piece.1 to_top in
         let end = ends in
-        record { region = region; within = can.within; from_base = from; to_top = omega (arith, before, end) })
-        (λ (other : used.region ≢ region).
-        let same = top_else used.region other in
+        record { region = region; within = cuttable.within; from_base = from; to_top = omega (arith, before, end) })
+        (λ (region_differs : used.region ≢ region).
+        let same_region = top_else used.region region_differs in
         let to_top = used.to_top in
-        record { region = used.region; within = used.within; from_base = used.from_base; to_top = omega (arith, same, to_top) })
+        record { region = used.region; within = used.within; from_base = used.from_base; to_top = omega (arith, same_region, to_top) })
         (cases_eq used.region region);
-    apart = λ a b x y is_x is_y before. can.plotted.apart a b x y (came a x is_x).1 (came b y is_y).1 before;
+    apart = λ own_address other_address own_piece other_piece first_there second_there before. cuttable.plotted.apart own_address other_address own_piece other_piece (came own_address own_piece first_there).1 (came other_address other_piece second_there).1 before;
   }
 
   -- the piece is in no other region
-  other_region : (r a : ℕ) → r ≢ region → base_of config r ≤ a → a < base_of config r + config.region_words → a ≢ at
-  other_region r a other at_most before same =
-      let at_from = can.from_base in
-      let end = can.at_top in
-      let most = can.plotted.tops region can.within in
-      let some = can.long at piece can.here in
+  other_region : (given_region address : ℕ) → given_region ≢ region → base_of config given_region ≤ address → address < base_of config given_region + config.region_words → address ≢ cut_address
+  other_region given_region address region_differs at_most before same_address =
+      let at_from = cuttable.from_base in
+      let end = cuttable.at_top in
+      let top_low = cuttable.plotted.tops region cuttable.within in
+      let has_words = cuttable.long cut_address piece cuttable.here in
       ⊎_elim
-      (λ (less : r < region). let far = behind config r region less in omega (arith, far, before, same, at_from))
-      (λ (least : region ≤ r). let far = behind config region r (omega (arith, least, other)) in omega (arith, far, at_most, same, end, most, some))
-      (cases_lt r region)
+      (λ (region_below : given_region < region). let region_far = behind config given_region region region_below in omega (arith, region_far, before, same_address, at_from))
+      (λ (region_above : region ≤ given_region). let region_far = behind config region given_region (omega (arith, region_above, region_differs)) in omega (arith, region_far, at_most, same_address, end, top_low, has_words))
+      (cases_lt given_region region)
 
   -- they fill the parts in use
   pub filled_without : IsFilled config lower_top block_without
   filled_without = record {
-    first = λ r inside used. ⊎_elim
-        (λ (same : r ≡ region).
-        let now : base_of config r + lower_top r ≡ at = ap (λ k. base_of config k + lower_top k) same ∙ ends in
-        let less = falls r in
-        some_piece (base_of config r) (λ e. omega (arith, e, now, used)) (can.filled.first r inside (omega (arith, less, used))))
-        (λ (other : r ≢ region).
-        let now = top_else r other in
-        some_piece (base_of config r) (λ e. other_region r (base_of config r) other (omega arith) (let long = config.in_range.least_words in omega (arith, long)) e) (can.filled.first r inside (omega (arith, now, used))))
-        (cases_eq r region);
-    next = λ r a x inside from is below.
-        let was = came a x is in
+    first = λ any_region inside used. ⊎_elim
+        (λ (same_region : any_region ≡ region).
+        let new_end : base_of config any_region + lower_top any_region ≡ cut_address = ap (λ some_region. base_of config some_region + lower_top some_region) same_region ∙ ends in
+        let top_falls = falls any_region in
+        some_piece (base_of config any_region) (λ same_address. omega (arith, same_address, new_end, used)) (cuttable.filled.first any_region inside (omega (arith, top_falls, used))))
+        (λ (region_differs : any_region ≢ region).
+        let new_end = top_else any_region region_differs in
+        some_piece (base_of config any_region) (λ same_address. other_region any_region (base_of config any_region) region_differs (omega arith) (let enough_words = config.in_range.least_words in omega (arith, enough_words)) same_address) (cuttable.filled.first any_region inside (omega (arith, new_end, used))))
+        (cases_eq any_region region);
+    next = λ any_region own_address own_piece inside from piece_there end_below.
+        let old_piece = came own_address own_piece piece_there in
         ⊎_elim
-        (λ (same : r ≡ region).
-        let now : base_of config r + lower_top r ≡ at = ap (λ k. base_of config k + lower_top k) same ∙ ends in
-        let less = falls r in
-        some_piece (a + words_of x) (λ e. omega (arith, e, now, below)) (can.filled.next r a x inside from was.1 (omega (arith, below, less))))
-        (λ (other : r ≢ region).
-        let now = top_else r other in
-        let most = can.plotted.tops r inside in
-        some_piece (a + words_of x) (λ e. other_region r (a + words_of x) other (omega (arith, from)) (omega (arith, below, now, most)) e) (can.filled.next r a x inside from was.1 (omega (arith, below, now))))
-        (cases_eq r region);
+        (λ (same_region : any_region ≡ region).
+        let new_end : base_of config any_region + lower_top any_region ≡ cut_address = ap (λ some_region. base_of config some_region + lower_top some_region) same_region ∙ ends in
+        let top_falls = falls any_region in
+        some_piece (own_address + words_of own_piece) (λ same_address. omega (arith, same_address, new_end, end_below)) (cuttable.filled.next any_region own_address own_piece inside from old_piece.1 (omega (arith, end_below, top_falls))))
+        (λ (region_differs : any_region ≢ region).
+        let new_end = top_else any_region region_differs in
+        let top_low = cuttable.plotted.tops any_region inside in
+        some_piece (own_address + words_of own_piece) (λ same_address. other_region any_region (own_address + words_of own_piece) region_differs (omega (arith, from)) (omega (arith, end_below, new_end, top_low)) same_address) (cuttable.filled.next any_region own_address own_piece inside from old_piece.1 (omega (arith, end_below, new_end))))
+        (cases_eq any_region region);
   }

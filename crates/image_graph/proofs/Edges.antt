@@ -17,30 +17,30 @@ module _ (config : Config) (memory : Word → ℕ) (region : ℕ) where
   free_at seat = next_in (memory (Current seat)) - base_of config region
 
   -- the lesser is not above the other, and not above the one where that counts
-  lesser : (last : Bool) (free least : ℕ) → ((if last && nat_lt free least then free else least) ≤ least) × (last ≡ true → (if last && nat_lt free least then free else least) ≤ free)
+  lesser : (counts : Bool) (free least : ℕ) → ((if counts && nat_lt free least then free else least) ≤ least) × (counts ≡ true → (if counts && nat_lt free least then free else least) ≤ free)
   lesser false free least = (omega arith, λ wrong. cc)
   lesser true free least = by_order (nat_lt free least) refl
     where
       by_order : (holds : Bool) → holds ≡ nat_lt free least → ((if holds then free else least) ≤ least) × (true ≡ true → (if holds then free else least) ≤ free)
-      by_order true is = (let less = ltb-true free least (sym is) in omega (arith, less), λ on. omega arith)
-      by_order false is = (omega arith, λ on. ltb-false free least (sym is))
+      by_order true holds_as = (let free_below = ltb-true free least (sym holds_as) in omega (arith, free_below), λ counted. omega arith)
+      by_order false holds_as = (omega arith, λ counted. ltb-false free least (sym holds_as))
 
-  below_top : (n : ℕ) → edge_below config memory region n ≤ memory (Top region)
+  below_top : (seats : ℕ) → edge_below config memory region seats ≤ memory (Top region)
   unfolding edge_below
   below_top zero = omega arith
-  below_top (suc n) = (let one = (lesser (is_last_in config memory region n) (free_at n) (edge_below config memory region n)).0 in let rest = below_top n in omega (arith, one, rest))
+  below_top (suc seats) = (let not_higher = (lesser (is_last_in config memory region seats) (free_at seats) (edge_below config memory region seats)).0 in let rest = below_top seats in omega (arith, not_higher, rest))
 
-  below_free : (n seat : ℕ) → seat < n → is_last_in config memory region seat ≡ true → edge_below config memory region n ≤ free_at seat
+  below_free : (seats seat : ℕ) → seat < seats → is_last_in config memory region seat ≡ true → edge_below config memory region seats ≤ free_at seat
   unfolding edge_below
-  below_free zero seat below last = absurd (omega (arith, below))
-  below_free (suc other_seat) seat below last = ⊎_elim
-      (λ (same : seat ≡ other_seat). subst (λ k. (if is_last_in config memory region other_seat && nat_lt (free_at other_seat) (edge_below config memory region other_seat) then free_at other_seat else edge_below config memory region other_seat) ≤ free_at k) (sym same)
-      ((lesser (is_last_in config memory region other_seat) (free_at other_seat) (edge_below config memory region other_seat)).1 (subst (λ seat. is_last_in config memory region seat ≡ true) same last)))
-      (λ (other : seat ≢ other_seat). (let one = (lesser (is_last_in config memory region other_seat) (free_at other_seat) (edge_below config memory region other_seat)).0 in let rest = below_free other_seat seat (omega (arith, below, other)) last in omega (arith, one, rest)))
-      (cases_eq seat other_seat)
+  below_free zero seat seat_below last_there = absurd (omega (arith, seat_below))
+  below_free (suc last_seat) seat seat_below last_there = ⊎_elim
+      (λ (same_seat : seat ≡ last_seat). subst (λ any_seat. (if is_last_in config memory region last_seat && nat_lt (free_at last_seat) (edge_below config memory region last_seat) then free_at last_seat else edge_below config memory region last_seat) ≤ free_at any_seat) (sym same_seat)
+      ((lesser (is_last_in config memory region last_seat) (free_at last_seat) (edge_below config memory region last_seat)).1 (subst (λ seat. is_last_in config memory region seat ≡ true) same_seat last_there)))
+      (λ (earlier_seat : seat ≢ last_seat). (let not_higher = (lesser (is_last_in config memory region last_seat) (free_at last_seat) (edge_below config memory region last_seat)).0 in let rest = below_free last_seat seat (omega (arith, seat_below, earlier_seat)) last_there in omega (arith, not_higher, rest)))
+      (cases_eq seat last_seat)
 
 -- Edges are told by tops and buffers.
-module _ (config : Config) (memory other_memory : Word → ℕ) (region : ℕ) (tops : (q : ℕ) → other_memory (Top q) ≡ memory (Top q)) (buffers : (seat : ℕ) → other_memory (Current seat) ≡ memory (Current seat)) where
+module _ (config : Config) (memory other_memory : Word → ℕ) (region : ℕ) (tops : (any_region : ℕ) → other_memory (Top any_region) ≡ memory (Top any_region)) (buffers : (seat : ℕ) → other_memory (Current seat) ≡ memory (Current seat)) where
   abbrev turn : (word top least : ℕ) → ℕ
   turn word top least =
       if (not (word == 0) && (buffer_region config word == region) && (end_in word == base_of config (buffer_region config word) + top)) && nat_lt (next_in word - base_of config region) least
@@ -57,9 +57,9 @@ module _ (config : Config) (memory other_memory : Word → ℕ) (region : ℕ) (
 pub edges_lie : (config : Config) (memory : Word → ℕ) (region : ℕ) → EdgesLie config memory region
 edges_lie config memory region = record {
   below_top = below_top config memory region (seat_count config.mutators config.helpers);
-  below_free = λ seat below last. below_free config memory region (seat_count config.mutators config.helpers) seat below last;
+  below_free = λ seat seat_below last_there. below_free config memory region (seat_count config.mutators config.helpers) seat seat_below last_there;
 }
 
 -- where nothing is in use no edge is but 0
 pub edge_zero : (config : Config) (memory : Word → ℕ) (region : ℕ) → memory (Top region) ≡ 0 → edge config memory region ≡ 0
-edge_zero config memory region none = (let low = (edges_lie config memory region).below_top in omega (arith, low, none))
+edge_zero config memory region no_words = (let low = (edges_lie config memory region).below_top in omega (arith, low, no_words))

@@ -19,12 +19,12 @@ IsOfBuffers (Top region) = ⊤
 IsOfBuffers (Current seat) = ⊤
 IsOfBuffers word = ⊥
 
-module _ (word : Word) (other : IsOfBuffers word → ⊥) where
-  not_written : (memory : Word → ℕ) (at : Word) (value : ℕ) → IsOfBuffers at → write memory at value word ≡ memory word
-  not_written memory at value of_buffers = ⊎_elim
-      (λ (same : same_word at word ≡ true). absurd (other (subst IsOfBuffers (same_word_true at word same) of_buffers)))
-      (λ (differs : same_word at word ≡ false). cond-false (same_word at word) value (memory word) differs)
-      (cases_Bool (same_word at word))
+module _ (word : Word) (not_buffers : IsOfBuffers word → ⊥) where
+  not_written : (memory : Word → ℕ) (written : Word) (value : ℕ) → IsOfBuffers written → write memory written value word ≡ memory word
+  not_written memory written value of_buffers = ⊎_elim
+      (λ (is_written : same_word written word ≡ true). absurd (not_buffers (subst IsOfBuffers (same_word_true written word is_written) of_buffers)))
+      (λ (differs : same_word written word ≡ false). cond-false (same_word written word) value (memory word) differs)
+      (cases_Bool (same_word written word))
 
   filled_else : (memory : Word → ℕ) (buffer : ℕ) → filled_over memory buffer word ≡ memory word
   filled_else memory buffer =
@@ -44,12 +44,12 @@ module _ (word : Word) (other : IsOfBuffers word → ⊥) where
       (not_written memory (Top (buffer_region config (memory (Current seat)))) (next_in (memory (Current seat)) - base_of config (buffer_region config (memory (Current seat)))) tt) (filled_else memory (memory (Current seat))))
 
   -- after any number of turns
-  pub settled_same : (config : Config) (memory : Word → ℕ) (n : ℕ) → settled_below config memory n word ≡ memory word
+  pub settled_same : (config : Config) (memory : Word → ℕ) (turns : ℕ) → settled_below config memory turns word ≡ memory word
   unfolding settled_below
   settled_same config memory zero = refl
   settled_same config memory (suc seat) = settled_else config (settled_below config memory seat) seat ∙ settled_same config memory seat
 
-  pub let_go_same : (config : Config) (memory : Word → ℕ) (n : ℕ) → let_go_below config memory n word ≡ memory word
+  pub let_go_same : (config : Config) (memory : Word → ℕ) (turns : ℕ) → let_go_below config memory turns word ≡ memory word
   unfolding let_go_below
   let_go_same config memory zero = refl
   let_go_same config memory (suc seat) = let_go_else config (let_go_below config memory seat) seat ∙ let_go_same config memory seat

@@ -16,48 +16,48 @@ use Rattle.image_graph.proofs.StandsStill.{IsOfRoots, stands_still}
 use Rattle.image_graph.proofs.SeatTurns.{IsDropped}
 
 -- the words of buffers tell of the free words still
-pub buffers_dropped : (config : Config) (top current then_current : ℕ → ℕ) (block : Plot) → ((seat : ℕ) → IsDropped current then_current seat) → ((address seat more : ℕ) → block address ≡ Some (spare seat more) → 1 ≤ more)
+pub buffers_dropped : (config : Config) (top current then_current : ℕ → ℕ) (block : Plot) → ((seat : ℕ) → IsDropped current then_current seat) → ((address seat words : ℕ) → block address ≡ Some (spare seat words) → 1 ≤ words)
     → AreBuffers config top current block → AreBuffers config top then_current block
-buffers_dropped config top current then_current block dropped some buffers = record {
+buffers_dropped config top current then_current block dropped some_words buffers = record {
   each = λ seat is_some. ⊎_elim
-      (λ (same : then_current seat ≡ current seat). subst (IsBuffer config top block seat) (sym same) (buffers.each seat (λ none. is_some (same ∙ none))))
-      (λ (gone : (then_current seat ≡ 0) × (end_in (current seat) ≤ next_in (current seat))). absurd (is_some gone.0))
+      (λ (kept : then_current seat ≡ current seat). subst (IsBuffer config top block seat) (sym kept) (buffers.each seat (λ no_buffer. is_some (kept ∙ no_buffer))))
+      (λ (emptied : (then_current seat ≡ 0) × (end_in (current seat) ≤ next_in (current seat))). absurd (is_some emptied.0))
       (dropped seat);
-  spares = λ address seat more is.
-      let own = buffers.spares address seat more is in
+  spares = λ address seat words spare_there.
+      let buffer_words = buffers.spares address seat words spare_there in
       ⊎_elim
-      (λ (same : then_current seat ≡ current seat). subst (λ word. (next_in word ≡ address) × (end_in word ≡ address + more)) (sym same) own)
-      (λ (gone : (then_current seat ≡ 0) × (end_in (current seat) ≤ next_in (current seat))).
-      let long = some address seat more is in
-      let one = own.0 in
-      let two = own.1 in
-      let empty = gone.1 in
-      absurd (omega (arith, one, two, long, empty)))
+      (λ (kept : then_current seat ≡ current seat). subst (λ word. (next_in word ≡ address) × (end_in word ≡ address + words)) (sym kept) buffer_words)
+      (λ (emptied : (then_current seat ≡ 0) × (end_in (current seat) ≤ next_in (current seat))).
+      let has_words = some_words address seat words spare_there in
+      let next_is = buffer_words.0 in
+      let end_is = buffer_words.1 in
+      let empty = emptied.1 in
+      absurd (omega (arith, next_is, end_is, has_words, empty)))
       (dropped seat);
 }
 
 -- Where each buffer is one that there was, they lie outside the collection set still.
-pub fewer_outside : (config : Config) (cset : ℕ) (current fewer : ℕ → ℕ) → ((s : ℕ) → fewer s ≢ 0 → fewer s ≡ current s) → AreBuffersOutside config cset current → AreBuffersOutside config cset fewer
-fewer_outside config cset current fewer same outside s some inside =
-    let is = same s some in
-    outside s (λ none. some (is ∙ none)) (subst (λ word. IsIn cset (region_with config (end_in word - 1))) is inside)
+pub fewer_outside : (config : Config) (cset : ℕ) (current fewer : ℕ → ℕ) → ((seat : ℕ) → fewer seat ≢ 0 → fewer seat ≡ current seat) → AreBuffersOutside config cset current → AreBuffersOutside config cset fewer
+fewer_outside config cset current fewer same_buffer outside seat some_buffer inside =
+    let buffer_is = same_buffer seat some_buffer in
+    outside seat (λ no_buffer. some_buffer (buffer_is ∙ no_buffer)) (subst (λ word. IsIn cset (region_with config (end_in word - 1))) buffer_is inside)
 
 -- so they are without a seat's
-pub without_fewer : (current : ℕ → ℕ) (seat s : ℕ) → updated current seat 0 s ≢ 0 → updated current seat 0 s ≡ current s
-without_fewer current seat s positive = ⊎_elim
-    (λ (at : seat ≡ s). absurd (positive (updated_same current seat 0 s at)))
-    (λ (other : seat ≢ s). updated_else current seat 0 s other)
-    (cases_eq seat s)
+pub without_fewer : (current : ℕ → ℕ) (seat any_seat : ℕ) → updated current seat 0 any_seat ≢ 0 → updated current seat 0 any_seat ≡ current any_seat
+without_fewer current seat any_seat positive = ⊎_elim
+    (λ (same_seat : seat ≡ any_seat). absurd (positive (updated_same current seat 0 any_seat same_seat)))
+    (λ (seats_differ : seat ≢ any_seat). updated_else current seat 0 any_seat seats_differ)
+    (cases_eq seat any_seat)
 
 -- and where some are dropped
-pub dropped_fewer : (current then_current : ℕ → ℕ) → ((seat : ℕ) → IsDropped current then_current seat) → (s : ℕ) → then_current s ≢ 0 → then_current s ≡ current s
-dropped_fewer current then_current dropped s positive = ⊎_elim (λ same. same) (λ gone. absurd (positive gone.0)) (dropped s)
+pub dropped_fewer : (current then_current : ℕ → ℕ) → ((seat : ℕ) → IsDropped current then_current seat) → (any_seat : ℕ) → then_current any_seat ≢ 0 → then_current any_seat ≡ current any_seat
+dropped_fewer current then_current dropped any_seat positive = ⊎_elim (λ kept. kept) (λ emptied. absurd (positive emptied.0)) (dropped any_seat)
 
 module _ (Asks : (Word → ℕ) → Plot → Type 0) (of_roots : IsOfRoots Asks) (config : Config) (memory : Word → ℕ) (graph : Graph) (asking : ℕ → Asking) (represents_with : RepresentsWith (Asks memory) config memory graph asking) (current : ℕ → ℕ)
-    (dropped : (seat : ℕ) → IsDropped (λ s. memory (Current s)) current seat) where
+    (dropped : (seat : ℕ) → IsDropped (λ any_seat. memory (Current any_seat)) current seat) where
   pub rebuffered : RepresentsWith (Asks (refitted memory (λ region. memory (Top region)) (λ address. memory (Heap address)) current)) config (refitted memory (λ region. memory (Top region)) (λ address. memory (Heap address)) current) graph asking
   rebuffered = stands_still Asks of_roots config memory graph asking represents_with (λ region. memory (Top region)) (λ address. memory (Heap address)) current represents_with.block
-      (record { stays = λ a x fixed is. is; came = λ a x fixed is. is }) (λ a s more is. is) (λ a s more is. is) (λ a k s more is below. refl)
+      (record { stays = λ piece_address piece fixed still_there. still_there; came = λ piece_address piece fixed still_there. still_there }) (λ piece_address any_seat words still_there. still_there) (λ piece_address any_seat words still_there. still_there) (λ piece_address offset any_seat words still_there index_below. refl)
       (record {
         parsable = represents_with.shared.parsable;
         contents = represents_with.shared.contents;

@@ -20,26 +20,26 @@ module _ (fields : ℕ → List ℕ) (roots : List ℕ) where
   unfolding found_in
   turn index = refl
 
-  pub next_turn : (index a : ℕ) → slice_get (found index) index ≡ Some a → with_addresses (found index) (fields a) ≡ found (index + 1)
-  next_turn index a at =
-      let next : suc index ≡ index + 1 = omega arith in
-      sym (turn index ∙ ap (with_fields fields (found index)) at) ∙ ap found next
+  pub next_turn : (index address : ℕ) → slice_get (found index) index ≡ Some address → with_addresses (found index) (fields address) ≡ found (index + 1)
+  next_turn index address address_found =
+      let next_index : suc index ≡ index + 1 = omega arith in
+      sym (turn index ∙ ap (with_fields fields (found index)) address_found) ∙ ap found next_index
 
   -- where no turn is left, further turns find nothing
-  stays : (n k : ℕ) → length (found n) ≤ n → found (k + n) ≡ found n
-  stays n zero short = let here : zero + n ≡ n = omega arith in ap found here
-  stays n (suc k) short =
-      let next : suc k + n ≡ suc (k + n) = omega arith in
-      let before : found (k + n) ≡ found n = stays n k short in
-      let none : slice_get (found (k + n)) (k + n) ≡ None = ap (λ xs. slice_get xs (k + n)) before ∙ get_none (found n) (k + n) (omega (arith, short)) in
-      ap found next ∙ turn (k + n) ∙ ap (with_fields fields (found (k + n))) none ∙ before
+  stays : (turns more_turns : ℕ) → length (found turns) ≤ turns → found (more_turns + turns) ≡ found turns
+  stays turns zero short = let same_turns : zero + turns ≡ turns = omega arith in ap found same_turns
+  stays turns (suc more_turns) short =
+      let next_count : suc more_turns + turns ≡ suc (more_turns + turns) = omega arith in
+      let before : found (more_turns + turns) ≡ found turns = stays turns more_turns short in
+      let no_turn : slice_get (found (more_turns + turns)) (more_turns + turns) ≡ None = ap (λ xs. slice_get xs (more_turns + turns)) before ∙ get_none (found turns) (more_turns + turns) (omega (arith, short)) in
+      ap found next_count ∙ turn (more_turns + turns) ∙ ap (with_fields fields (found (more_turns + turns))) no_turn ∙ before
     where
       get_none : (xs : List ℕ) (index : ℕ) → length xs ≤ index → slice_get xs index ≡ None
-      get_none [] index past = refl
-      get_none (x ∷ xs) zero past = absurd (omega (arith, past))
-      get_none (x ∷ xs) (suc index) past = get_none xs index (omega (arith, past))
+      get_none [] index index_past = refl
+      get_none (x ∷ xs) zero index_past = absurd (omega (arith, index_past))
+      get_none (x ∷ xs) (suc index) index_past = get_none xs index (omega (arith, index_past))
 
-  pub last_turn : (n most : ℕ) → length (found n) ≤ n → n ≤ most → found n ≡ found most
-  last_turn n most short at_most =
-      let all : (most - n) + n ≡ most = omega (arith, at_most) in
-      sym (stays n (most - n) short) ∙ ap found all
+  pub last_turn : (turns most_turns : ℕ) → length (found turns) ≤ turns → turns ≤ most_turns → found turns ≡ found most_turns
+  last_turn turns most_turns short at_most =
+      let all_turns : (most_turns - turns) + turns ≡ most_turns = omega (arith, at_most) in
+      sym (stays turns (most_turns - turns) short) ∙ ap found all_turns

@@ -23,132 +23,132 @@ unfolding found_in
 found_first fields roots = refl
 
 -- what a list has is at an index of it
-pub index_of : (xs : List ℕ) (q : ℕ) → has xs q ≡ true → (index : ℕ) × (index < length xs) × (slice_get xs index ≡ Some q)
-index_of [] q is = absurd (false≢true is)
-index_of (x ∷ xs) q is = ⊎_elim
-    (λ (here : nat_eq q x ≡ true). (0, omega arith, ap Some (sym (eqb-true q x here))))
-    (λ (later : has xs q ≡ true). let at = index_of xs q later in (suc at.0, omega (arith, at.1), at.2))
-    (or_cases (nat_eq q x) (has xs q) is)
+pub index_of : (xs : List ℕ) (asked : ℕ) → has xs asked ≡ true → (index : ℕ) × (index < length xs) × (slice_get xs index ≡ Some asked)
+index_of [] asked asked_there = absurd (false≢true asked_there)
+index_of (x ∷ xs) asked asked_there = ⊎_elim
+    (λ (asked_first : nat_eq asked x ≡ true). (0, omega arith, ap Some (sym (eqb-true asked x asked_first))))
+    (λ (later : has xs asked ≡ true). let found_later = index_of xs asked later in (suc found_later.0, omega (arith, found_later.1), found_later.2))
+    (or_cases (nat_eq asked x) (has xs asked) asked_there)
 
 -- and what is at an index it has
-pub has_at : (xs : List ℕ) (index q : ℕ) → slice_get xs index ≡ Some q → has xs q ≡ true
-has_at [] index q is = absurd (none-some q is)
-has_at (x ∷ xs) zero q is = or_left (nat_eq q x) (has xs q) (eq-eqb q x (sym (same_Some x q is)))
-has_at (x ∷ xs) (suc index) q is = or_right (nat_eq q x) (has xs q) (has_at xs index q is)
+pub has_at : (xs : List ℕ) (index asked : ℕ) → slice_get xs index ≡ Some asked → has xs asked ≡ true
+has_at [] index asked asked_at = absurd (none-some asked asked_at)
+has_at (x ∷ xs) zero asked asked_at = or_left (nat_eq asked x) (has xs asked) (eq-eqb asked x (sym (same_Some x asked asked_at)))
+has_at (x ∷ xs) (suc index) asked asked_at = or_right (nat_eq asked x) (has xs asked) (has_at xs index asked asked_at)
 
 -- a list whose elements are each another one's image
-pub has_map : (f : ℕ → ℕ) (xs : List ℕ) (q : ℕ) → has (map f xs) q ≡ true → (x : ℕ) × (has xs x ≡ true) × (f x ≡ q)
-has_map f [] q is = absurd (false≢true is)
-has_map f (x ∷ xs) q is = ⊎_elim
-    (λ (here : nat_eq q (f x) ≡ true). (x, or_left (nat_eq x x) (has xs x) (eq-eqb x x refl), sym (eqb-true q (f x) here)))
-    (λ (later : has (map f xs) q ≡ true). let at = has_map f xs q later in (at.0, or_right (nat_eq at.0 x) (has xs at.0) at.1, at.2))
-    (or_cases (nat_eq q (f x)) (has (map f xs) q) is)
+pub has_map : (f : ℕ → ℕ) (xs : List ℕ) (image : ℕ) → has (map f xs) image ≡ true → (x : ℕ) × (has xs x ≡ true) × (f x ≡ image)
+has_map f [] image image_there = absurd (false≢true image_there)
+has_map f (x ∷ xs) image image_there = ⊎_elim
+    (λ (image_first : nat_eq image (f x) ≡ true). (x, or_left (nat_eq x x) (has xs x) (eq-eqb x x refl), sym (eqb-true image (f x) image_first)))
+    (λ (later : has (map f xs) image ≡ true). let found_later = has_map f xs image later in (found_later.0, or_right (nat_eq found_later.0 x) (has xs found_later.0) found_later.1, found_later.2))
+    (or_cases (nat_eq image (f x)) (has (map f xs) image) image_there)
 
 pub map_has : (f : ℕ → ℕ) (xs : List ℕ) (x : ℕ) → has xs x ≡ true → has (map f xs) (f x) ≡ true
-map_has f [] x is = absurd (false≢true is)
-map_has f (y ∷ xs) x is = ⊎_elim
-    (λ (here : nat_eq x y ≡ true). or_left (nat_eq (f x) (f y)) (has (map f xs) (f x)) (eq-eqb (f x) (f y) (ap f (eqb-true x y here))))
+map_has f [] x element_there = absurd (false≢true element_there)
+map_has f (y ∷ xs) x element_there = ⊎_elim
+    (λ (element_first : nat_eq x y ≡ true). or_left (nat_eq (f x) (f y)) (has (map f xs) (f x)) (eq-eqb (f x) (f y) (ap f (eqb-true x y element_first))))
     (λ (later : has xs x ≡ true). or_right (nat_eq (f x) (f y)) (has (map f xs) (f x)) (map_has f xs x later))
-    (or_cases (nat_eq x y) (has xs x) is)
+    (or_cases (nat_eq x y) (has xs x) element_there)
 
 -- a number of a range is in it
-pub range_has : (first n q : ℕ) → has (range_with_len first n) q ≡ true → (first ≤ q) × (q < first + n)
-range_has first zero q is = absurd (false≢true is)
-range_has first (suc n) q is = ⊎_elim
-    (λ (here : nat_eq q first ≡ true). let same = eqb-true q first here in (omega (arith, same), omega (arith, same)))
-    (λ (later : has (range_with_len (first + 1) n) q ≡ true). let at = range_has (first + 1) n q later in (omega (arith, at.0), omega (arith, at.1)))
-    (or_cases (nat_eq q first) (has (range_with_len (first + 1) n) q) is)
+pub range_has : (first count asked : ℕ) → has (range_with_len first count) asked ≡ true → (first ≤ asked) × (asked < first + count)
+range_has first zero asked asked_there = absurd (false≢true asked_there)
+range_has first (suc count) asked asked_there = ⊎_elim
+    (λ (asked_first : nat_eq asked first ≡ true). let same_number = eqb-true asked first asked_first in (omega (arith, same_number), omega (arith, same_number)))
+    (λ (later : has (range_with_len (first + 1) count) asked ≡ true). let found_later = range_has (first + 1) count asked later in (omega (arith, found_later.0), omega (arith, found_later.1)))
+    (or_cases (nat_eq asked first) (has (range_with_len (first + 1) count) asked) asked_there)
 
 -- no address comes twice
-distinct_one : (order : List ℕ) (a : ℕ) → IsDistinct nat_eq order → IsDistinct nat_eq (with_address order a)
-distinct_one order a once =
-    cond_both ((a == 0) || has order a) order (order ++ a ∷ []) (IsDistinct nat_eq) (λ _. once)
-    (λ e. IsDistinct-push nat_eq_equiv order a once (or_parts (a == 0) (has order a) e).1)
+distinct_one : (order : List ℕ) (address : ℕ) → IsDistinct nat_eq order → IsDistinct nat_eq (with_address order address)
+distinct_one order address distinct =
+    cond_both ((address == 0) || has order address) order (order ++ address ∷ []) (IsDistinct nat_eq) (λ _. distinct)
+    (λ not_held. IsDistinct-push nat_eq_equiv order address distinct (or_parts (address == 0) (has order address) not_held).1)
 
 distinct_all : (order words : List ℕ) → IsDistinct nat_eq order → IsDistinct nat_eq (with_addresses order words)
-distinct_all order [] once = once
-distinct_all order (a ∷ words) once = distinct_all (with_address order a) words (distinct_one order a once)
+distinct_all order [] distinct = distinct
+distinct_all order (address ∷ words) distinct = distinct_all (with_address order address) words (distinct_one order address distinct)
 
 -- an element of the front of a list
 front_get : (xs ys : List ℕ) (index : ℕ) → index < length xs → slice_get (xs ++ ys) index ≡ slice_get xs index
-front_get [] ys index below = absurd (omega (arith, below))
-front_get (x ∷ xs) ys zero below = refl
-front_get (x ∷ xs) ys (suc index) below = front_get xs ys index (omega (arith, below))
+front_get [] ys index index_below = absurd (omega (arith, index_below))
+front_get (x ∷ xs) ys zero index_below = refl
+front_get (x ∷ xs) ys (suc index) index_below = front_get xs ys index (omega (arith, index_below))
 
 -- past the end of a list there is nothing
 get_none : (xs : List ℕ) (index : ℕ) → length xs ≤ index → slice_get xs index ≡ None
-get_none [] index past = refl
-get_none (x ∷ xs) zero past = absurd (omega (arith, past))
-get_none (x ∷ xs) (suc index) past = get_none xs index (omega (arith, past))
+get_none [] index index_past = refl
+get_none (x ∷ xs) zero index_past = absurd (omega (arith, index_past))
+get_none (x ∷ xs) (suc index) index_past = get_none xs index (omega (arith, index_past))
 
 module _ (fields : ℕ → List ℕ) (roots : List ℕ) where
   abbrev found : ℕ → List ℕ
   found = found_in fields roots
 
-  abbrev grown : (n : ℕ) → Option ℕ → List ℕ
-  grown n o = with_fields fields (found n) o
+  abbrev grown : (turn : ℕ) → Option ℕ → List ℕ
+  grown turn taken = with_fields fields (found turn) taken
 
   -- a turn takes no address away
-  grown_keeps : (n : ℕ) (o : Option ℕ) (q : ℕ) → has (found n) q ≡ true → has (grown n o) q ≡ true
-  grown_keeps n None q is = is
-  grown_keeps n (Some a) q is = kept (found n) (fields a) q is
+  grown_keeps : (turn : ℕ) (taken : Option ℕ) (asked : ℕ) → has (found turn) asked ≡ true → has (grown turn taken) asked ≡ true
+  grown_keeps turn None asked asked_there = asked_there
+  grown_keeps turn (Some address) asked asked_there = kept (found turn) (fields address) asked asked_there
 
-  found_keeps : (index q : ℕ) → has (found index) q ≡ true → has (found (suc index)) q ≡ true
-  found_keeps index q is = ap (λ xs. has xs q) (found_next fields roots index) ∙ grown_keeps index (slice_get (found index) index) q is
+  found_keeps : (index asked : ℕ) → has (found index) asked ≡ true → has (found (suc index)) asked ≡ true
+  found_keeps index asked asked_there = ap (λ xs. has xs asked) (found_next fields roots index) ∙ grown_keeps index (slice_get (found index) index) asked asked_there
 
   -- and moves none
-  grown_prefix : (n : ℕ) (o : Option ℕ) → (more : List ℕ) × (grown n o ≡ found n ++ more)
-  grown_prefix n None = ([], sym (append-nil (found n)))
-  grown_prefix n (Some a) = prefix (found n) (fields a)
+  grown_prefix : (turn : ℕ) (taken : Option ℕ) → (added : List ℕ) × (grown turn taken ≡ found turn ++ added)
+  grown_prefix turn None = ([], sym (append-nil (found turn)))
+  grown_prefix turn (Some address) = prefix (found turn) (fields address)
 
-  found_stays : (other_index index : ℕ) → index < length (found other_index) → slice_get (found (suc other_index)) index ≡ slice_get (found other_index) index
-  found_stays other_index index below =
-      let p = grown_prefix other_index (slice_get (found other_index) other_index) in
-      ap (λ xs. slice_get xs index) (found_next fields roots other_index ∙ p.1) ∙ front_get (found other_index) p.0 index below
+  found_stays : (turn index : ℕ) → index < length (found turn) → slice_get (found (suc turn)) index ≡ slice_get (found turn) index
+  found_stays turn index index_below =
+      let added = grown_prefix turn (slice_get (found turn) turn) in
+      ap (λ xs. slice_get xs index) (found_next fields roots turn ∙ added.1) ∙ front_get (found turn) added.0 index index_below
 
   found_longer : (index : ℕ) → length (found index) ≤ length (found (suc index))
   found_longer index =
-      let p = grown_prefix index (slice_get (found index) index) in
-      omega (arith, ap length (found_next fields roots index ∙ p.1), length-append (found index) p.0)
+      let added = grown_prefix index (slice_get (found index) index) in
+      omega (arith, ap length (found_next fields roots index ∙ added.1), length-append (found index) added.0)
 
   -- the roots are found from the start
-  pub roots_found : (n q : ℕ) → q ≢ 0 → has roots q ≡ true → has (found n) q ≡ true
-  roots_found zero q other is = ap (λ xs. has xs q) (found_first fields roots) ∙ new [] roots q other is
-  roots_found (suc index) q other is = found_keeps index q (roots_found index q other is)
+  pub roots_found : (turn asked : ℕ) → asked ≢ 0 → has roots asked ≡ true → has (found turn) asked ≡ true
+  roots_found zero asked not_null asked_there = ap (λ xs. has xs asked) (found_first fields roots) ∙ new [] roots asked not_null asked_there
+  roots_found (suc index) asked not_null asked_there = found_keeps index asked (roots_found index asked not_null asked_there)
 
   -- no address twice
-  once_grown : (n : ℕ) (o : Option ℕ) → IsDistinct nat_eq (found n) → IsDistinct nat_eq (grown n o)
-  once_grown n None once = once
-  once_grown n (Some a) once = distinct_all (found n) (fields a) once
+  once_grown : (turn : ℕ) (taken : Option ℕ) → IsDistinct nat_eq (found turn) → IsDistinct nat_eq (grown turn taken)
+  once_grown turn None distinct = distinct
+  once_grown turn (Some address) distinct = distinct_all (found turn) (fields address) distinct
 
   found_once : (index : ℕ) → IsDistinct nat_eq (found index)
   found_once zero = subst (IsDistinct nat_eq) (sym (found_first fields roots)) (distinct_all [] roots (IsDistinct-from_apart nat_eq [] (λ i j d _ h. absurd (omega arith))))
   found_once (suc index) = subst (IsDistinct nat_eq) (sym (found_next fields roots index)) (once_grown index (slice_get (found index) index) (found_once index))
 
-  module _ (Held : ℕ → Type 0) (root_held : (q : ℕ) → q ≢ 0 → has roots q ≡ true → Held q) (field_held : (a q : ℕ) → Held a → q ≢ 0 → has (fields a) q ≡ true → Held q) where
+  module _ (Held : ℕ → Type 0) (root_held : (target : ℕ) → target ≢ 0 → has roots target ≡ true → Held target) (field_held : (holder target : ℕ) → Held holder → target ≢ 0 → has (fields holder) target ≡ true → Held target) where
     -- a turn finds only what is held
-    held_grown : (index : ℕ) (o : Option ℕ) → slice_get (found index) index ≡ o → ((q : ℕ) → has (found index) q ≡ true → Held q) → (q : ℕ) → has (grown index o) q ≡ true → Held q
-    held_grown index None at before q is = before q is
-    held_grown index (Some a) at before q is = ⊎_elim
-        (λ (old : has (found index) q ≡ true). before q old)
-        (λ (field : (q ≢ 0) × (has (fields a) q ≡ true)). field_held a q (before a (has_at (found index) index a at)) field.0 field.1)
-        (only (found index) (fields a) q is)
+    held_grown : (index : ℕ) (taken : Option ℕ) → slice_get (found index) index ≡ taken → ((asked : ℕ) → has (found index) asked ≡ true → Held asked) → (asked : ℕ) → has (grown index taken) asked ≡ true → Held asked
+    held_grown index None taken_at before asked asked_there = before asked asked_there
+    held_grown index (Some address) taken_at before asked asked_there = ⊎_elim
+        (λ (old : has (found index) asked ≡ true). before asked old)
+        (λ (field : (asked ≢ 0) × (has (fields address) asked ≡ true)). field_held address asked (before address (has_at (found index) index address taken_at)) field.0 field.1)
+        (only (found index) (fields address) asked asked_there)
 
     -- nothing else is found
-    pub found_held : (index q : ℕ) → has (found index) q ≡ true → Held q
-    found_held zero q is = ⊎_elim
-        (λ (none : has [] q ≡ true). absurd (false≢true none))
-        (λ (root : (q ≢ 0) × (has roots q ≡ true)). root_held q root.0 root.1)
-        (only [] roots q (sym (ap (λ xs. has xs q) (found_first fields roots)) ∙ is))
-    found_held (suc index) q is = held_grown index (slice_get (found index) index) refl (found_held index) q (sym (ap (λ xs. has xs q) (found_next fields roots index)) ∙ is)
+    pub found_held : (index asked : ℕ) → has (found index) asked ≡ true → Held asked
+    found_held zero asked asked_there = ⊎_elim
+        (λ (none_there : has [] asked ≡ true). absurd (false≢true none_there))
+        (λ (root : (asked ≢ 0) × (has roots asked ≡ true)). root_held asked root.0 root.1)
+        (only [] roots asked (sym (ap (λ xs. has xs asked) (found_first fields roots)) ∙ asked_there))
+    found_held (suc index) asked asked_there = held_grown index (slice_get (found index) index) refl (found_held index) asked (sym (ap (λ xs. has xs asked) (found_next fields roots index)) ∙ asked_there)
 
-    module _ (first size : ℕ) (inside : (q : ℕ) → Held q → (first ≤ q) × (q < first + size)) where
+    module _ (first size : ℕ) (inside : (asked : ℕ) → Held asked → (first ≤ asked) × (asked < first + size)) where
       -- so there are at most as many as the heap has addresses
       found_few : (index : ℕ) → length (found index) ≤ size
       found_few index =
           let few : length (found index) ≤ length (range_with_len first size) =
           length-le_from_is_member nat_eq_equiv (found index) (range_with_len first size) (found_once index)
-          (λ q is. let at = inside q (found_held index q is) in has-range first size q at.0 at.1) in
+          (λ asked asked_there. let inside_heap = inside asked (found_held index asked asked_there) in has-range first size asked inside_heap.0 inside_heap.1) in
           omega (arith, few, length-range_with_len first size)
 
       -- once every address had its turn, no turn changes anything
@@ -156,24 +156,24 @@ module _ (fields : ℕ → List ℕ) (roots : List ℕ) where
       past index short = found_next fields roots index ∙ ap (grown index) (get_none (found index) index short)
 
       -- the fields of what had its turn are found
-      turned : (other_index index a q : ℕ) → index < other_index → slice_get (found other_index) index ≡ Some a → q ≢ 0 → has (fields a) q ≡ true → has (found other_index) q ≡ true
-      turned zero index a q below is other field = absurd (omega (arith, below))
-      turned (suc other_index) index a q below is other field = ⊎_elim
-          (λ (within : index < length (found other_index)).
-          let was : slice_get (found other_index) index ≡ Some a = sym (found_stays other_index index within) ∙ is in
+      turned : (now_turn index address asked : ℕ) → index < now_turn → slice_get (found now_turn) index ≡ Some address → asked ≢ 0 → has (fields address) asked ≡ true → has (found now_turn) asked ≡ true
+      turned zero index address asked index_below address_at not_null field = absurd (omega (arith, index_below))
+      turned (suc now_turn) index address asked index_below address_at not_null field = ⊎_elim
+          (λ (within : index < length (found now_turn)).
+          let address_before : slice_get (found now_turn) index ≡ Some address = sym (found_stays now_turn index within) ∙ address_at in
           ⊎_elim
-          (λ (now : index ≡ other_index).
-          let turn : slice_get (found other_index) other_index ≡ Some a = ap (slice_get (found other_index)) (sym now) ∙ was in
-          ap (λ xs. has xs q) (found_next fields roots other_index ∙ ap (grown other_index) turn) ∙ new (found other_index) (fields a) q other field)
-          (λ (earlier : index ≢ other_index). found_keeps other_index q (turned other_index index a q (omega (arith, below, earlier)) was other field))
-          (cases_eq index other_index))
-          (λ (behind : length (found other_index) ≤ index).
-          let same = past other_index (omega (arith, behind, below)) in
-          absurd (let within = slice_get_within (found other_index) index a (sym (ap (λ xs. slice_get xs index) same) ∙ is) in omega (arith, within, behind)))
-          (cases_lt index (length (found other_index)))
+          (λ (this_turn : index ≡ now_turn).
+          let turn : slice_get (found now_turn) now_turn ≡ Some address = ap (slice_get (found now_turn)) (sym this_turn) ∙ address_before in
+          ap (λ xs. has xs asked) (found_next fields roots now_turn ∙ ap (grown now_turn) turn) ∙ new (found now_turn) (fields address) asked not_null field)
+          (λ (earlier : index ≢ now_turn). found_keeps now_turn asked (turned now_turn index address asked (omega (arith, index_below, earlier)) address_before not_null field))
+          (cases_eq index now_turn))
+          (λ (list_ended : length (found now_turn) ≤ index).
+          let same_found = past now_turn (omega (arith, list_ended, index_below)) in
+          absurd (let within = slice_get_within (found now_turn) index address (sym (ap (λ xs. slice_get xs index) same_found) ∙ address_at) in omega (arith, within, list_ended)))
+          (cases_lt index (length (found now_turn)))
 
       -- after as many turns as there are addresses, the fields of each address that was found are found
-      pub found_closed : (a q : ℕ) → has (found size) a ≡ true → q ≢ 0 → has (fields a) q ≡ true → has (found size) q ≡ true
-      found_closed a q is other field =
-          let at = index_of (found size) a is in
-          turned size at.0 a q (omega (arith, at.1, found_few size)) at.2 other field
+      pub found_closed : (address asked : ℕ) → has (found size) address ≡ true → asked ≢ 0 → has (fields address) asked ≡ true → has (found size) asked ≡ true
+      found_closed address asked address_there not_null field =
+          let found_index = index_of (found size) address address_there in
+          turned size found_index.0 address asked (omega (arith, found_index.1, found_few size)) found_index.2 not_null field

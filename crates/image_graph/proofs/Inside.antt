@@ -10,24 +10,24 @@ use Rattle.image_graph.specs.SeatBuffers.{IsInside, AreInside}
 
 -- a buffer's last word is of its region
 pub buffer_ends : (config : Config) (top : ℕ → ℕ) (block : Plot) (seat word : ℕ) (buffer : IsBuffer config top block seat word) → top buffer.region ≤ config.region_words → IsOf config buffer.region (end_in word - 1)
-buffer_ends config top block seat word buffer most = let low = buffer.some in let high = buffer.to_top in record { from = omega (arith, low); before = omega (arith, low, high, most) }
+buffer_ends config top block seat word buffer top_within = let low = buffer.some in let high = buffer.to_top in record { from = omega (arith, low); before = omega (arith, low, high, top_within) }
 
 pub buffer_region_is : (config : Config) (top : ℕ → ℕ) (block : Plot) (seat word : ℕ) (buffer : IsBuffer config top block seat word) → top buffer.region ≤ config.region_words → region_with config (end_in word - 1) ≡ buffer.region
-buffer_region_is config top block seat word buffer most = regions_tile.of_no_other config buffer.region (end_in word - 1) (buffer_ends config top block seat word buffer most)
+buffer_region_is config top block seat word buffer top_within = regions_tile.of_no_other config buffer.region (end_in word - 1) (buffer_ends config top block seat word buffer top_within)
 
 -- so it lies in one region of the heap
 pub buffer_inside : (config : Config) (top : ℕ → ℕ) (block : Plot) (seat word : ℕ) (buffer : IsBuffer config top block seat word) → top buffer.region ≤ config.region_words → IsInside config word
-buffer_inside config top block seat word buffer most =
-    let is = buffer_region_is config top block seat word buffer most in
+buffer_inside config top block seat word buffer top_within =
+    let same_region = buffer_region_is config top block seat word buffer top_within in
     let high = buffer.to_top in
     record {
-      region = subst (λ q. q < config.regions) (sym is) buffer.within;
-      from_base = subst (λ q. base_of config q ≤ next_in word) (sym is) buffer.from_base;
+      region = subst (λ region. region < config.regions) (sym same_region) buffer.within;
+      from_base = subst (λ region. base_of config region ≤ next_in word) (sym same_region) buffer.from_base;
       ordered = buffer.ordered;
-      to_end = subst (λ q. end_in word ≤ base_of config q + config.region_words) (sym is) (omega (arith, high, most));
+      to_end = subst (λ region. end_in word ≤ base_of config region + config.region_words) (sym same_region) (omega (arith, high, top_within));
     }
 
 pub buffers_inside : (config : Config) (memory : Word → ℕ) (block : Plot) → IsPlotted config (λ region. memory (Top region)) block → AreBuffers config (λ region. memory (Top region)) (λ seat. memory (Current seat)) block → AreInside config memory
-buffers_inside config memory block plotted buffers seat below some =
-    let b = buffers.each seat some in
-    buffer_inside config (λ region. memory (Top region)) block seat (memory (Current seat)) b (plotted.tops b.region b.within)
+buffers_inside config memory block plotted buffers seat seat_below has_buffer =
+    let buffer = buffers.each seat has_buffer in
+    buffer_inside config (λ region. memory (Top region)) block seat (memory (Current seat)) buffer (plotted.tops buffer.region buffer.within)

@@ -18,17 +18,17 @@ module _ (config : Config) (memory : Word → ℕ) (seat : ℕ) where
   abbrev gone : Word → ℕ
   gone = write freed (Current seat) 0
 
-  freed_current : (other : ℕ) → freed (Current other) ≡ memory (Current other)
-  freed_current other = if_at (is_last config memory (memory (Current seat))) (given_back config memory (memory (Current seat))) (filled_over memory (memory (Current seat))) (Current other) (memory (Current other))
-      (back_current config memory (memory (Current seat)) other) (filled_current memory (memory (Current seat)) other)
+  freed_current : (other_seat : ℕ) → freed (Current other_seat) ≡ memory (Current other_seat)
+  freed_current other_seat = if_at (is_last config memory (memory (Current seat))) (given_back config memory (memory (Current seat))) (filled_over memory (memory (Current seat))) (Current other_seat) (memory (Current other_seat))
+      (back_current config memory (memory (Current seat)) other_seat) (filled_current memory (memory (Current seat)) other_seat)
 
   -- another's buffer stays
-  pub turn_other : (other : ℕ) → seat ≢ other → let_go_at config memory seat (Current other) ≡ memory (Current other)
-  turn_other other differs = if_at (memory (Current seat) == 0) memory gone (Current other) (memory (Current other)) refl (other_current freed seat 0 other differs ∙ freed_current other)
+  pub turn_other : (other_seat : ℕ) → seat ≢ other_seat → let_go_at config memory seat (Current other_seat) ≡ memory (Current other_seat)
+  turn_other other_seat differs = if_at (memory (Current seat) == 0) memory gone (Current other_seat) (memory (Current other_seat)) refl (other_current freed seat 0 other_seat differs ∙ freed_current other_seat)
 
   by_case : (holds : Bool) → holds ≡ (memory (Current seat) == 0) → (if holds then memory else gone) (Current seat) ≡ 0
-  by_case true is = eqb-true (memory (Current seat)) 0 (sym is)
-  by_case false is = own_current freed seat 0
+  by_case true tested_word = eqb-true (memory (Current seat)) 0 (sym tested_word)
+  by_case false tested_word = own_current freed seat 0
 
   -- the seat has none
   pub turn_own : let_go_at config memory seat (Current seat) ≡ 0
@@ -36,23 +36,23 @@ module _ (config : Config) (memory : Word → ℕ) (seat : ℕ) where
 
 module _ (config : Config) (memory : Word → ℕ) where
   -- nor has who had a turn before
-  pub none_left : (n seat : ℕ) → seat < n → let_go_below config memory n (Current seat) ≡ 0
+  pub none_left : (turns seat : ℕ) → seat < turns → let_go_below config memory turns (Current seat) ≡ 0
   unfolding let_go_below
-  none_left zero seat below = absurd (omega (arith, below))
-  none_left (suc other_seat) seat below = ⊎_elim
-      (λ (same : seat ≡ other_seat). subst (λ seat. let_go_at config (let_go_below config memory other_seat) other_seat (Current seat) ≡ 0) (sym same) (turn_own config (let_go_below config memory other_seat) other_seat))
-      (λ (other : seat ≢ other_seat). turn_other config (let_go_below config memory other_seat) other_seat seat (λ same. other (sym same)) ∙ none_left other_seat seat (omega (arith, below, other)))
-      (cases_eq seat other_seat)
+  none_left zero seat seat_below = absurd (omega (arith, seat_below))
+  none_left (suc last_seat) seat seat_below = ⊎_elim
+      (λ (same_seat : seat ≡ last_seat). subst (λ seat. let_go_at config (let_go_below config memory last_seat) last_seat (Current seat) ≡ 0) (sym same_seat) (turn_own config (let_go_below config memory last_seat) last_seat))
+      (λ (seats_differ : seat ≢ last_seat). turn_other config (let_go_below config memory last_seat) last_seat seat (λ same_seat. seats_differ (sym same_seat)) ∙ none_left last_seat seat (omega (arith, seat_below, seats_differ)))
+      (cases_eq seat last_seat)
 
 -- Where nobody has a buffer there is none to let go.
-pub none_to_let_go : (config : Config) (memory : Word → ℕ) (other_seat : ℕ) → ((seat : ℕ) → seat < other_seat → memory (Current seat) ≡ 0) → let_go_below config memory other_seat ≡ memory
+pub none_to_let_go : (config : Config) (memory : Word → ℕ) (turns : ℕ) → ((seat : ℕ) → seat < turns → memory (Current seat) ≡ 0) → let_go_below config memory turns ≡ memory
 unfolding let_go_below
-none_to_let_go config memory zero none = refl
-none_to_let_go config memory (suc other_seat) none =
-    let before : let_go_below config memory other_seat ≡ memory = none_to_let_go config memory other_seat (λ seat below. none seat (omega (arith, below))) in
-    ap (λ (memory : Word → ℕ). let_go_at config memory other_seat) before
-    ∙ cond-true (memory (Current other_seat) == 0) memory (write (if is_last config memory (memory (Current other_seat)) then given_back config memory (memory (Current other_seat)) else filled_over memory (memory (Current other_seat))) (Current other_seat) 0)
-    (eq-eqb (memory (Current other_seat)) 0 (none other_seat (omega arith)))
+none_to_let_go config memory zero no_buffers = refl
+none_to_let_go config memory (suc turns) no_buffers =
+    let before : let_go_below config memory turns ≡ memory = none_to_let_go config memory turns (λ seat seat_below. no_buffers seat (omega (arith, seat_below))) in
+    ap (λ (memory : Word → ℕ). let_go_at config memory turns) before
+    ∙ cond-true (memory (Current turns) == 0) memory (write (if is_last config memory (memory (Current turns)) then given_back config memory (memory (Current turns)) else filled_over memory (memory (Current turns))) (Current turns) 0)
+    (eq-eqb (memory (Current turns)) 0 (no_buffers turns (omega arith)))
 
 pub letting_go_leaves : (config : Config) (memory : Word → ℕ) → LettingGoLeaves config memory
-letting_go_leaves config memory = λ seat below. none_left config memory (seat_count config.mutators config.helpers) seat below
+letting_go_leaves config memory = λ seat seat_below. none_left config memory (seat_count config.mutators config.helpers) seat seat_below

@@ -23,44 +23,44 @@ Usable config memory block = AreUsable config (memory Cset) (memory Evac) block 
 
 -- a word may be used still where objects stay
 usable_still : (config : Config) (cset evac : ℕ) (plot other_plot : Plot) → SameButLoose plot other_plot → (word : ℕ) → IsUsable config cset evac plot word → IsUsable config cset evac other_plot word
-usable_still config cset evac plot other_plot same word (inl null) = inl null
-usable_still config cset evac plot other_plot same word (inr at) = inr (at.0, at.1, at.2, record { piece = same.stays word (thing at.0 at.1 at.2) refl at.3.piece; safe = at.3.safe })
+usable_still config cset evac plot other_plot same_but_loose word (inl null) = inl null
+usable_still config cset evac plot other_plot same_but_loose word (inr target) = inr (target.0, target.1, target.2, record { piece = same_but_loose.stays word (thing target.0 target.1 target.2) refl target.3.piece; safe = target.3.safe })
 
 usable_of_roots : (config : Config) → IsOfRoots (Usable config)
 usable_of_roots config = record {
-  refits = λ memory top heap current block is. is;
-  stays = λ m plot w same is. λ mutator index below small. usable_still config (m Cset) (m Evac) plot w same (m (Root mutator index)) (is mutator index below small);
+  refits = λ memory top heap current block usable. usable;
+  stays = λ some_memory plot next_memory same_plot usable. λ mutator index index_below small. usable_still config (some_memory Cset) (some_memory Evac) plot next_memory same_plot (some_memory (Root mutator index)) (usable mutator index index_below small);
 }
 
 -- nothing is asked of them
-nothing_of_roots : IsOfRoots (λ m block. Unit {0})
-nothing_of_roots = record { refits = λ memory top heap current block is. is; stays = λ m u w same is. is }
+nothing_of_roots : IsOfRoots (λ some_memory block. Unit {0})
+nothing_of_roots = record { refits = λ memory top heap current block nothing_asked. nothing_asked; stays = λ some_memory plot next_plot same_plot nothing_asked. nothing_asked }
 
 pub settling_keeps : (config : Config) (memory : Word → ℕ) (graph : Graph) (asking : ℕ → Asking) → SettlingKeeps config memory graph asking
 settling_keeps config memory graph asking = record {
-  represents = λ r. settled_stands (Usable config) (usable_of_roots config) config graph asking memory r;
-  by_copies = λ r. settled_stands (λ k block. Unit {0}) nothing_of_roots config graph asking memory r;
+  represents = λ represented. settled_stands (Usable config) (usable_of_roots config) config graph asking memory represented;
+  by_copies = λ represented. settled_stands (λ some_memory block. Unit {0}) nothing_of_roots config graph asking memory represented;
 }
 
 pub letting_go_keeps : (config : Config) (memory : Word → ℕ) (graph : Graph) (asking : ℕ → Asking) → HasNoOtherBuffers config memory → LettingGoKeeps config memory graph asking
-letting_go_keeps config memory graph asking beyond = record {
-  represents = λ r. let_go_stands (Usable config) (usable_of_roots config) config graph asking memory beyond r;
-  by_copies = λ r. let_go_stands (λ k block. Unit {0}) nothing_of_roots config graph asking memory beyond r;
+letting_go_keeps config memory graph asking no_other_buffers = record {
+  represents = λ represented. let_go_stands (Usable config) (usable_of_roots config) config graph asking memory no_other_buffers represented;
+  by_copies = λ represented. let_go_stands (λ some_memory block. Unit {0}) nothing_of_roots config graph asking memory no_other_buffers represented;
 }
 
 -- Whatever seats there are, so it is but for buffers without free words.
 pub trimmed_copies : (config : Config) (memory : Word → ℕ) (graph : Graph) (asking : ℕ → Asking) → RepresentsByCopies config memory graph asking → RepresentsByCopies config (trim (let_go config memory)) graph asking
-trimmed_copies config memory graph asking represents_by_copies = let_go_trims (λ k block. Unit {0}) nothing_of_roots config graph asking memory represents_by_copies
+trimmed_copies config memory graph asking represents_by_copies = let_go_trims (λ some_memory block. Unit {0}) nothing_of_roots config graph asking memory represents_by_copies
 
 pub edges_divide : LastDivide
-edges_divide c m g asking r last = divided c m r.block r.shared.parsable.plotted (some_words c (λ region. m (Top region)) r.block r.shared.parsable r.shared.owned.rooms) r.shared.owned.buffers r.uncarved r.none
-    (λ a seat words is. r.shared.owned.rooms.seated a seat (spare seat words) is refl) last
+edges_divide config memory graph asking represents last_buffers = divided config memory represents.block represents.shared.parsable.plotted (some_words config (λ region. memory (Top region)) represents.block represents.shared.parsable represents.shared.owned.rooms) represents.shared.owned.buffers represents.uncarved represents.none
+    (λ address seat words spare_there. represents.shared.owned.rooms.seated address seat (spare seat words) spare_there refl) last_buffers
 
 pub none_have_room : NoneHaveRoom
-none_have_room c m g asking r none a seat x is room =
-    let free = only_spares r.block r.none r.uncarved a seat x is room in
-    let piece : r.block a ≡ Some (spare seat free.0) = is ∙ ap Some free.1 in
-    let end = (r.shared.owned.buffers.spares a seat free.0 piece).1 in
-    let long = r.shared.owned.rooms.spares a seat free.0 piece in
-    let zero_end = ap end_in (none seat (r.shared.owned.rooms.seated a seat x is room)) in
-    omega (arith, end, long, zero_end)
+none_have_room config memory graph asking represents no_buffers address seat seat_piece piece_there room =
+    let only_spare = only_spares represents.block represents.none represents.uncarved address seat seat_piece piece_there room in
+    let piece : represents.block address ≡ Some (spare seat only_spare.0) = piece_there ∙ ap Some only_spare.1 in
+    let end = (represents.shared.owned.buffers.spares address seat only_spare.0 piece).1 in
+    let spare_words = represents.shared.owned.rooms.spares address seat only_spare.0 piece in
+    let zero_end = ap end_in (no_buffers seat (represents.shared.owned.rooms.seated address seat seat_piece piece_there room)) in
+    omega (arith, end, spare_words, zero_end)

@@ -36,23 +36,23 @@ use Rattle.image_graph.specs.Holds.{HasMoved, HoldsBy, AreSized}
 -- what the graph reaches is reached with the promised objects, too
 pub reaches_more : (config : Config) (memory : Word → ℕ) (block : Plot) (owner : ℕ → Option ℕ) (promises : Promises) (graph : Graph) → HoldsBy config memory block owner promises graph
     → (name : Name) → IsReachable graph name → IsReachable (with_promised graph promises) name
-reaches_more config memory block owner promises graph holds name (reach.from_root thread root _ is) =
-    let at = holds.rooted.no_more_roots thread root name is in
-    reach.from_root thread root name (plain_root graph promises thread root at.3 ∙ is)
-reaches_more config memory block owner promises graph holds _ (reach.from_pin thread slot held is) =
-    let at = holds.rooted.no_more_pins thread slot held is in
-    reach.from_root thread (17 + slot) held.name (pin_root graph promises thread slot at.3 ∙ ap name_in is)
-reaches_more config memory block owner promises graph holds name (reach.from_field other_name _ field reached is) =
-    reach.from_field other_name name field (reaches_more config memory block owner promises graph holds other_name reached)
-    (ap (λ (object : Object). slice_get object.refs field) (old_object config.mutators graph promises holds.unreached other_name reached) ∙ is)
+reaches_more config memory block owner promises graph holds name (reach.from_root thread root _ leads) =
+    let stays_so = holds.rooted.no_more_roots thread root name leads in
+    reach.from_root thread root name (plain_root graph promises thread root stays_so.3 ∙ leads)
+reaches_more config memory block owner promises graph holds _ (reach.from_pin thread slot held_pin leads) =
+    let stays_so = holds.rooted.no_more_pins thread slot held_pin leads in
+    reach.from_root thread (17 + slot) held_pin.name (pin_root graph promises thread slot stays_so.3 ∙ ap name_in leads)
+reaches_more config memory block owner promises graph holds name (reach.from_field holder _ field reached leads) =
+    reach.from_field holder name field (reaches_more config memory block owner promises graph holds holder reached)
+    (ap (λ (object : Object). slice_get object.refs field) (old_object config.mutators graph promises holds.unreached holder reached) ∙ leads)
 
 module _ (config : Config) (memory : Word → ℕ) (block : Plot) (owner : ℕ → Option ℕ) (promises : Promises) (graph : Graph) (holds : HoldsBy config memory block owner promises graph)
-    (other_mutator other_region : ℕ) (inside : other_mutator < config.mutators) (waits : memory (Wait other_mutator) ≢ 0) (within : other_region < config.regions) (room : memory (Top other_region) + object_words (asked_shape memory other_mutator) ≤ config.region_words) where
+    (asker made_region : ℕ) (inside : asker < config.mutators) (waits : memory (Wait asker) ≢ 0) (within : made_region < config.regions) (room : memory (Top made_region) + object_words (asked_shape memory asker) ≤ config.region_words) where
   abbrev can : CanMake config memory block graph promises
   can = record { plotted = holds.objects.plotted; pieces = holds.pieces; rooted = holds.rooted }
 
-  asks : IsAsking memory graph promises other_mutator
-  asks = holds.asking other_mutator (omega arith) inside waits
+  asks : IsAsking memory graph promises asker
+  asks = holds.asking asker (omega arith) inside waits
 
   abbrev top : ℕ → ℕ
   top region = memory (Top region)
@@ -61,22 +61,22 @@ module _ (config : Config) (memory : Word → ℕ) (block : Plot) (owner : ℕ �
   heap address = memory (Heap address)
 
   abbrev memory_then : Word → ℕ
-  memory_then = made_in config memory other_mutator other_region
+  memory_then = made_in config memory asker made_region
 
   abbrev after : ℕ → ℕ
   after address = memory_then (Heap address)
 
   abbrev plot : Plot
-  plot = made_block config memory block other_mutator (Some other_region)
+  plot = made_block config memory block asker (Some made_region)
 
   abbrev more : Promises
-  more = made_promise memory promises other_mutator (Some other_region)
+  more = made_promise memory promises asker (Some made_region)
 
   abbrev address : ℕ
-  address = base_of config other_region + memory (Top other_region)
+  address = base_of config made_region + memory (Top made_region)
 
   abbrev piece : Block
-  piece = asked_piece memory other_mutator
+  piece = asked_piece memory asker
 
   abbrev IsLedWas : ℕ → Type 0
   IsLedWas = IsLedTo (now_in memory) heap (IsAmong (held_words config memory))
@@ -84,32 +84,32 @@ module _ (config : Config) (memory : Word → ℕ) (block : Plot) (owner : ℕ �
   abbrev IsLedNow : ℕ → Type 0
   IsLedNow = IsLedTo (now_in memory_then) after (IsAmong (held_words config memory_then))
 
-  shape_words : refs_in (asked_shape memory other_mutator) + nums_in (asked_shape memory other_mutator) + 3 ≡ words_of piece
+  shape_words : refs_in (asked_shape memory asker) + nums_in (asked_shape memory asker) + 3 ≡ words_of piece
   shape_words = omega arith
 
-  cases : (a : ℕ) (b : Block) → plot a ≡ Some b → ((a ≡ address) × (piece ≡ b)) ⊎ ((a ≢ address) × (block a ≡ Some b))
-  cases = made.cases config memory block graph promises can other_mutator other_region inside asks within room
+  cases : (asked_address : ℕ) (given_piece : Block) → plot asked_address ≡ Some given_piece → ((asked_address ≡ address) × (piece ≡ given_piece)) ⊎ ((asked_address ≢ address) × (block asked_address ≡ Some given_piece))
+  cases = made.cases config memory block graph promises can asker made_region inside asks within room
 
   stays : (address : ℕ) (piece : Block) → block address ≡ Some piece → plot address ≡ Some piece
-  stays = joined.stays config top block other_region (memory (Top other_region)) piece (made.can config memory block graph promises can other_mutator other_region inside asks within room)
+  stays = joined.stays config top block made_region (memory (Top made_region)) piece (made.can config memory block graph promises can asker made_region inside asks within room)
 
   names_stay : (address : ℕ) (name : Name) → name_at (block address) ≡ Some name → name_at (plot address) ≡ Some name
-  names_stay = made.names_stay config memory block graph promises can other_mutator other_region inside asks within room
+  names_stay = made.names_stay config memory block graph promises can asker made_region inside asks within room
 
-  old_word : (address k : ℕ) (piece : Block) → block address ≡ Some piece → k < words_of piece → after (address + k) ≡ heap (address + k)
-  old_word = made.old_word config memory block graph promises can other_mutator other_region inside asks within room
+  old_word : (address offset : ℕ) (piece : Block) → block address ≡ Some piece → offset < words_of piece → after (address + offset) ≡ heap (address + offset)
+  old_word = made.old_word config memory block graph promises can asker made_region inside asks within room
 
   -- the header of a piece stays, so that its current copy is where it was
   first_word : (address : ℕ) (piece : Block) → block address ≡ Some piece → after address ≡ heap address
-  first_word address piece is =
-      let first : address + 0 ≡ address = omega arith in
-      sym (ap after first) ∙ old_word address 0 piece is (holds.pieces.some address piece is) ∙ ap heap first
+  first_word address piece has_piece =
+      let same_address : address + 0 ≡ address = omega arith in
+      sym (ap after same_address) ∙ old_word address 0 piece has_piece (holds.pieces.some address piece has_piece) ∙ ap heap same_address
 
   header_stays : (address refs nums : ℕ) (name : Name) → block address ≡ Some (thing name refs nums) → after address ≡ heap address
-  header_stays address refs nums name is = first_word address (thing name refs nums) is
+  header_stays address refs nums name has_object = first_word address (thing name refs nums) has_object
 
   now_stays : (address refs nums : ℕ) (name : Name) → block address ≡ Some (thing name refs nums) → now_in memory_then address ≡ now_in memory address
-  now_stays address refs nums name is = ap (λ header. cond (is_forwarded header) (forwardee_in header) address) (header_stays address refs nums name is)
+  now_stays address refs nums name has_object = ap (λ header. cond (is_forwarded header) (forwardee_in header) address) (header_stays address refs nums name has_object)
 
   now_named : (word : ℕ) (name : Name) → name_at (block word) ≡ Some name → now_in memory_then word ≡ now_in memory word
   now_named word name named = let its_piece = holds.pieces.named word name named in now_stays word its_piece.0 its_piece.1 name its_piece.2
@@ -117,15 +117,15 @@ module _ (config : Config) (memory : Word → ℕ) (block : Plot) (owner : ℕ �
   -- the new object has not moved
   new_header : after address ≡ plain_header
   unfolding made_in
-  new_header = fresh_header address (asked_shape memory other_mutator) (name_code (other_mutator + 1) (request_count_in (memory (Wait other_mutator)))) (heap address)
+  new_header = fresh_header address (asked_shape memory asker) (name_code (asker + 1) (request_count_in (memory (Wait asker)))) (heap address)
 
-  new_shape : after (address + 1) ≡ asked_shape memory other_mutator
+  new_shape : after (address + 1) ≡ asked_shape memory asker
   unfolding made_in
-  new_shape = fresh_shape address (asked_shape memory other_mutator) (name_code (other_mutator + 1) (request_count_in (memory (Wait other_mutator)))) (heap (address + 1))
+  new_shape = fresh_shape address (asked_shape memory asker) (name_code (asker + 1) (request_count_in (memory (Wait asker)))) (heap (address + 1))
 
-  new_field : (i : ℕ) → i < refs_in (asked_shape memory other_mutator) → after (address + 3 + i) ≡ 0
+  new_field : (field : ℕ) → field < refs_in (asked_shape memory asker) → after (address + 3 + field) ≡ 0
   unfolding made_in
-  new_field i below = fresh_field address (asked_shape memory other_mutator) (name_code (other_mutator + 1) (request_count_in (memory (Wait other_mutator)))) (heap (address + 3 + i)) (address + 3 + i) (omega arith) (omega (arith, below))
+  new_field field field_below = fresh_field address (asked_shape memory asker) (name_code (asker + 1) (request_count_in (memory (Wait asker)))) (heap (address + 3 + field)) (address + 3 + field) (omega arith) (omega (arith, field_below))
 
   now_new : now_in memory_then address ≡ address
   now_new = cond-false (is_forwarded (after address)) (forwardee_in (after address)) address (ap is_forwarded new_header)
@@ -143,261 +143,261 @@ module _ (config : Config) (memory : Word → ℕ) (block : Plot) (owner : ℕ �
   unfolding made_in
   same_cset = refl
 
-  own_words : (memory_then (Wait other_mutator) ≡ 0) × (memory_then (Answer other_mutator) ≡ address)
+  own_words : (memory_then (Wait asker) ≡ 0) × (memory_then (Answer asker) ≡ address)
   unfolding made_in
-  own_words = (cond-true (other_mutator == other_mutator) 0 (memory (Wait other_mutator)) (eq-eqb other_mutator other_mutator refl), cond-true (other_mutator == other_mutator) address (memory (Answer other_mutator)) (eq-eqb other_mutator other_mutator refl))
+  own_words = (cond-true (asker == asker) 0 (memory (Wait asker)) (eq-eqb asker asker refl), cond-true (asker == asker) address (memory (Answer asker)) (eq-eqb asker asker refl))
 
-  other_words : (mutator : ℕ) → other_mutator ≢ mutator → (memory_then (Wait mutator) ≡ memory (Wait mutator)) × (memory_then (Answer mutator) ≡ memory (Answer mutator))
-  other_words = made.other_words config memory block graph promises can other_mutator other_region inside asks within room
+  other_words : (mutator : ℕ) → asker ≢ mutator → (memory_then (Wait mutator) ≡ memory (Wait mutator)) × (memory_then (Answer mutator) ≡ memory (Answer mutator))
+  other_words = made.other_words config memory block graph promises can asker made_region inside asks within room
 
   -- What is led to is the new object, or was led to.
   root_was : (mutator index : ℕ) → mutator < config.mutators → index < 16 → memory_then (Root mutator index) ≢ 0 → IsLedWas (now_in memory_then (memory_then (Root mutator index)))
-  root_was mutator index below few positive =
-      let same = same_root mutator index in
-      let other : memory (Root mutator index) ≢ 0 = λ none. positive (same ∙ none) in
-      let to = named_if_not_0 config top block holds.objects.plotted (memory (Root mutator index)) (graph.root (mutator + 1) index) (holds.rooted.roots mutator index below few) other in
-      subst IsLedWas (sym (ap (now_in memory_then) same ∙ now_named (memory (Root mutator index)) to.0 to.2))
-      (from_root (memory (Root mutator index)) (root_among config top memory block graph promises holds.objects.plotted holds.rooted mutator index below few) other)
+  root_was mutator index mutator_below few positive =
+      let kept_root = same_root mutator index in
+      let not_null : memory (Root mutator index) ≢ 0 = λ null_root. positive (kept_root ∙ null_root) in
+      let target = named_if_not_0 config top block holds.objects.plotted (memory (Root mutator index)) (graph.root (mutator + 1) index) (holds.rooted.roots mutator index mutator_below few) not_null in
+      subst IsLedWas (sym (ap (now_in memory_then) kept_root ∙ now_named (memory (Root mutator index)) target.0 target.2))
+      (from_root (memory (Root mutator index)) (root_among config top memory block graph promises holds.objects.plotted holds.rooted mutator index mutator_below few) not_null)
 
   answer_was : (mutator : ℕ) → mutator < config.mutators → 1 < memory_then (Answer mutator) → (now_in memory_then (memory_then (Answer mutator)) ≡ address) ⊎ IsLedWas (now_in memory_then (memory_then (Answer mutator)))
-  answer_was mutator below some = ⊎_elim
-      (λ (own : other_mutator ≡ mutator). inl (ap (λ mutator. now_in memory_then (memory_then (Answer mutator))) (sym own) ∙ ap (now_in memory_then) own_words.1 ∙ now_new))
-      (λ (another : other_mutator ≢ mutator).
-      let same = (other_words mutator another).1 in
-      let big : 1 < memory (Answer mutator) = subst (λ k. 1 < k) same some in
-      let to = roots.answer_names config top memory block graph promises holds.objects.plotted holds.rooted (memory (Answer mutator)) (promises.ref (mutator + 1)) big (holds.rooted.answers mutator below) in
-      inr (subst IsLedWas (sym (ap (now_in memory_then) same ∙ now_named (memory (Answer mutator)) to.0 to.2))
-      (from_root (memory (Answer mutator)) (answer_among config top memory block graph promises holds.objects.plotted holds.rooted mutator below big) (λ none. omega (arith, none, big)))))
-      (cases_eq other_mutator mutator)
+  answer_was mutator mutator_below has_answer = ⊎_elim
+      (λ (is_asker : asker ≡ mutator). inl (ap (λ mutator. now_in memory_then (memory_then (Answer mutator))) (sym is_asker) ∙ ap (now_in memory_then) own_words.1 ∙ now_new))
+      (λ (another : asker ≢ mutator).
+      let kept_answer = (other_words mutator another).1 in
+      let big : 1 < memory (Answer mutator) = subst (λ answer_value. 1 < answer_value) kept_answer has_answer in
+      let target = roots.answer_names config top memory block graph promises holds.objects.plotted holds.rooted (memory (Answer mutator)) (promises.ref (mutator + 1)) big (holds.rooted.answers mutator mutator_below) in
+      inr (subst IsLedWas (sym (ap (now_in memory_then) kept_answer ∙ now_named (memory (Answer mutator)) target.0 target.2))
+      (from_root (memory (Answer mutator)) (answer_among config top memory block graph promises holds.objects.plotted holds.rooted mutator mutator_below big) (λ null_answer. omega (arith, null_answer, big)))))
+      (cases_eq asker mutator)
 
   -- what a pin slot holds is an object
   pin_named : (mutator index : ℕ) → mutator < config.mutators → index < 4 → memory (Pin mutator index) ≢ 0 → (name : Name) × (name_at (block (memory (Pin mutator index))) ≡ Some name)
-  pin_named mutator index below few positive =
-      let stands = holds.rooted.pins mutator index below few in
-      let held = pin_some memory block (memory (Pin mutator index)) (graph.pin (mutator + 1) index) stands positive in
-      let copy = (pin_copy memory block (memory (Pin mutator index)) (graph.pin (mutator + 1) index) held.0 stands held.1).1 in
-      (held.0.name, ap name_at copy.2)
+  pin_named mutator index mutator_below few positive =
+      let stands = holds.rooted.pins mutator index mutator_below few in
+      let pin_held = pin_some memory block (memory (Pin mutator index)) (graph.pin (mutator + 1) index) stands positive in
+      let copy = (pin_copy memory block (memory (Pin mutator index)) (graph.pin (mutator + 1) index) pin_held.0 stands pin_held.1).1 in
+      (pin_held.0.name, ap name_at copy.2)
 
   pin_was : (mutator index : ℕ) → mutator < config.mutators → index < 4 → memory_then (Pin mutator index) ≢ 0 → IsLedWas (now_in memory_then (memory_then (Pin mutator index)))
-  pin_was mutator index below few positive =
-      let same = same_pin mutator index in
-      let other : memory (Pin mutator index) ≢ 0 = λ none. positive (same ∙ none) in
-      let to = pin_named mutator index below few other in
-      subst IsLedWas (sym (ap (now_in memory_then) same ∙ now_named (memory (Pin mutator index)) to.0 to.1))
-      (from_root (memory (Pin mutator index)) (pin_among config top memory block graph promises holds.objects.plotted holds.rooted mutator index below few) other)
+  pin_was mutator index mutator_below few positive =
+      let kept_pin = same_pin mutator index in
+      let not_null : memory (Pin mutator index) ≢ 0 = λ null_pin. positive (kept_pin ∙ null_pin) in
+      let target = pin_named mutator index mutator_below few not_null in
+      subst IsLedWas (sym (ap (now_in memory_then) kept_pin ∙ now_named (memory (Pin mutator index)) target.0 target.1))
+      (from_root (memory (Pin mutator index)) (pin_among config top memory block graph promises holds.objects.plotted holds.rooted mutator index mutator_below few) not_null)
 
   named_was : (word : ℕ) → IsAmong (root_words config memory_then) word → word ≢ 0 → (now_in memory_then word ≡ address) ⊎ IsLedWas (now_in memory_then word)
   named_was word among positive = ⊎_elim
       (λ (root : has (roots_below memory_then config.mutators) word ≡ true).
-      let at = root_in memory_then config.mutators word root in
-      inr (subst (λ k. IsLedWas (now_in memory_then k)) at.4 (root_was at.0 at.1 at.2 at.3 (λ none. positive (sym at.4 ∙ none)))))
+      let found_place = root_in memory_then config.mutators word root in
+      inr (subst (λ some_address. IsLedWas (now_in memory_then some_address)) found_place.4 (root_was found_place.0 found_place.1 found_place.2 found_place.3 (λ null_word. positive (sym found_place.4 ∙ null_word)))))
       (λ (answer : has (answers_below memory_then config.mutators) word ≡ true).
-      let at = answer_in memory_then config.mutators word answer in
-      subst (λ k. (now_in memory_then k ≡ address) ⊎ IsLedWas (now_in memory_then k)) at.3 (answer_was at.0 at.1 at.2))
+      let found_place = answer_in memory_then config.mutators word answer in
+      subst (λ some_address. (now_in memory_then some_address ≡ address) ⊎ IsLedWas (now_in memory_then some_address)) found_place.3 (answer_was found_place.0 found_place.1 found_place.2))
       (has_either (roots_below memory_then config.mutators) (answers_below memory_then config.mutators) word among)
 
   word_was : (word : ℕ) → IsAmong (held_words config memory_then) word → word ≢ 0 → (now_in memory_then word ≡ address) ⊎ IsLedWas (now_in memory_then word)
   word_was word among positive = ⊎_elim
       (λ (named : has (root_words config memory_then) word ≡ true). named_was word named positive)
       (λ (pin : has (pins_below memory_then config.mutators) word ≡ true).
-      let at = pin_in memory_then config.mutators word pin in
-      inr (subst (λ k. IsLedWas (now_in memory_then k)) at.4 (pin_was at.0 at.1 at.2 at.3 (λ none. positive (sym at.4 ∙ none)))))
+      let found_place = pin_in memory_then config.mutators word pin in
+      inr (subst (λ some_address. IsLedWas (now_in memory_then some_address)) found_place.4 (pin_was found_place.0 found_place.1 found_place.2 found_place.3 (λ null_word. positive (sym found_place.4 ∙ null_word)))))
       (has_either (root_words config memory_then) (pins_below memory_then config.mutators) word among)
 
-  field_was : (address i : ℕ) → IsLedWas address → i < refs_in (after (address + 1)) → after (address + 3 + i) ≢ 0 → IsLedWas (now_in memory_then (after (address + 3 + i)))
-  field_was address i led few positive =
-      let at = made_of address led in
-      let object = holds.objects.each address at.1 at.2 at.0 led at.3 in
-      let is = object.2 in
-      let reads : refs_in (heap (address + 1)) ≡ at.1 = ap refs_in is.shape ∙ refs_read at.1 at.2 is.few_refs is.few_nums in
-      let shape : after (address + 1) ≡ heap (address + 1) = old_word address 1 (thing at.0 at.1 at.2) at.3 (omega arith) in
-      let below : i < at.1 = subst (λ k. i < k) (ap refs_in shape ∙ reads) few in
-      let place : address + (3 + i) ≡ address + 3 + i = omega arith in
-      let same : after (address + 3 + i) ≡ heap (address + 3 + i) = sym (ap after place) ∙ old_word address (3 + i) (thing at.0 at.1 at.2) at.3 (omega (arith, below)) ∙ ap heap place in
-      let other : heap (address + 3 + i) ≢ 0 = λ none. positive (same ∙ none) in
-      let ref : Reference = get_or object.0.refs i None in
-      let there : slice_get object.0.refs i ≡ Some ref = slice_get-get_or object.0.refs i None (omega (arith, below, is.refs_are)) in
-      let to = named_if_not_0 config top block holds.objects.plotted (heap (address + 3 + i)) ref (is.references i ref there) other in
-      subst IsLedWas (sym (ap (now_in memory_then) same ∙ now_named (heap (address + 3 + i)) to.0 to.2)) (from_field address i led (omega (arith, below, reads)) other)
+  field_was : (address field : ℕ) → IsLedWas address → field < refs_in (after (address + 1)) → after (address + 3 + field) ≢ 0 → IsLedWas (now_in memory_then (after (address + 3 + field)))
+  field_was address field led few positive =
+      let piece_there = made_of address led in
+      let object = holds.objects.each address piece_there.1 piece_there.2 piece_there.0 led piece_there.3 in
+      let object_stands = object.2 in
+      let reads : refs_in (heap (address + 1)) ≡ piece_there.1 = ap refs_in object_stands.shape ∙ refs_read piece_there.1 piece_there.2 object_stands.few_refs object_stands.few_nums in
+      let shape : after (address + 1) ≡ heap (address + 1) = old_word address 1 (thing piece_there.0 piece_there.1 piece_there.2) piece_there.3 (omega arith) in
+      let field_below : field < piece_there.1 = subst (λ refs_count. field < refs_count) (ap refs_in shape ∙ reads) few in
+      let place : address + (3 + field) ≡ address + 3 + field = omega arith in
+      let same_field : after (address + 3 + field) ≡ heap (address + 3 + field) = sym (ap after place) ∙ old_word address (3 + field) (thing piece_there.0 piece_there.1 piece_there.2) piece_there.3 (omega (arith, field_below)) ∙ ap heap place in
+      let not_null : heap (address + 3 + field) ≢ 0 = λ null_field. positive (same_field ∙ null_field) in
+      let ref : Reference = get_or object.0.refs field None in
+      let field_there : slice_get object.0.refs field ≡ Some ref = slice_get-get_or object.0.refs field None (omega (arith, field_below, object_stands.refs_are)) in
+      let target = named_if_not_0 config top block holds.objects.plotted (heap (address + 3 + field)) ref (object_stands.references field ref field_there) not_null in
+      subst IsLedWas (sym (ap (now_in memory_then) same_field ∙ now_named (heap (address + 3 + field)) target.0 target.2)) (from_field address field led (omega (arith, field_below, reads)) not_null)
     where
-      made_of : (other_address : ℕ) → IsLedWas other_address → (name : Name) × (refs : ℕ) × (nums : ℕ) × (block other_address ≡ Some (thing name refs nums))
-      made_of other_address is = let at = reached.held_is_reached config top heap block (now_in memory) (IsAmong (held_words config memory)) (with_promised graph promises) holds.objects other_address is in (at.0, at.1, at.2, at.3)
+      made_of : (led_address : ℕ) → IsLedWas led_address → (name : Name) × (refs : ℕ) × (nums : ℕ) × (block led_address ≡ Some (thing name refs nums))
+      made_of led_address led = let held_object = reached.held_is_reached config top heap block (now_in memory) (IsAmong (held_words config memory)) (with_promised graph promises) holds.objects led_address led in (held_object.0, held_object.1, held_object.2, held_object.3)
 
-  led_was : (a : ℕ) → IsLedNow a → (a ≡ address) ⊎ IsLedWas a
-  led_was _ (from_root word among some) = word_was word among some
-  led_was _ (from_field other_address i led few some) = ⊎_elim
-      (λ (new : other_address ≡ address).
-      let shape : after (other_address + 1) ≡ asked_shape memory other_mutator = ap (λ k. after (k + 1)) new ∙ new_shape in
-      let below : i < refs_in (asked_shape memory other_mutator) = subst (λ k. i < k) (ap refs_in shape) few in
-      absurd (some (ap (λ k. after (k + 3 + i)) new ∙ new_field i below)))
-      (λ (was : IsLedWas other_address). inr (field_was other_address i was few some))
-      (led_was other_address led)
+  led_was : (asked_address : ℕ) → IsLedNow asked_address → (asked_address ≡ address) ⊎ IsLedWas asked_address
+  led_was _ (from_root word among some_word) = word_was word among some_word
+  led_was _ (from_field holder_address field led few some_word) = ⊎_elim
+      (λ (new : holder_address ≡ address).
+      let shape : after (holder_address + 1) ≡ asked_shape memory asker = ap (λ number. after (number + 1)) new ∙ new_shape in
+      let field_below : field < refs_in (asked_shape memory asker) = subst (λ number. field < number) (ap refs_in shape) few in
+      absurd (some_word (ap (λ number. after (number + 3 + field)) new ∙ new_field field field_below)))
+      (λ (led_before : IsLedWas holder_address). inr (field_was holder_address field led_before few some_word))
+      (led_was holder_address led)
 
-  led_old : (a : ℕ) → IsLedNow a → a ≢ address → IsLedWas a
-  led_old a led other = ⊎_elim (λ (new : a ≡ address). absurd (other new)) (λ (was : IsLedWas a). was) (led_was a led)
+  led_old : (asked_address : ℕ) → IsLedNow asked_address → asked_address ≢ address → IsLedWas asked_address
+  led_old asked_address led not_new = ⊎_elim (λ (new : asked_address ≡ address). absurd (not_new new)) (λ (led_before : IsLedWas asked_address). led_before) (led_was asked_address led)
 
   -- no object that is led to has the new name
-  not_old : (address refs nums : ℕ) (name : Name) → IsLedWas address → block address ≡ Some (thing name refs nums) → asked_name memory other_mutator ≡ name → ⊥
-  not_old address refs nums name led is same =
-      let o = holds.objects.each address refs nums name led is in
-      none-some o.0 (sym asks.new ∙ ap (with_promised graph promises).object same ∙ o.1)
+  not_old : (address refs nums : ℕ) (name : Name) → IsLedWas address → block address ≡ Some (thing name refs nums) → asked_name memory asker ≡ name → ⊥
+  not_old address refs nums name led has_object names_same =
+      let object = holds.objects.each address refs nums name led has_object in
+      none-some object.0 (sym asks.new ∙ ap (with_promised graph promises).object names_same ∙ object.1)
 
   current_again : (word : ℕ) (name : Name) → name_at (plot word) ≡ Some name → IsCopy plot (now_in memory_then word) name
   current_again word name named =
-      let at = made.named_again config memory block graph promises can other_mutator other_region inside asks within room word name named in
+      let copy_there = made.named_again config memory block graph promises can asker made_region inside asks within room word name named in
       ⊎_elim
-      (λ (new : (word ≡ address) × (piece ≡ thing name at.0 at.1)).
-      (at.0, at.1, ap (λ k. plot (now_in memory_then k)) new.0 ∙ ap plot (now_new ∙ sym new.0) ∙ at.2))
-      (λ (old : (word ≢ address) × (block word ≡ Some (thing name at.0 at.1))).
+      (λ (new : (word ≡ address) × (piece ≡ thing name copy_there.0 copy_there.1)).
+      (copy_there.0, copy_there.1, ap (λ some_address. plot (now_in memory_then some_address)) new.0 ∙ ap plot (now_new ∙ sym new.0) ∙ copy_there.2))
+      (λ (old : (word ≢ address) × (block word ≡ Some (thing name copy_there.0 copy_there.1))).
       let copy = holds.objects.current word name (ap name_at old.1) in
-      (copy.0, copy.1, ap plot (now_stays word at.0 at.1 name old.1) ∙ stays (now_in memory word) (thing name copy.0 copy.1) copy.2))
-      (cases word (thing name at.0 at.1) at.2)
+      (copy.0, copy.1, ap plot (now_stays word copy_there.0 copy_there.1 name old.1) ∙ stays (now_in memory word) (thing name copy.0 copy.1) copy.2))
+      (cases word (thing name copy_there.0 copy_there.1) copy_there.2)
 
   plotted_again : IsPlotted config (λ region. memory_then (Top region)) plot
   unfolding made_in
-  plotted_again = joined.plotted_more config top block other_region (memory (Top other_region)) piece (made.can config memory block graph promises can other_mutator other_region inside asks within room)
+  plotted_again = joined.plotted_more config top block made_region (memory (Top made_region)) piece (made.can config memory block graph promises can asker made_region inside asks within room)
 
   filled_again : IsFilled config (λ region. memory_then (Top region)) plot
   unfolding made_in
-  filled_again = joined.filled_more config top block other_region (memory (Top other_region)) piece (made.can config memory block graph promises can other_mutator other_region inside asks within room) holds.filled
+  filled_again = joined.filled_more config top block made_region (memory (Top made_region)) piece (made.can config memory block graph promises can asker made_region inside asks within room) holds.filled
 
   objects_again : HoldsGraph config (λ region. memory_then (Top region)) after plot (now_in memory_then) (IsAmong (held_words config memory_then)) (with_promised graph more)
   objects_again =
-      let rooted = made.rooted_more config memory block graph promises can other_mutator other_region inside asks within room in
+      let rooted = made.rooted_more config memory block graph promises can asker made_region inside asks within room in
       record {
         plotted = plotted_again;
         current = current_again;
-        each = λ other_address refs nums name led is. ⊎_elim
-            (λ (new : (other_address ≡ address) × (piece ≡ thing name refs nums)). made.new_piece config memory block graph promises can other_mutator other_region inside asks within room other_address refs nums name new)
-            (λ (old : (other_address ≢ address) × (block other_address ≡ Some (thing name refs nums))).
-            made.old_piece config memory block graph promises can other_mutator other_region inside asks within room other_address refs nums name old.1 (holds.objects.each other_address refs nums name (led_old other_address led old.0) old.1))
-            (cases other_address (thing name refs nums) is);
-        once = λ other_address b refs nums more_refs more_nums name led_a led_b is_a is_b. ⊎_elim
-            (λ (new_a : (other_address ≡ address) × (piece ≡ thing name refs nums)). ⊎_elim
-            (λ (new_b : (b ≡ address) × (piece ≡ thing name more_refs more_nums)). new_a.0 ∙ sym new_b.0)
-            (λ (old_b : (b ≢ address) × (block b ≡ Some (thing name more_refs more_nums))).
-            absurd (not_old b more_refs more_nums name (led_old b led_b old_b.0) old_b.1 (made.new_name config memory block graph promises can other_mutator other_region inside asks within room name refs nums new_a.1)))
-            (cases b (thing name more_refs more_nums) is_b))
-            (λ (old_a : (other_address ≢ address) × (block other_address ≡ Some (thing name refs nums))). ⊎_elim
-            (λ (new_b : (b ≡ address) × (piece ≡ thing name more_refs more_nums)).
-            absurd (not_old other_address refs nums name (led_old other_address led_a old_a.0) old_a.1 (made.new_name config memory block graph promises can other_mutator other_region inside asks within room name more_refs more_nums new_b.1)))
-            (λ (old_b : (b ≢ address) × (block b ≡ Some (thing name more_refs more_nums))).
-            holds.objects.once other_address b refs nums more_refs more_nums name (led_old other_address led_a old_a.0) (led_old b led_b old_b.0) old_a.1 old_b.1)
-            (cases b (thing name more_refs more_nums) is_b))
-            (cases other_address (thing name refs nums) is_a);
+        each = λ led_address refs nums name led stands. ⊎_elim
+            (λ (new : (led_address ≡ address) × (piece ≡ thing name refs nums)). made.new_piece config memory block graph promises can asker made_region inside asks within room led_address refs nums name new)
+            (λ (old : (led_address ≢ address) × (block led_address ≡ Some (thing name refs nums))).
+            made.old_piece config memory block graph promises can asker made_region inside asks within room led_address refs nums name old.1 (holds.objects.each led_address refs nums name (led_old led_address led old.0) old.1))
+            (cases led_address (thing name refs nums) stands);
+        once = λ led_address second_address refs nums second_refs second_nums name led_a led_b has_first has_second. ⊎_elim
+            (λ (new_a : (led_address ≡ address) × (piece ≡ thing name refs nums)). ⊎_elim
+            (λ (new_b : (second_address ≡ address) × (piece ≡ thing name second_refs second_nums)). new_a.0 ∙ sym new_b.0)
+            (λ (old_b : (second_address ≢ address) × (block second_address ≡ Some (thing name second_refs second_nums))).
+            absurd (not_old second_address second_refs second_nums name (led_old second_address led_b old_b.0) old_b.1 (made.new_name config memory block graph promises can asker made_region inside asks within room name refs nums new_a.1)))
+            (cases second_address (thing name second_refs second_nums) has_second))
+            (λ (old_a : (led_address ≢ address) × (block led_address ≡ Some (thing name refs nums))). ⊎_elim
+            (λ (new_b : (second_address ≡ address) × (piece ≡ thing name second_refs second_nums)).
+            absurd (not_old led_address refs nums name (led_old led_address led_a old_a.0) old_a.1 (made.new_name config memory block graph promises can asker made_region inside asks within room name second_refs second_nums new_b.1)))
+            (λ (old_b : (second_address ≢ address) × (block second_address ≡ Some (thing name second_refs second_nums))).
+            holds.objects.once led_address second_address refs nums second_refs second_nums name (led_old led_address led_a old_a.0) (led_old second_address led_b old_b.0) old_a.1 old_b.1)
+            (cases second_address (thing name second_refs second_nums) has_second))
+            (cases led_address (thing name refs nums) has_first);
         root_named = roots.root_named config (λ region. memory_then (Top region)) memory_then plot graph more plotted_again rooted;
         root_held = roots.root_held config (λ region. memory_then (Top region)) memory_then plot graph more plotted_again rooted;
-        pinless = λ thread slot held is. none-some held is;
+        pinless = λ thread slot held_pin stands. none-some held_pin stands;
       }
 
   moved_again : (address refs nums : ℕ) (name : Name) → plot address ≡ Some (thing name refs nums) → is_forwarded (after address) ≡ true → HasMoved config memory_then plot address refs nums name
-  moved_again a refs nums name is forwarded = ⊎_elim
-      (λ (new : (a ≡ address) × (piece ≡ thing name refs nums)).
-      absurd (true≢false (sym forwarded ∙ ap (λ k. is_forwarded (after k)) new.0 ∙ ap is_forwarded new_header)))
-      (λ (old : (a ≢ address) × (block a ≡ Some (thing name refs nums))).
-      let was = holds.moved a refs nums name old.1 (ap is_forwarded (sym (header_stays a refs nums name old.1)) ∙ forwarded) in
-      let now = now_stays a refs nums name old.1 in
+  moved_again asked_address refs nums name has_object forwarded = ⊎_elim
+      (λ (new : (asked_address ≡ address) × (piece ≡ thing name refs nums)).
+      absurd (true≢false (sym forwarded ∙ ap (λ some_address. is_forwarded (after some_address)) new.0 ∙ ap is_forwarded new_header)))
+      (λ (old : (asked_address ≢ address) × (block asked_address ≡ Some (thing name refs nums))).
+      let moved_before = holds.moved asked_address refs nums name old.1 (ap is_forwarded (sym (header_stays asked_address refs nums name old.1)) ∙ forwarded) in
+      let now_kept = now_stays asked_address refs nums name old.1 in
       record {
-        in_set = subst (λ s. IsIn s (region_with config a)) (sym same_cset) was.in_set;
-        copy = ap plot now ∙ stays (now_in memory a) (thing name refs nums) was.copy;
-        outside = subst (λ k. IsOutside (memory_then Cset) (region_with config k)) (sym now) (subst (λ s. IsOutside s (region_with config (now_in memory a))) (sym same_cset) was.outside);
-        current = ap (λ k. is_forwarded (after k)) now ∙ ap is_forwarded (header_stays (now_in memory a) refs nums name was.copy) ∙ was.current;
+        in_set = subst (λ cset. IsIn cset (region_with config asked_address)) (sym same_cset) moved_before.in_set;
+        copy = ap plot now_kept ∙ stays (now_in memory asked_address) (thing name refs nums) moved_before.copy;
+        outside = subst (λ some_address. IsOutside (memory_then Cset) (region_with config some_address)) (sym now_kept) (subst (λ cset. IsOutside cset (region_with config (now_in memory asked_address))) (sym same_cset) moved_before.outside);
+        current = ap (λ some_address. is_forwarded (after some_address)) now_kept ∙ ap is_forwarded (header_stays (now_in memory asked_address) refs nums name moved_before.copy) ∙ moved_before.current;
       })
-      (cases a (thing name refs nums) is)
+      (cases asked_address (thing name refs nums) has_object)
 
   free_again : IsFreeWord config (memory_then Free) (λ region. memory_then (Top region)) owner
   unfolding made_in
-  free_again = made.free_less config memory block graph promises can other_mutator other_region inside asks within room owner holds.free_word
+  free_again = made.free_less config memory block graph promises can asker made_region inside asks within room owner holds.free_word
 
   -- who waits still is another one
-  another_waits : (mutator : ℕ) → memory_then (Wait mutator) ≢ 0 → other_mutator ≢ mutator
-  another_waits mutator positive own = positive (ap (λ mutator. memory_then (Wait mutator)) (sym own) ∙ own_words.0)
+  another_waits : (mutator : ℕ) → memory_then (Wait mutator) ≢ 0 → asker ≢ mutator
+  another_waits mutator positive is_asker = positive (ap (λ mutator. memory_then (Wait mutator)) (sym is_asker) ∙ own_words.0)
 
   waits_before : (mutator : ℕ) → memory_then (Wait mutator) ≢ 0 → memory (Wait mutator) ≢ 0
-  waits_before mutator positive none = positive ((other_words mutator (another_waits mutator positive)).0 ∙ none)
+  waits_before mutator positive no_wait = positive ((other_words mutator (another_waits mutator positive)).0 ∙ no_wait)
 
   asking_again : AreAsking config memory_then graph more 0
-  asking_again u from below some =
-      made.other_asks config memory block graph promises can other_mutator other_region inside asks within room u (another_waits u some) (holds.asking u from below (waits_before u some))
+  asking_again mutator from mutator_below waits =
+      made.other_asks config memory block graph promises can asker made_region inside asks within room mutator (another_waits mutator waits) (holds.asking mutator from mutator_below (waits_before mutator waits))
 
   -- a promise is the new one, or was one
-  promise_was : (u : ℕ) (name : Name) → more.ref u ≡ Some name → ((u ≡ other_mutator + 1) × (name ≡ asked_name memory other_mutator)) ⊎ (promises.ref u ≡ Some name)
-  promise_was u name is = ⊎_elim
-      (λ (own : other_mutator + 1 ≡ u). inl (sym own, same_Some name (asked_name memory other_mutator) (sym is ∙ cond-true (other_mutator + 1 == u) (Some (asked_name memory other_mutator)) (promises.ref u) (eq-eqb (other_mutator + 1) u own))))
-      (λ (another : other_mutator + 1 ≢ u). inr (sym (cond-false (other_mutator + 1 == u) (Some (asked_name memory other_mutator)) (promises.ref u) (ne_eqb (other_mutator + 1) u another)) ∙ is))
-      (cases_eq (other_mutator + 1) u)
+  promise_was : (thread : ℕ) (name : Name) → more.ref thread ≡ Some name → ((thread ≡ asker + 1) × (name ≡ asked_name memory asker)) ⊎ (promises.ref thread ≡ Some name)
+  promise_was thread name promised = ⊎_elim
+      (λ (is_asker : asker + 1 ≡ thread). inl (sym is_asker, same_Some name (asked_name memory asker) (sym promised ∙ cond-true (asker + 1 == thread) (Some (asked_name memory asker)) (promises.ref thread) (eq-eqb (asker + 1) thread is_asker))))
+      (λ (another : asker + 1 ≢ thread). inr (sym (cond-false (asker + 1 == thread) (Some (asked_name memory asker)) (promises.ref thread) (ne_eqb (asker + 1) thread another)) ∙ promised))
+      (cases_eq (asker + 1) thread)
 
-  next_name : asked_name memory other_mutator ≡ fresh graph (other_mutator + 1)
-  next_name = ap (λ (k : ℕ). record { thread = other_mutator + 1; count = k }) (holds.next.asked other_mutator inside waits)
+  next_name : asked_name memory asker ≡ fresh graph (asker + 1)
+  next_name = ap (λ (count : ℕ). record { thread = asker + 1; count = count }) (holds.next.asked asker inside waits)
 
-  not_reached : IsReachable graph (asked_name memory other_mutator) → ⊥
+  not_reached : IsReachable graph (asked_name memory asker) → ⊥
   not_reached reached =
-      let at = reached_is_held config top heap block (now_in memory) (IsAmong (held_words config memory)) (with_promised graph promises) holds.objects (asked_name memory other_mutator)
-      (reaches_more config memory block owner promises graph holds (asked_name memory other_mutator) reached) in
-      not_old at.0 at.1 at.2 (asked_name memory other_mutator) at.3 at.4 refl
+      let held_object = reached_is_held config top heap block (now_in memory) (IsAmong (held_words config memory)) (with_promised graph promises) holds.objects (asked_name memory asker)
+      (reaches_more config memory block owner promises graph holds (asked_name memory asker) reached) in
+      not_old held_object.0 held_object.1 held_object.2 (asked_name memory asker) held_object.3 held_object.4 refl
 
   unreached_again : AreFresh config.mutators graph more
   unreached_again = record {
-    own = λ u name is. ⊎_elim
-        (λ (new : (u ≡ other_mutator + 1) × (name ≡ asked_name memory other_mutator)). ap (λ (name : Name). name.thread) new.1 ∙ sym new.0)
-        (λ (was : promises.ref u ≡ Some name). holds.unreached.own u name was)
-        (promise_was u name is);
-    few = λ u name is. ⊎_elim
-        (λ (new : (u ≡ other_mutator + 1) × (name ≡ asked_name memory other_mutator)). let at = new.0 in omega (arith, at, inside))
-        (λ (was : promises.ref u ≡ Some name). holds.unreached.few u name was)
-        (promise_was u name is);
-    fresh = λ u name is reached. ⊎_elim
-        (λ (new : (u ≡ other_mutator + 1) × (name ≡ asked_name memory other_mutator)). not_reached (subst (IsReachable graph) new.1 reached))
-        (λ (was : promises.ref u ≡ Some name). holds.unreached.fresh u name was reached)
-        (promise_was u name is);
+    own = λ thread name promised. ⊎_elim
+        (λ (new : (thread ≡ asker + 1) × (name ≡ asked_name memory asker)). ap (λ (name : Name). name.thread) new.1 ∙ sym new.0)
+        (λ (promised_before : promises.ref thread ≡ Some name). holds.unreached.own thread name promised_before)
+        (promise_was thread name promised);
+    few = λ thread name promised. ⊎_elim
+        (λ (new : (thread ≡ asker + 1) × (name ≡ asked_name memory asker)). let same_thread = new.0 in omega (arith, same_thread, inside))
+        (λ (promised_before : promises.ref thread ≡ Some name). holds.unreached.few thread name promised_before)
+        (promise_was thread name promised);
+    fresh = λ thread name promised reached. ⊎_elim
+        (λ (new : (thread ≡ asker + 1) × (name ≡ asked_name memory asker)). not_reached (subst (IsReachable graph) new.1 reached))
+        (λ (promised_before : promises.ref thread ≡ Some name). holds.unreached.fresh thread name promised_before reached)
+        (promise_was thread name promised);
   }
 
   -- no top falls
   rises : (region : ℕ) → memory (Top region) ≤ memory_then (Top region)
   unfolding made_in
   rises region = ⊎_elim
-      (λ (same : other_region ≡ region).
-      let now : memory_then (Top region) ≡ memory (Top other_region) + object_words (asked_shape memory other_mutator) = cond-true (other_region == region) (memory (Top other_region) + object_words (asked_shape memory other_mutator)) (memory (Top region)) (eq-eqb other_region region same) in
-      let was : memory (Top region) ≡ memory (Top other_region) = ap (λ region. memory (Top region)) (sym same) in
-      omega (arith, now, was))
-      (λ (other : other_region ≢ region). (let now : memory_then (Top region) ≡ memory (Top region) = cond-false (other_region == region) (memory (Top other_region) + object_words (asked_shape memory other_mutator)) (memory (Top region)) (ne_eqb other_region region other) in omega (arith, now)))
-      (cases_eq other_region region)
+      (λ (same_region : made_region ≡ region).
+      let new_top : memory_then (Top region) ≡ memory (Top made_region) + object_words (asked_shape memory asker) = cond-true (made_region == region) (memory (Top made_region) + object_words (asked_shape memory asker)) (memory (Top region)) (eq-eqb made_region region same_region) in
+      let old_top : memory (Top region) ≡ memory (Top made_region) = ap (λ region. memory (Top region)) (sym same_region) in
+      omega (arith, new_top, old_top))
+      (λ (regions_differ : made_region ≢ region). (let new_top : memory_then (Top region) ≡ memory (Top region) = cond-false (made_region == region) (memory (Top made_region) + object_words (asked_shape memory asker)) (memory (Top region)) (ne_eqb made_region region regions_differ) in omega (arith, new_top)))
+      (cases_eq made_region region)
 
   -- the free words of buffers are as their words tell
   buffers_again : AreBuffers config (λ region. memory_then (Top region)) (λ seat. memory_then (Current seat)) plot
   unfolding made_in
   buffers_again = buffers_stay config (λ region. memory (Top region)) (λ region. memory_then (Top region)) (λ seat. memory (Current seat)) block plot
       (record {
-        stays = λ address seat piece of is. stays address piece is;
-        came = λ other_address seat b of is. ⊎_elim
-            (λ (new : (other_address ≡ address) × (piece ≡ b)). absurd (none-some seat (ap room_of new.1 ∙ of)))
-            (λ (old : (other_address ≢ address) × (block other_address ≡ Some b)). old.1)
-            (cases other_address b is);
+        stays = λ address seat piece owned has_piece. stays address piece has_piece;
+        came = λ asked_address seat some_piece owned has_piece. ⊎_elim
+            (λ (new : (asked_address ≡ address) × (piece ≡ some_piece)). absurd (none-some seat (ap room_of new.1 ∙ owned)))
+            (λ (old : (asked_address ≢ address) × (block asked_address ≡ Some some_piece)). old.1)
+            (cases asked_address some_piece has_piece);
       })
-      holds.buffers (λ seat some. rises (holds.buffers.each seat some).region)
+      holds.buffers (λ seat has_buffer. rises (holds.buffers.each seat has_buffer).region)
 
   -- and the shared region may be carved
   share_again : ShareIsOpen config (memory_then Share) (memory_then Free) (memory_then Cset) owner
   unfolding made_in
-  share_again = share_stays config (memory Share) (memory Free) (memory Cset) other_region owner within holds.shared_one
+  share_again = share_stays config (memory Share) (memory Free) (memory Cset) made_region owner within holds.shared_one
 
   pub made_holds : HoldsBy config memory_then plot owner more graph
   made_holds = record {
     objects = objects_again;
-    rooted = made.rooted_more config memory block graph promises can other_mutator other_region inside asks within room;
+    rooted = made.rooted_more config memory block graph promises can asker made_region inside asks within room;
     moved = moved_again;
     filled = filled_again;
-    pieces = made.pieces_again config memory block graph promises can other_mutator other_region inside asks within room;
+    pieces = made.pieces_again config memory block graph promises can asker made_region inside asks within room;
     free_word = free_again;
     shared_one = share_again;
     buffers = buffers_again;
     asking = asking_again;
     next = record {
-      asked = λ mutator below some. ap request_count_in (other_words mutator (another_waits mutator some)).0 ∙ holds.next.asked mutator below (waits_before mutator some);
-      promised = λ seat name is. ⊎_elim
-          (λ (new : (seat ≡ other_mutator + 1) × (name ≡ asked_name memory other_mutator)). new.1 ∙ next_name ∙ ap (fresh graph) (sym new.0))
-          (λ (was : promises.ref seat ≡ Some name). holds.next.promised seat name was)
-          (promise_was seat name is);
+      asked = λ mutator mutator_below waits. ap request_count_in (other_words mutator (another_waits mutator waits)).0 ∙ holds.next.asked mutator mutator_below (waits_before mutator waits);
+      promised = λ seat name promised. ⊎_elim
+          (λ (new : (seat ≡ asker + 1) × (name ≡ asked_name memory asker)). new.1 ∙ next_name ∙ ap (fresh graph) (sym new.0))
+          (λ (promised_before : promises.ref seat ≡ Some name). holds.next.promised seat name promised_before)
+          (promise_was seat name promised);
       given = holds.next.given;
     };
     unreached = unreached_again;
@@ -405,18 +405,18 @@ module _ (config : Config) (memory : Word → ℕ) (block : Plot) (owner : ℕ �
 
   pub made_sized : AreSized memory block → AreSized memory_then plot
   made_sized sized = record {
-    objects = λ other_address other_piece is fixed. ⊎_elim
-        (λ (new : (other_address ≡ address) × (piece ≡ other_piece)). ap (λ k. object_words (after (k + 1))) new.0 ∙ ap object_words new_shape ∙ ap words_of new.1)
-        (λ (old : (other_address ≢ address) × (block other_address ≡ Some other_piece)).
-        let size = sized.objects other_address other_piece old.1 fixed in
-        ap object_words (old_word other_address 1 other_piece old.1 (omega (arith, size))) ∙ size)
-        (cases other_address other_piece is);
-    headers = λ other_address other_piece is fixed. ⊎_elim
-        (λ (new : (other_address ≡ address) × (piece ≡ other_piece)). ap (λ k. is_filler (after k)) new.0 ∙ ap is_filler new_header)
-        (λ (old : (other_address ≢ address) × (block other_address ≡ Some other_piece)). ap is_filler (first_word other_address other_piece old.1) ∙ sized.headers other_address other_piece old.1 fixed)
-        (cases other_address other_piece is);
-    fillers = λ other_address words is. ⊎_elim
-        (λ (new : (other_address ≡ address) × (piece ≡ filler words)). absurd (let differ = new.1 in cc))
-        (λ (old : (other_address ≢ address) × (block other_address ≡ Some (filler words))). first_word other_address (filler words) old.1 ∙ sized.fillers other_address words old.1)
-        (cases other_address (filler words) is);
+    objects = λ asked_address other_piece has_piece fixed. ⊎_elim
+        (λ (new : (asked_address ≡ address) × (piece ≡ other_piece)). ap (λ some_address. object_words (after (some_address + 1))) new.0 ∙ ap object_words new_shape ∙ ap words_of new.1)
+        (λ (old : (asked_address ≢ address) × (block asked_address ≡ Some other_piece)).
+        let size = sized.objects asked_address other_piece old.1 fixed in
+        ap object_words (old_word asked_address 1 other_piece old.1 (omega (arith, size))) ∙ size)
+        (cases asked_address other_piece has_piece);
+    headers = λ asked_address other_piece has_piece fixed. ⊎_elim
+        (λ (new : (asked_address ≡ address) × (piece ≡ other_piece)). ap (λ some_address. is_filler (after some_address)) new.0 ∙ ap is_filler new_header)
+        (λ (old : (asked_address ≢ address) × (block asked_address ≡ Some other_piece)). ap is_filler (first_word asked_address other_piece old.1) ∙ sized.headers asked_address other_piece old.1 fixed)
+        (cases asked_address other_piece has_piece);
+    fillers = λ asked_address words has_piece. ⊎_elim
+        (λ (new : (asked_address ≡ address) × (piece ≡ filler words)). absurd (let differ = new.1 in cc))
+        (λ (old : (asked_address ≢ address) × (block asked_address ≡ Some (filler words))). first_word asked_address (filler words) old.1 ∙ sized.fillers asked_address words old.1)
+        (cases asked_address (filler words) has_piece);
   }

@@ -11,15 +11,15 @@ use Rattle.image_graph.specs.LetGo.{given_back}
 
 -- of two memories, whichever, a word is the same where it is in both
 pub if_at : (holds : Bool) (memory other_memory : Word → ℕ) (word : Word) (value : ℕ) → memory word ≡ value → other_memory word ≡ value → (if holds then memory else other_memory) word ≡ value
-if_at true memory other_memory word value one other = one
-if_at false memory other_memory word value one other = other
+if_at true memory other_memory word value first_value second_value = first_value
+if_at false memory other_memory word value first_value second_value = second_value
 
 -- a buffer word is the one that was written, or as it was
 pub own_current : (memory : Word → ℕ) (seat value : ℕ) → write memory (Current seat) value (Current seat) ≡ value
 own_current memory seat value = cond-true (seat == seat) value (memory (Current seat)) (eq-eqb seat seat refl)
 
-pub other_current : (memory : Word → ℕ) (seat value other : ℕ) → seat ≢ other → write memory (Current seat) value (Current other) ≡ memory (Current other)
-other_current memory seat value other differs = cond-false (seat == other) value (memory (Current other)) (ne_eqb seat other differs)
+pub other_current : (memory : Word → ℕ) (seat value other_seat : ℕ) → seat ≢ other_seat → write memory (Current seat) value (Current other_seat) ≡ memory (Current other_seat)
+other_current memory seat value other_seat differs = cond-false (seat == other_seat) value (memory (Current other_seat)) (ne_eqb seat other_seat differs)
 
 -- Filling changes no word but those of the heap.
 pub filled_top : (memory : Word → ℕ) (word region : ℕ) → filled_over memory word (Top region) ≡ memory (Top region)
@@ -34,4 +34,4 @@ back_current config memory word seat = refl
 
 -- whether a buffer is the last depends on tops alone
 pub last_same : (config : Config) (memory other_memory : Word → ℕ) (word : ℕ) → ((region : ℕ) → other_memory (Top region) ≡ memory (Top region)) → is_last config other_memory word ≡ is_last config memory word
-last_same config memory other_memory word tops = ap (λ t. end_in word == base_of config (buffer_region config word) + t) (tops (buffer_region config word))
+last_same config memory other_memory word tops = ap (λ top. end_in word == base_of config (buffer_region config word) + top) (tops (buffer_region config word))

@@ -13,26 +13,26 @@ use Rattle.regions.specs.Table.{word_of, kept_of, place_of, now_of, LeadsToKept,
 use Rattle.image_graph.specs.PackedTable.{IsPacked}
 
 -- what stands behind a front of a list
-drop_front : (xs ys : List ℕ) (n : ℕ) → length xs ≡ n → drop n (xs ++ ys) ≡ ys
-drop_front [] ys zero is = refl
-drop_front [] ys (suc n) is = absurd (omega (arith, is))
-drop_front (x ∷ xs) ys zero is = absurd (omega (arith, is))
-drop_front (x ∷ xs) ys (suc n) is = drop_front xs ys n (omega (arith, is))
+drop_front : (xs ys : List ℕ) (count : ℕ) → length xs ≡ count → drop count (xs ++ ys) ≡ ys
+drop_front [] ys zero same_length = refl
+drop_front [] ys (suc count) same_length = absurd (omega (arith, same_length))
+drop_front (x ∷ xs) ys zero same_length = absurd (omega (arith, same_length))
+drop_front (x ∷ xs) ys (suc count) same_length = drop_front xs ys count (omega (arith, same_length))
 
 -- a front, where something stands behind it
-take_front : (xs ys : List ℕ) (n : ℕ) → length xs ≡ n → take n (xs ++ ys) ≡ xs
-take_front [] ys zero is = refl
-take_front [] ys (suc n) is = absurd (omega (arith, is))
-take_front (x ∷ xs) ys zero is = absurd (omega (arith, is))
-take_front (x ∷ xs) ys (suc n) is = ap (λ k. x ∷ k) (take_front xs ys n (omega (arith, is)))
+take_front : (xs ys : List ℕ) (count : ℕ) → length xs ≡ count → take count (xs ++ ys) ≡ xs
+take_front [] ys zero same_length = refl
+take_front [] ys (suc count) same_length = absurd (omega (arith, same_length))
+take_front (x ∷ xs) ys zero same_length = absurd (omega (arith, same_length))
+take_front (x ∷ xs) ys (suc count) same_length = ap (λ taken. x ∷ taken) (take_front xs ys count (omega (arith, same_length)))
 
 -- the heap of a table: so many words behind its start
 pub heap_part : (config : Config) (words : List ℕ) → heap_in config words ≡ take (heap_size config) (drop (heap_start config) words)
-heap_part config words = let long : heap_start config + heap_size config - heap_start config ≡ heap_size config = omega arith in ap (λ k. take k (drop (heap_start config) words)) long
+heap_part config words = let same_size : heap_start config + heap_size config - heap_start config ≡ heap_size config = omega arith in ap (λ size. take size (drop (heap_start config) words)) same_size
 
-module _ (config : Config) (marks : List Bool) (before low heap behind tops after_heap places : List ℕ) (whole : length before ≡ table_words config)
+module _ (config : Config) (marks : List Bool) (before low heap behind tops after_heap places : List ℕ) (whole_table : length before ≡ table_words config)
     (low_is : low ≡ take (heap_start config) before) (heap_is : heap ≡ take (heap_size config) (drop (heap_start config) before)) (behind_is : behind ≡ drop (heap_size config) (drop (heap_start config) before))
-    (few : length tops ≡ config.regions) (all : length after_heap ≡ length heap) where
+    (few : length tops ≡ config.regions) (same_length : length after_heap ≡ length heap) where
   abbrev top : ℕ
   top = word_at config (Top 0)
 
@@ -43,18 +43,18 @@ module _ (config : Config) (marks : List Bool) (before low heap behind tops afte
   after = front ++ (after_heap ++ behind)
 
   low_long : length low ≡ heap_start config
-  low_long = ap length low_is ∙ length-take-le (heap_start config) before (omega (arith, whole))
+  low_long = ap length low_is ∙ length-take-le (heap_start config) before (omega (arith, whole_table))
 
   heap_before : heap ≡ heap_in config before
   heap_before = heap_is ∙ sym (heap_part config before)
 
   heap_long : length heap ≡ heap_size config
   heap_long =
-      let rest : heap_size config ≤ length (drop (heap_start config) before) = omega (arith, length-drop (heap_start config) before, whole) in
+      let rest : heap_size config ≤ length (drop (heap_start config) before) = omega (arith, length-drop (heap_start config) before, whole_table) in
       ap length heap_is ∙ length-take-le (heap_size config) (drop (heap_start config) before) rest
 
   behind_long : length behind ≡ 1 + 4 * config.mutators
-  behind_long = omega (arith, ap length behind_is, length-drop (heap_size config) (drop (heap_start config) before), length-drop (heap_start config) before, whole)
+  behind_long = omega (arith, ap length behind_is, length-drop (heap_size config) (drop (heap_start config) before), length-drop (heap_start config) before, whole_table)
 
   front_long : length front ≡ heap_start config
   front_long =
@@ -70,55 +70,55 @@ module _ (config : Config) (marks : List Bool) (before low heap behind tops afte
       )
 
   pub after_long : length after ≡ table_words config
-  after_long = omega (arith, length-append front (after_heap ++ behind), length-append after_heap behind, front_long, all, heap_long, behind_long)
+  after_long = omega (arith, length-append front (after_heap ++ behind), length-append after_heap behind, front_long, same_length, heap_long, behind_long)
 
   heap_after : heap_in config after ≡ after_heap
   heap_after =
       heap_part config after ∙ ap (take (heap_size config)) (drop_front front (after_heap ++ behind) (heap_start config) front_long)
-      ∙ take_front after_heap behind (heap_size config) (omega (arith, all, heap_long))
+      ∙ take_front after_heap behind (heap_size config) (omega (arith, same_length, heap_long))
 
   low_word : (index : ℕ) → index < heap_start config → get_or low index 0 ≡ get_or before index 0
-  low_word index below = ap (λ xs. get_or xs index 0) low_is ∙ get_or-take (heap_start config) before index 0 below
+  low_word index index_below = ap (λ xs. get_or xs index 0) low_is ∙ get_or-take (heap_start config) before index 0 index_below
 
   front_word : (index : ℕ) → index < heap_start config → get_or after index 0 ≡ get_or front index 0
-  front_word index below = get_or_append_left front (after_heap ++ behind) 0 index (omega (arith, below, front_long))
+  front_word index index_below = get_or_append_left front (after_heap ++ behind) 0 index (omega (arith, index_below, front_long))
 
   top_word : (region : ℕ) → region < config.regions → get_or after (word_at config (Top region)) 0 ≡ get_or tops region 0
   top_word region inside =
-      let part : between top (top + config.regions) front ≡ tops =
+      let tops_there : between top (top + config.regions) front ≡ tops =
       between-put_mid top config.regions low tops (top + config.regions) (omega (arith, low_long)) (omega (arith, few)) in
-      let at : word_at config (Top region) ≡ top + region = omega arith in
-      ap (λ index. get_or after index 0) at
+      let same_word : word_at config (Top region) ≡ top + region = omega arith in
+      ap (λ index. get_or after index 0) same_word
       ∙ front_word (top + region) (omega (arith, inside))
       ∙ sym (get_or-between front top (top + config.regions) region 0 (omega (arith, inside)))
-      ∙ ap (λ xs. get_or xs region 0) part
+      ∙ ap (λ xs. get_or xs region 0) tops_there
 
   other_word : (index : ℕ) → index < heap_start config → (index < top) ⊎ (top + config.regions ≤ index) → get_or after index 0 ≡ get_or before index 0
-  other_word index below (inl lower) =
-      front_word index below
+  other_word index index_below (inl lower) =
+      front_word index index_below
       ∙ sym (get_or-take top front index 0 lower)
       ∙ ap (λ xs. get_or xs index 0) (take-put_mid_below top config.regions low tops top (omega arith) (omega (arith, low_long)))
       ∙ get_or-take top low index 0 lower
-      ∙ low_word index below
-  other_word index below (inr behind) =
-      let here : index + 0 ≡ index = omega arith in
-      front_word index below
-      ∙ ap (λ index. get_or front index 0) (sym here)
+      ∙ low_word index index_below
+  other_word index index_below (inr index_behind) =
+      let same_index : index + 0 ≡ index = omega arith in
+      front_word index index_below
+      ∙ ap (λ index. get_or front index 0) (sym same_index)
       ∙ sym (get_or-drop index front 0 0)
-      ∙ ap (λ xs. get_or xs 0 0) (drop-put_mid top config.regions low tops index behind (omega (arith, low_long)) few)
+      ∙ ap (λ xs. get_or xs 0 0) (drop-put_mid top config.regions low tops index index_behind (omega (arith, low_long)) few)
       ∙ get_or-drop index low 0 0
-      ∙ ap (λ index. get_or low index 0) here
-      ∙ low_word index below
+      ∙ ap (λ index. get_or low index 0) same_index
+      ∙ low_word index index_below
 
   -- what stands behind the heap
   behind_word : (index : ℕ) → heap_start config + heap_size config ≤ index → get_or after index 0 ≡ get_or before index 0
-  behind_word index past =
-      let start : heap_start config + (heap_size config + (index - heap_start config - heap_size config)) ≡ index = omega (arith, past) in
+  behind_word index index_past =
+      let start : heap_start config + (heap_size config + (index - heap_start config - heap_size config)) ≡ index = omega (arith, index_past) in
       ap (λ index. get_or after index 0) (sym start)
       ∙ sym (get_or-drop (heap_start config) after (heap_size config + (index - heap_start config - heap_size config)) 0)
       ∙ ap (λ xs. get_or xs (heap_size config + (index - heap_start config - heap_size config)) 0) (drop_front front (after_heap ++ behind) (heap_start config) front_long)
       ∙ sym (get_or-drop (heap_size config) (after_heap ++ behind) (index - heap_start config - heap_size config) 0)
-      ∙ ap (λ xs. get_or xs (index - heap_start config - heap_size config) 0) (drop_front after_heap behind (heap_size config) (omega (arith, all, heap_long)) ∙ behind_is)
+      ∙ ap (λ xs. get_or xs (index - heap_start config - heap_size config) 0) (drop_front after_heap behind (heap_size config) (omega (arith, same_length, heap_long)) ∙ behind_is)
       ∙ get_or-drop (heap_size config) (drop (heap_start config) before) (index - heap_start config - heap_size config) 0
       ∙ get_or-drop (heap_start config) before (heap_size config + (index - heap_start config - heap_size config)) 0
       ∙ ap (λ index. get_or before index 0) start
@@ -126,8 +126,8 @@ module _ (config : Config) (marks : List Bool) (before low heap behind tops afte
   -- the tops as they were
   old_top : (region : ℕ) → region < config.regions → get_or (between top (top + config.regions) low) region 0 ≡ get_or before (word_at config (Top region)) 0
   old_top region inside =
-      let at : top + region ≡ word_at config (Top region) = omega arith in
-      get_or-between low top (top + config.regions) region 0 (omega (arith, inside)) ∙ low_word (top + region) (omega (arith, inside)) ∙ ap (λ index. get_or before index 0) at
+      let same_word : top + region ≡ word_at config (Top region) = omega arith in
+      get_or-between low top (top + config.regions) region 0 (omega (arith, inside)) ∙ low_word (top + region) (omega (arith, inside)) ∙ ap (λ index. get_or before index 0) same_word
 
   -- what packing the slices says, of the table
   pub packed_from : (shut : ℕ → Bool) (region_words : ℕ) (old_tops : List ℕ) → region_words ≡ config.region_words
@@ -136,20 +136,20 @@ module _ (config : Config) (marks : List Bool) (before low heap behind tops afte
       → ((word : ℕ) → LeadsToKept region_words heap marks word → IsRenewedBy region_words shut heap marks places word)
       → old_tops ≡ between top (top + config.regions) low
       → IsPacked config shut marks before after places
-  packed_from shut region_words old_tops w_is slid tops_are renews old =
-      let Slid : ℕ → List ℕ → ℕ → List ℕ → Type 0 = λ v h n more. IsSlidTo (v + n) v (place_of v shut h marks) (kept_of v h marks) (renewed (place_of v shut h marks) (now_of v h)) (word_of v h) (word_of v more) in
-      let Tops : ℕ → List ℕ → ℕ → Type 0 = λ v h n. (index : ℕ) → index < length tops → slice_index tops index ≡ cond (shut (index + 1)) (slice_index old_tops index) (top_before v shut (kept_of v h marks) index (v + n)) in
-      let Renews : ℕ → List ℕ → Type 0 = λ v h. (word : ℕ) → LeadsToKept v h marks word → IsRenewedBy v shut h marks places word in
+  packed_from shut region_words old_tops words_same slid tops_are renews old =
+      let Slid : ℕ → List ℕ → ℕ → List ℕ → Type 0 = λ row_words heap_list size slid_words. IsSlidTo (row_words + size) row_words (place_of row_words shut heap_list marks) (kept_of row_words heap_list marks) (renewed (place_of row_words shut heap_list marks) (now_of row_words heap_list)) (word_of row_words heap_list) (word_of row_words slid_words) in
+      let Tops : ℕ → List ℕ → ℕ → Type 0 = λ row_words heap_list size. (index : ℕ) → index < length tops → slice_index tops index ≡ cond (shut (index + 1)) (slice_index old_tops index) (top_before row_words shut (kept_of row_words heap_list marks) index (row_words + size)) in
+      let Renews : ℕ → List ℕ → Type 0 = λ row_words heap_list. (word : ℕ) → LeadsToKept row_words heap_list marks word → IsRenewedBy row_words shut heap_list marks places word in
       let tops_now : Tops config.region_words (heap_in config before) (heap_size config) =
-      subst (λ v. Tops v (heap_in config before) (heap_size config)) w_is (subst (λ h. Tops region_words h (heap_size config)) heap_before (subst (λ n. Tops region_words heap n) heap_long tops_are)) in
+      subst (λ row_words. Tops row_words (heap_in config before) (heap_size config)) words_same (subst (λ heap_list. Tops region_words heap_list (heap_size config)) heap_before (subst (λ size. Tops region_words heap size) heap_long tops_are)) in
       record {
-        slid = subst (λ v. Slid v (heap_in config before) (heap_size config) (heap_in config after)) w_is
-            (subst (λ more. Slid region_words (heap_in config before) (heap_size config) more) (sym heap_after)
-            (subst (λ h. Slid region_words h (heap_size config) after_heap) heap_before (subst (λ n. Slid region_words heap n after_heap) heap_long slid)));
+        slid = subst (λ row_words. Slid row_words (heap_in config before) (heap_size config) (heap_in config after)) words_same
+            (subst (λ slid_words. Slid region_words (heap_in config before) (heap_size config) slid_words) (sym heap_after)
+            (subst (λ heap_list. Slid region_words heap_list (heap_size config) after_heap) heap_before (subst (λ size. Slid region_words heap size after_heap) heap_long slid)));
         tops = λ index inside. top_word index inside ∙ tops_now index (omega (arith, inside, few))
-            ∙ ap (λ k. cond (shut (index + 1)) k (top_before config.region_words shut (kept_of config.region_words (heap_in config before) marks) index (config.region_words + heap_size config)))
+            ∙ ap (λ old_word. cond (shut (index + 1)) old_word (top_before config.region_words shut (kept_of config.region_words (heap_in config before) marks) index (config.region_words + heap_size config)))
             (ap (λ (xs : List ℕ). get_or xs index 0) old ∙ old_top index inside);
         others = other_word;
         behind = behind_word;
-        renews = subst (λ v. Renews v (heap_in config before)) w_is (subst (λ h. Renews region_words h) heap_before renews);
+        renews = subst (λ row_words. Renews row_words (heap_in config before)) words_same (subst (λ heap_list. Renews region_words heap_list) heap_before renews);
       }

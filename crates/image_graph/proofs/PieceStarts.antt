@@ -9,18 +9,18 @@ module _ (heap : ℕ → ℕ) (base : ℕ) where
 
   -- how many words stand as one from a distance on
   abbrev long : ℕ → ℕ
-  long k = stride_at heap (base + k)
+  long distance = stride_at heap (base + distance)
 
   pub start_first : start_of heap base 0 ≡ 0
   unfolding start_of
   start_first = refl
 
-  more : (k : ℕ) → start_of heap base (suc k) ≡ cond (start_of heap base k + long (start_of heap base k) == suc k) (suc k) (start_of heap base k)
+  more : (distance : ℕ) → start_of heap base (suc distance) ≡ cond (start_of heap base distance + long (start_of heap base distance) == suc distance) (suc distance) (start_of heap base distance)
   unfolding start_of
-  more k = refl
+  more distance = refl
 
-  pub start_ends : (k : ℕ) → start k + long (start k) ≡ suc k → start (suc k) ≡ suc k
-  start_ends k is = more k ∙ cond-true (start k + long (start k) == suc k) (suc k) (start k) (eq-eqb (start k + long (start k)) (suc k) is)
+  pub start_ends : (distance : ℕ) → start distance + long (start distance) ≡ suc distance → start (suc distance) ≡ suc distance
+  start_ends distance piece_ends = more distance ∙ cond-true (start distance + long (start distance) == suc distance) (suc distance) (start distance) (eq-eqb (start distance + long (start distance)) (suc distance) piece_ends)
 
-  pub start_goes_on : (k : ℕ) → start k + long (start k) ≢ suc k → start (suc k) ≡ start k
-  start_goes_on k other = more k ∙ cond-false (start k + long (start k) == suc k) (suc k) (start k) (ne_eqb (start k + long (start k)) (suc k) other)
+  pub start_goes_on : (distance : ℕ) → start distance + long (start distance) ≢ suc distance → start (suc distance) ≡ start distance
+  start_goes_on distance piece_goes_on = more distance ∙ cond-false (start distance + long (start distance) == suc distance) (suc distance) (start distance) (ne_eqb (start distance + long (start distance)) (suc distance) piece_goes_on)

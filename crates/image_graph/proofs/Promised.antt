@@ -19,14 +19,14 @@ use Rattle.image_graph.proofs.PromisedRoots.{IsPromisedRoot, IsPinRoot, root_cas
 
 -- two references that are a name's are one
 pub same_reference-true : (reference : Reference) (name : Name) → same_reference reference (Some name) ≡ true → reference ≡ Some name
-same_reference-true None name is = absurd (false≢true is)
-same_reference-true (Some other_name) name is = ap Some (same_name-true other_name name is)
+same_reference-true None name names_agree = absurd (false≢true names_agree)
+same_reference-true (Some other_name) name names_agree = ap Some (same_name-true other_name name names_agree)
 
 -- a blank object has no reference but null
 blank_leads_nowhere : (refs field : ℕ) (name : Name) → slice_get (replicate refs None) field ≡ Some (Some name) → ⊥
-blank_leads_nowhere zero field name is = none-some (Some name) is
-blank_leads_nowhere (suc refs) zero name is = none-some name (same_Some None (Some name) is)
-blank_leads_nowhere (suc refs) (suc field) name is = blank_leads_nowhere refs field name is
+blank_leads_nowhere zero field name field_holds = none-some (Some name) field_holds
+blank_leads_nowhere (suc refs) zero name field_holds = none-some name (same_Some None (Some name) field_holds)
+blank_leads_nowhere (suc refs) (suc field) name field_holds = blank_leads_nowhere refs field name field_holds
 
 module _ (threads : ℕ) (graph : Graph) (promises : Promises) (fresh : AreFresh threads graph promises) where
   abbrev more : Graph
@@ -37,43 +37,43 @@ module _ (threads : ℕ) (graph : Graph) (promises : Promises) (fresh : AreFresh
   is_promised name = same_reference (promises.ref name.thread) (Some name)
 
   promised_object : (name : Name) → promises.ref name.thread ≡ Some name → named more (Some name) ≡ blank (promises.refs name.thread) (promises.nums name.thread)
-  promised_object name is =
-      let test : is_promised name ≡ true = ap (λ r. same_reference r (Some name)) is ∙ same_name-itself name in
+  promised_object name promised_name =
+      let test : is_promised name ≡ true = ap (λ reference. same_reference reference (Some name)) promised_name ∙ same_name-itself name in
       ap (λ (found : Option Object). unwrap_or found (record { refs = []; nums = [] }))
       (cond-true (is_promised name) (Some (blank (promises.refs name.thread) (promises.nums name.thread))) (graph.object name) test)
 
   -- an object that the graph reaches is no promised one
   pub old_object : (name : Name) → IsReachable graph name → named more (Some name) ≡ named graph (Some name)
   old_object name reached = ⊎_elim
-      (λ (is : is_promised name ≡ true). absurd (fresh.fresh name.thread name (same_reference-true (promises.ref name.thread) name is) reached))
-      (λ (other : is_promised name ≡ false). ap (λ (found : Option Object). unwrap_or found (record { refs = []; nums = [] }))
-      (cond-false (is_promised name) (Some (blank (promises.refs name.thread) (promises.nums name.thread))) (graph.object name) other))
+      (λ (promised : is_promised name ≡ true). absurd (fresh.fresh name.thread name (same_reference-true (promises.ref name.thread) name promised) reached))
+      (λ (not_promised : is_promised name ≡ false). ap (λ (found : Option Object). unwrap_or found (record { refs = []; nums = [] }))
+      (cond-false (is_promised name) (Some (blank (promises.refs name.thread) (promises.nums name.thread))) (graph.object name) not_promised))
       (cases_Bool (is_promised name))
 
   -- promised to some thread
   abbrev IsPromised : Name → Type 0
-  IsPromised name = (t : ℕ) × (promises.ref t ≡ Some name)
+  IsPromised name = (thread : ℕ) × (promises.ref thread ≡ Some name)
 
   -- the graph with the promised objects reaches what the graph reaches, and what is promised
   pub reaches_promised : (name : Name) → IsReachable more name → IsReachable graph name ⊎ IsPromised name
-  reaches_promised name (reach.from_root thread root _ is) = ⊎_elim
+  reaches_promised name (reach.from_root thread root _ slot_holds) = ⊎_elim
       (λ (extra : IsPromisedRoot graph promises thread root name). inr (thread, extra.1))
-      (λ (other : IsPinRoot graph promises thread root name ⊎ (graph.root thread root ≡ Some name)). ⊎_elim
+      (λ (old_root : IsPinRoot graph promises thread root name ⊎ (graph.root thread root ≡ Some name)). ⊎_elim
       (λ (pin : IsPinRoot graph promises thread root name). inl (subst (IsReachable graph) pin.4 (reach.from_pin thread (root - 17) pin.2 pin.3)))
-      (λ (plain : graph.root thread root ≡ Some name). inl (reach.from_root thread root name plain))
-      other)
-      (root_cases graph promises thread root name is)
-  reaches_promised _ (reach.from_pin thread slot held is) = absurd (none-some held is)
-  reaches_promised name (reach.from_field other_name _ field reached is) = ⊎_elim
-      (λ (old : IsReachable graph other_name). inl (reach.from_field other_name name field old (sym (ap (λ (object : Object). slice_get object.refs field) (old_object other_name old)) ∙ is)))
-      (λ (new : IsPromised other_name).
-      let own : other_name.thread ≡ new.0 = fresh.own new.0 other_name new.1 in
-      let blank_is = promised_object other_name (ap promises.ref own ∙ new.1) in
-      absurd (blank_leads_nowhere (promises.refs other_name.thread) field name (sym (ap (λ (object : Object). slice_get object.refs field) blank_is) ∙ is)))
-      (reaches_promised other_name reached)
+      (λ (plain_root : graph.root thread root ≡ Some name). inl (reach.from_root thread root name plain_root))
+      old_root)
+      (root_cases graph promises thread root name slot_holds)
+  reaches_promised _ (reach.from_pin thread slot pinned_name slot_holds) = absurd (none-some pinned_name slot_holds)
+  reaches_promised name (reach.from_field holder_name _ field reached slot_holds) = ⊎_elim
+      (λ (old : IsReachable graph holder_name). inl (reach.from_field holder_name name field old (sym (ap (λ (object : Object). slice_get object.refs field) (old_object holder_name old)) ∙ slot_holds)))
+      (λ (new : IsPromised holder_name).
+      let own_thread : holder_name.thread ≡ new.0 = fresh.own new.0 holder_name new.1 in
+      let blank_is = promised_object holder_name (ap promises.ref own_thread ∙ new.1) in
+      absurd (blank_leads_nowhere (promises.refs holder_name.thread) field name (sym (ap (λ (object : Object). slice_get object.refs field) blank_is) ∙ slot_holds)))
+      (reaches_promised holder_name reached)
 
 module _ (config : Config) (top heap : ℕ → ℕ) (block : Plot) (now kept : ℕ → ℕ) (IsRoot : ℕ → Type 0) (graph : Graph) (promises : Promises)
-    (holds : HoldsGraph config top heap block now IsRoot (with_promised graph promises)) (are : AreHeldKept heap (IsLedTo now heap IsRoot) kept)
+    (graph_held : HoldsGraph config top heap block now IsRoot (with_promised graph promises)) (held_kept : AreHeldKept heap (IsLedTo now heap IsRoot) kept)
     (fresh : AreFresh config.mutators graph promises) (names : List Name) (reach_is : IsReach graph names) where
   abbrev count : ℕ
   count = length names
@@ -83,68 +83,68 @@ module _ (config : Config) (top heap : ℕ → ℕ) (block : Plot) (now kept : �
 
   -- the names, and behind them the threads
   abbrev words : ℕ → ℕ
-  words k = cond (nat_lt k count) (live_words k) (promised_words promises (k - count))
+  words index = cond (nat_lt index count) (live_words index) (promised_words promises (index - count))
 
   abbrev IsOf : ℕ → Name → Type 0
   IsOf index name = ((index < count) × (get_or names index hub ≡ name)) ⊎ ((count ≤ index) × (promises.ref (index - count) ≡ Some name))
 
   abbrev IsPlaced : Name → ℕ → Type 0
-  IsPlaced name k = (k < count + (config.mutators + 1)) × (size (named (with_promised graph promises) (Some name)) ≤ words k) × IsOf k name
+  IsPlaced name index = (index < count + (config.mutators + 1)) × (size (named (with_promised graph promises) (Some name)) ≤ words index) × IsOf index name
 
-  placed_old : (name : Name) → IsReachable graph name → (k : ℕ) × IsPlaced name k
-  placed_old other_name reached =
-      let at = reach_is.all other_name reached in
-      let name : get_or names at.0 hub ≡ other_name = get_or_default names at.0 hub other_name at.1 ∙ at.2 in
-      let weight : words at.0 ≡ live_words at.0 = cond-true (nat_lt at.0 count) (live_words at.0) (promised_words promises (at.0 - count)) (lt-ltb at.0 count at.1) in
-      let same : live_words at.0 ≡ size (named graph (Some other_name)) = ap (λ (name : Name). size (named graph (Some name))) name in
-      let old : size (named (with_promised graph promises) (Some other_name)) ≡ size (named graph (Some other_name)) = ap size (old_object config.mutators graph promises fresh other_name reached) in
-      (at.0, (omega (arith, at.1), omega (arith, weight, same, old), inl (at.1, name)))
+  placed_old : (name : Name) → IsReachable graph name → (index : ℕ) × IsPlaced name index
+  placed_old asked_name reached =
+      let found_index = reach_is.all asked_name reached in
+      let name : get_or names found_index.0 hub ≡ asked_name = get_or_default names found_index.0 hub asked_name found_index.1 ∙ found_index.2 in
+      let weight : words found_index.0 ≡ live_words found_index.0 = cond-true (nat_lt found_index.0 count) (live_words found_index.0) (promised_words promises (found_index.0 - count)) (lt-ltb found_index.0 count found_index.1) in
+      let same_size : live_words found_index.0 ≡ size (named graph (Some asked_name)) = ap (λ (name : Name). size (named graph (Some name))) name in
+      let old : size (named (with_promised graph promises) (Some asked_name)) ≡ size (named graph (Some asked_name)) = ap size (old_object config.mutators graph promises fresh asked_name reached) in
+      (found_index.0, (omega (arith, found_index.1), omega (arith, weight, same_size, old), inl (found_index.1, name)))
 
-  placed_new : (name : Name) (t : ℕ) → promises.ref t ≡ Some name → (k : ℕ) × IsPlaced name k
-  placed_new name t is =
-      let back : count + t - count ≡ t = omega arith in
-      let weight : words (count + t) ≡ promised_words promises t =
-      cond-false (nat_lt (count + t) count) (live_words (count + t)) (promised_words promises (count + t - count)) (le-ltb (count + t) count (omega arith)) ∙ ap (promised_words promises) back in
-      let given : promised_words promises t ≡ 3 + promises.refs t + promises.nums t = ap (λ r. words_if r (3 + promises.refs t + promises.nums t)) is in
-      let own : name.thread ≡ t = fresh.own t name is in
-      let blank_is = promised_object config.mutators graph promises fresh name (ap promises.ref own ∙ is) in
+  placed_new : (name : Name) (thread : ℕ) → promises.ref thread ≡ Some name → (index : ℕ) × IsPlaced name index
+  placed_new name thread promised_name =
+      let count_back : count + thread - count ≡ thread = omega arith in
+      let weight : words (count + thread) ≡ promised_words promises thread =
+      cond-false (nat_lt (count + thread) count) (live_words (count + thread)) (promised_words promises (count + thread - count)) (le-ltb (count + thread) count (omega arith)) ∙ ap (promised_words promises) count_back in
+      let given_words : promised_words promises thread ≡ 3 + promises.refs thread + promises.nums thread = ap (λ reference. words_if reference (3 + promises.refs thread + promises.nums thread)) promised_name in
+      let own_thread : name.thread ≡ thread = fresh.own thread name promised_name in
+      let blank_is = promised_object config.mutators graph promises fresh name (ap promises.ref own_thread ∙ promised_name) in
       let new : size (named (with_promised graph promises) (Some name)) ≡ size (blank (promises.refs name.thread) (promises.nums name.thread)) = ap size blank_is in
       let made : Object = blank (promises.refs name.thread) (promises.nums name.thread) in
       let null : Reference = None in
       let blank_number : ℕ = 0 in
-      let refs : length made.refs ≡ promises.refs t = length-replicate (promises.refs name.thread) null ∙ ap promises.refs own in
-      let nums : length made.nums ≡ promises.nums t = length-replicate (promises.nums name.thread) blank_number ∙ ap promises.nums own in
-      (count + t, (omega (arith, fresh.few t name is), omega (arith, weight, given, new, refs, nums), inr (omega arith, ap promises.ref back ∙ is)))
+      let refs_length : length made.refs ≡ promises.refs thread = length-replicate (promises.refs name.thread) null ∙ ap promises.refs own_thread in
+      let nums_length : length made.nums ≡ promises.nums thread = length-replicate (promises.nums name.thread) blank_number ∙ ap promises.nums own_thread in
+      (count + thread, (omega (arith, fresh.few thread name promised_name), omega (arith, weight, given_words, new, refs_length, nums_length), inr (omega arith, ap promises.ref count_back ∙ promised_name)))
 
-  placed : (name : Name) → IsReachable (with_promised graph promises) name → (k : ℕ) × IsPlaced name k
+  placed : (name : Name) → IsReachable (with_promised graph promises) name → (index : ℕ) × IsPlaced name index
   placed name reached = ⊎_elim
       (λ (old : IsReachable graph name). placed_old name old)
-      (λ (new : (t : ℕ) × (promises.ref t ≡ Some name)). placed_new name new.0 new.1)
+      (λ (new : (thread : ℕ) × (promises.ref thread ≡ Some name)). placed_new name new.0 new.1)
       (reaches_promised config.mutators graph promises fresh name reached)
 
   one_place : (other_index index : ℕ) (name other_name : Name) → IsOf other_index name → IsOf index other_name → other_index ≡ index → name ≡ other_name
-  one_place other_index index name other_name of_n of_m same = ⊎_elim
-      (λ (one : (other_index < count) × (get_or names other_index hub ≡ name)). ⊎_elim
-      (λ (other : (index < count) × (get_or names index hub ≡ other_name)). sym one.1 ∙ ap (λ index. get_or names index hub) same ∙ other.1)
-      (λ (other : (count ≤ index) × (promises.ref (index - count) ≡ Some other_name)). absurd (omega (arith, one.0, other.0, same)))
+  one_place other_index index name other_name of_n of_m same_index = ⊎_elim
+      (λ (first_placed : (other_index < count) × (get_or names other_index hub ≡ name)). ⊎_elim
+      (λ (second_placed : (index < count) × (get_or names index hub ≡ other_name)). sym first_placed.1 ∙ ap (λ index. get_or names index hub) same_index ∙ second_placed.1)
+      (λ (second_placed : (count ≤ index) × (promises.ref (index - count) ≡ Some other_name)). absurd (omega (arith, first_placed.0, second_placed.0, same_index)))
       of_m)
-      (λ (one : (count ≤ other_index) × (promises.ref (other_index - count) ≡ Some name)). ⊎_elim
-      (λ (other : (index < count) × (get_or names index hub ≡ other_name)). absurd (omega (arith, one.0, other.0, same)))
-      (λ (other : (count ≤ index) × (promises.ref (index - count) ≡ Some other_name)). same_Some name other_name (sym one.1 ∙ ap (λ i. promises.ref (i - count)) same ∙ other.1))
+      (λ (first_placed : (count ≤ other_index) × (promises.ref (other_index - count) ≡ Some name)). ⊎_elim
+      (λ (second_placed : (index < count) × (get_or names index hub ≡ other_name)). absurd (omega (arith, first_placed.0, second_placed.0, same_index)))
+      (λ (second_placed : (count ≤ index) × (promises.ref (index - count) ≡ Some other_name)). same_Some name other_name (sym first_placed.1 ∙ ap (λ root_index. promises.ref (root_index - count)) same_index ∙ second_placed.1))
       of_m)
       of_n
 
-  pub kept_are_live_or_promised : (end : ℕ) → sum_below kept end ≤ sum_by (λ n. size (named graph (Some n))) names + sum_below (promised_words promises) (config.mutators + 1)
+  pub kept_are_live_or_promised : (end : ℕ) → sum_below kept end ≤ sum_by (λ name. size (named graph (Some name))) names + sum_below (promised_words promises) (config.mutators + 1)
   kept_are_live_or_promised end =
-      let one : (a : ℕ) → 0 < kept a → KeptOne block (with_promised graph promises) kept a = kept_one config top heap block now kept IsRoot (with_promised graph promises) holds are in
-      let less = sum_of_things kept words end (count + (config.mutators + 1))
-      (λ a below some.
-      let at = placed (one a some).name (one a some).reached in
-      (at.0, at.1.0, omega (arith, at.1.1, (one a some).words)))
-      (λ a b less_a some_a less_b some_b same.
-      let at = placed (one a some_a).name (one a some_a).reached in
-      let bt = placed (one b some_b).name (one b some_b).reached in
-      one_name config top heap block now kept IsRoot (with_promised graph promises) holds are a b some_a some_b
-      (one_place at.0 bt.0 (one a some_a).name (one b some_b).name at.1.2 bt.1.2 same))
+      let kept_object : (first_address : ℕ) → 0 < kept first_address → KeptOne block (with_promised graph promises) kept first_address = kept_one config top heap block now kept IsRoot (with_promised graph promises) graph_held held_kept in
+      let kept_less = sum_of_things kept words end (count + (config.mutators + 1))
+      (λ first_address address_below some_kept.
+      let first_place = placed (kept_object first_address some_kept).name (kept_object first_address some_kept).reached in
+      (first_place.0, first_place.1.0, omega (arith, first_place.1.1, (kept_object first_address some_kept).words)))
+      (λ first_address second_address first_below some_first second_below some_second same_place.
+      let first_place = placed (kept_object first_address some_first).name (kept_object first_address some_first).reached in
+      let second_place = placed (kept_object second_address some_second).name (kept_object second_address some_second).reached in
+      one_name config top heap block now kept IsRoot (with_promised graph promises) graph_held held_kept first_address second_address some_first some_second
+      (one_place first_place.0 second_place.0 (kept_object first_address some_first).name (kept_object second_address some_second).name first_place.1.2 second_place.1.2 same_place))
       in
-      omega (arith, less, sum_of_two_rows live_words (promised_words promises) count (config.mutators + 1), sum_by_index (λ n. size (named graph (Some n))) names hub)
+      omega (arith, kept_less, sum_of_two_rows live_words (promised_words promises) count (config.mutators + 1), sum_by_index (λ name. size (named graph (Some name))) names hub)

@@ -37,20 +37,20 @@ module _ (memory : Word → ℕ) where
       by_word Evac = refl
       by_word Claim = refl
       by_word Ask = refl
-      by_word (Top r) = refl
-      by_word (Tams r) = refl
-      by_word (Limit r) = refl
+      by_word (Top word_region) = refl
+      by_word (Tams word_region) = refl
+      by_word (Limit word_region) = refl
       by_word (Current seat) = refl
-      by_word (Root t i) = refl
-      by_word (Count t) = refl
-      by_word (Buffer t i) = refl
-      by_word (Wait t) = refl
-      by_word (Answer t) = refl
-      by_word (Grey n) = refl
-      by_word (Black n) = refl
-      by_word (Heap a) = refl
+      by_word (Root thread index) = refl
+      by_word (Count thread) = refl
+      by_word (Buffer thread index) = refl
+      by_word (Wait thread) = refl
+      by_word (Answer thread) = refl
+      by_word (Grey number) = refl
+      by_word (Black number) = refl
+      by_word (Heap word_address) = refl
       by_word Share = refl
-      by_word (Pin t i) = refl
+      by_word (Pin thread index) = refl
 
   module _ (top heap current : ℕ → ℕ) where
     -- others once more
@@ -68,20 +68,20 @@ module _ (memory : Word → ℕ) where
         by_word Evac = refl
         by_word Claim = refl
         by_word Ask = refl
-        by_word (Top r) = refl
-        by_word (Tams r) = refl
-        by_word (Limit r) = refl
+        by_word (Top region) = refl
+        by_word (Tams region) = refl
+        by_word (Limit region) = refl
         by_word (Current seat) = refl
-        by_word (Root t i) = refl
-        by_word (Count t) = refl
-        by_word (Buffer t i) = refl
-        by_word (Wait t) = refl
-        by_word (Answer t) = refl
-        by_word (Grey n) = refl
-        by_word (Black n) = refl
-        by_word (Heap a) = refl
+        by_word (Root thread index) = refl
+        by_word (Count thread) = refl
+        by_word (Buffer thread index) = refl
+        by_word (Wait thread) = refl
+        by_word (Answer thread) = refl
+        by_word (Grey number) = refl
+        by_word (Black number) = refl
+        by_word (Heap address) = refl
         by_word Share = refl
-        by_word (Pin t i) = refl
+        by_word (Pin thread index) = refl
 
     -- a word of it is written
     pub refit_heap : (address value : ℕ) → write (refitted memory top heap current) (Heap address) value ≡ refitted memory top (updated heap address value) current
@@ -98,20 +98,20 @@ module _ (memory : Word → ℕ) where
         by_word Evac = refl
         by_word Claim = refl
         by_word Ask = refl
-        by_word (Top r) = refl
-        by_word (Tams r) = refl
-        by_word (Limit r) = refl
+        by_word (Top region) = refl
+        by_word (Tams region) = refl
+        by_word (Limit region) = refl
         by_word (Current seat) = refl
-        by_word (Root t i) = refl
-        by_word (Count t) = refl
-        by_word (Buffer t i) = refl
-        by_word (Wait t) = refl
-        by_word (Answer t) = refl
-        by_word (Grey n) = refl
-        by_word (Black n) = refl
-        by_word (Heap a) = refl
+        by_word (Root thread index) = refl
+        by_word (Count thread) = refl
+        by_word (Buffer thread index) = refl
+        by_word (Wait thread) = refl
+        by_word (Answer thread) = refl
+        by_word (Grey number) = refl
+        by_word (Black number) = refl
+        by_word (Heap word_address) = refl
         by_word Share = refl
-        by_word (Pin t i) = refl
+        by_word (Pin thread index) = refl
 
     pub refit_top : (region value : ℕ) → write (refitted memory top heap current) (Top region) value ≡ refitted memory (updated top region value) heap current
     refit_top region value = fun_ext by_word
@@ -127,25 +127,25 @@ module _ (memory : Word → ℕ) where
         by_word Evac = refl
         by_word Claim = refl
         by_word Ask = refl
-        by_word (Top r) = refl
-        by_word (Tams r) = refl
-        by_word (Limit r) = refl
+        by_word (Top word_region) = refl
+        by_word (Tams word_region) = refl
+        by_word (Limit word_region) = refl
         by_word (Current seat) = refl
-        by_word (Root t i) = refl
-        by_word (Count t) = refl
-        by_word (Buffer t i) = refl
-        by_word (Wait t) = refl
-        by_word (Answer t) = refl
-        by_word (Grey n) = refl
-        by_word (Black n) = refl
-        by_word (Heap a) = refl
+        by_word (Root thread index) = refl
+        by_word (Count thread) = refl
+        by_word (Buffer thread index) = refl
+        by_word (Wait thread) = refl
+        by_word (Answer thread) = refl
+        by_word (Grey number) = refl
+        by_word (Black number) = refl
+        by_word (Heap address) = refl
         by_word Share = refl
-        by_word (Pin t i) = refl
+        by_word (Pin thread index) = refl
 
     pub refit_current : (seat value : ℕ) → write (refitted memory top heap current) (Current seat) value ≡ refitted memory top heap (updated current seat value)
-    refit_current at value = fun_ext by_word
+    refit_current own_seat value = fun_ext by_word
       where
-        by_word : (word : Word) → write (refitted memory top heap current) (Current at) value word ≡ refitted memory top heap (updated current at value) word
+        by_word : (word : Word) → write (refitted memory top heap current) (Current own_seat) value word ≡ refitted memory top heap (updated current own_seat value) word
         by_word Pause = refl
         by_word Left = refl
         by_word End = refl
@@ -156,17 +156,17 @@ module _ (memory : Word → ℕ) where
         by_word Evac = refl
         by_word Claim = refl
         by_word Ask = refl
-        by_word (Top r) = refl
-        by_word (Tams r) = refl
-        by_word (Limit r) = refl
+        by_word (Top region) = refl
+        by_word (Tams region) = refl
+        by_word (Limit region) = refl
         by_word (Current seat) = refl
-        by_word (Root t i) = refl
-        by_word (Count t) = refl
-        by_word (Buffer t i) = refl
-        by_word (Wait t) = refl
-        by_word (Answer t) = refl
-        by_word (Grey n) = refl
-        by_word (Black n) = refl
-        by_word (Heap a) = refl
+        by_word (Root thread index) = refl
+        by_word (Count thread) = refl
+        by_word (Buffer thread index) = refl
+        by_word (Wait thread) = refl
+        by_word (Answer thread) = refl
+        by_word (Grey number) = refl
+        by_word (Black number) = refl
+        by_word (Heap address) = refl
         by_word Share = refl
-        by_word (Pin t i) = refl
+        by_word (Pin thread index) = refl

@@ -10,41 +10,41 @@ use Rattle.shen_graph.specs.GraphText.{Text}
 use Rattle.heap_world.specs.Shows.{WordsStand}
 use Rattle.image_graph.specs.Left.{StandsForSome, ShowsTheGraph}
 
-drop_nothing : (n : ℕ) → drop {A = ℕ} n [] ≡ []
+drop_nothing : (count : ℕ) → drop {A = ℕ} count [] ≡ []
 drop_nothing zero = refl
-drop_nothing (suc n) = refl
+drop_nothing (suc count) = refl
 
 -- so many are left out in two turns
-drop_past : (s n : ℕ) (xs : List ℕ) → drop (s + n) xs ≡ drop n (drop s xs)
-drop_past zero n xs = ap (λ k. drop k xs) (omega arith)
-drop_past (suc s) n [] = drop_nothing (suc s + n) ∙ sym (drop_nothing n)
-drop_past (suc s) n (x ∷ xs) = let more : suc s + n ≡ suc (s + n) = omega arith in ap (λ k. drop k (x ∷ xs)) more ∙ drop_past s n xs
+drop_past : (first_count second_count : ℕ) (xs : List ℕ) → drop (first_count + second_count) xs ≡ drop second_count (drop first_count xs)
+drop_past zero second_count xs = ap (λ count. drop count xs) (omega arith)
+drop_past (suc first_count) second_count [] = drop_nothing (suc first_count + second_count) ∙ sym (drop_nothing second_count)
+drop_past (suc first_count) second_count (x ∷ xs) = let same_sum : suc first_count + second_count ≡ suc (first_count + second_count) = omega arith in ap (λ count. drop count (x ∷ xs)) same_sum ∙ drop_past first_count second_count xs
 
-same_range : (s a b : ℕ) (xs other_xs : List ℕ) → s ≤ a → drop s xs ≡ drop s other_xs → slice_range xs a b ≡ slice_range other_xs a b
-same_range s a b xs other_xs low same =
-    let place : a ≡ s + (a - s) = omega (arith, low) in
-    let both : drop a xs ≡ drop a other_xs =
-    ap (λ k. drop k xs) place ∙ drop_past s (a - s) xs ∙ ap (drop (a - s)) same ∙ sym (drop_past s (a - s) other_xs) ∙ ap (λ k. drop k other_xs) (sym place) in
-    ap (take (b - a)) both
+same_range : (start first_index last_index : ℕ) (xs other_xs : List ℕ) → start ≤ first_index → drop start xs ≡ drop start other_xs → slice_range xs first_index last_index ≡ slice_range other_xs first_index last_index
+same_range start first_index last_index xs other_xs start_below same_rest =
+    let index_parts : first_index ≡ start + (first_index - start) = omega (arith, start_below) in
+    let same_begin : drop first_index xs ≡ drop first_index other_xs =
+    ap (λ count. drop count xs) index_parts ∙ drop_past start (first_index - start) xs ∙ ap (drop (first_index - start)) same_rest ∙ sym (drop_past start (first_index - start) other_xs) ∙ ap (λ count. drop count other_xs) (sym index_parts) in
+    ap (take (last_index - first_index)) same_begin
 
-module _ (config : Config) (other_xs w : List ℕ) (same : drop (image_start config) other_xs ≡ drop (image_start config) w) where
-  same_heap : heap_in config other_xs ≡ heap_in config w
-  same_heap = same_range (image_start config) (heap_start config) (heap_start config + heap_size config) other_xs w (omega arith) same
+module _ (config : Config) (changed_words image_words : List ℕ) (same_image : drop (image_start config) changed_words ≡ drop (image_start config) image_words) where
+  same_heap : heap_in config changed_words ≡ heap_in config image_words
+  same_heap = same_range (image_start config) (heap_start config) (heap_start config + heap_size config) changed_words image_words (omega arith) same_image
 
-  same_roots : roots_in config other_xs ≡ roots_in config w
-  same_roots = same_range (image_start config) (roots_start config) (roots_start config + 16 * config.mutators) other_xs w (omega arith) same
+  same_roots : roots_in config changed_words ≡ roots_in config image_words
+  same_roots = same_range (image_start config) (roots_start config) (roots_start config + 16 * config.mutators) changed_words image_words (omega arith) same_image
 
-  same_pins : pins_in config other_xs ≡ pins_in config w
-  same_pins = same_range (image_start config) (pins_start config) (pins_start config + 4 * config.mutators) other_xs w (omega arith) same
+  same_pins : pins_in config changed_words ≡ pins_in config image_words
+  same_pins = same_range (image_start config) (pins_start config) (pins_start config + 4 * config.mutators) changed_words image_words (omega arith) same_image
 
-  stands_either : (v : List ℕ) (at : ℕ → Option Name) (graph : Graph) → heap_in config v ≡ heap_in config other_xs → roots_in config v ≡ roots_in config other_xs → pins_in config v ≡ pins_in config other_xs
-      → WordsStand config.region_words (heap_in config v) (roots_in config v) (pins_in config v) at graph → WordsStand config.region_words (heap_in config other_xs) (roots_in config other_xs) (pins_in config other_xs) at graph
-  stands_either v at graph heap roots pins stands =
-      subst (λ heap. WordsStand config.region_words heap (roots_in config other_xs) (pins_in config other_xs) at graph) heap
-      (subst (λ roots. WordsStand config.region_words (heap_in config v) roots (pins_in config other_xs) at graph) roots (subst (λ pins. WordsStand config.region_words (heap_in config v) (roots_in config v) pins at graph) pins stands))
+  stands_either : (stand_words : List ℕ) (naming : ℕ → Option Name) (graph : Graph) → heap_in config stand_words ≡ heap_in config changed_words → roots_in config stand_words ≡ roots_in config changed_words → pins_in config stand_words ≡ pins_in config changed_words
+      → WordsStand config.region_words (heap_in config stand_words) (roots_in config stand_words) (pins_in config stand_words) naming graph → WordsStand config.region_words (heap_in config changed_words) (roots_in config changed_words) (pins_in config changed_words) naming graph
+  stands_either stand_words naming graph heap roots pins stands =
+      subst (λ heap. WordsStand config.region_words heap (roots_in config changed_words) (pins_in config changed_words) naming graph) heap
+      (subst (λ roots. WordsStand config.region_words (heap_in config stand_words) roots (pins_in config changed_words) naming graph) roots (subst (λ pins. WordsStand config.region_words (heap_in config stand_words) (roots_in config stand_words) pins naming graph) pins stands))
 
-  pub stands_same : StandsForSome config w → StandsForSome config other_xs
-  stands_same some = ∥∥₁_map some (λ s. (s.0, (s.1.0, stands_either w s.0 s.1.0 (sym same_heap) (sym same_roots) (sym same_pins) s.1.1)))
+  pub stands_same : StandsForSome config image_words → StandsForSome config changed_words
+  stands_same stands_some = ∥∥₁_map stands_some (λ some_stand. (some_stand.0, (some_stand.1.0, stands_either image_words some_stand.0 some_stand.1.0 (sym same_heap) (sym same_roots) (sym same_pins) some_stand.1.1)))
 
-  pub shows_same : (text : Text) → ShowsTheGraph config other_xs text → ShowsTheGraph config w text
-  shows_same text shows at g stands = shows at g (stands_either w at g (sym same_heap) (sym same_roots) (sym same_pins) stands)
+  pub shows_same : (text : Text) → ShowsTheGraph config changed_words text → ShowsTheGraph config image_words text
+  shows_same text shows naming graph stands = shows naming graph (stands_either image_words naming graph (sym same_heap) (sym same_roots) (sym same_pins) stands)

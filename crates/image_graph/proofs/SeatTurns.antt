@@ -44,44 +44,44 @@ abbrev AreOrdered : (Word → ℕ) → Type 0
 AreOrdered memory = (seat : ℕ) → next_in (memory (Current seat)) ≤ end_in (memory (Current seat))
 
 -- Settling: the turn of a seat.
-module _ (config : Config) (Stand : (Word → ℕ) → Type 0) (keeps : KeepsFilling config Stand) where
+module _ (config : Config) (Stand : (Word → ℕ) → Type 0) (filling_keeps : KeepsFilling config Stand) where
   module _ (memory : Word → ℕ) (stand : Stand memory) (seat : ℕ) where
     abbrev its : ℕ
     its = memory (Current seat)
 
     -- a buffer goes that is not the last
     gone : its ≢ 0 → is_last config memory its ≡ false → Stand (write (filled_over memory its) (Current seat) 0)
-    gone positive other = ⊎_elim
-        (λ (more : next_in its < end_in its).
+    gone some_buffer not_last = ⊎_elim
+        (λ (some_free : next_in its < end_in its).
         subst Stand
-        (sym (ap (λ k. write k (Current seat) 0) (cond-true (nat_lt (next_in its) (end_in its)) (write memory (Heap (next_in its)) (filler_header (end_in its - next_in its))) memory (lt-ltb (next_in its) (end_in its) more))
+        (sym (ap (λ some_memory. write some_memory (Current seat) 0) (cond-true (nat_lt (next_in its) (end_in its)) (write memory (Heap (next_in its)) (filler_header (end_in its - next_in its))) memory (lt-ltb (next_in its) (end_in its) some_free))
         ∙ fill_is memory seat (next_in its) (filler_header (end_in its - next_in its))))
-        (keeps.fills memory stand seat its refl positive more other))
+        (filling_keeps.fills memory stand seat its refl some_buffer some_free not_last))
         (λ (empty : end_in its ≤ next_in its).
         subst Stand
-        (sym (ap (λ k. write k (Current seat) 0) (cond-false (nat_lt (next_in its) (end_in its)) (write memory (Heap (next_in its)) (filler_header (end_in its - next_in its))) memory (le-ltb (next_in its) (end_in its) empty))
+        (sym (ap (λ some_memory. write some_memory (Current seat) 0) (cond-false (nat_lt (next_in its) (end_in its)) (write memory (Heap (next_in its)) (filler_header (end_in its - next_in its))) memory (le-ltb (next_in its) (end_in its) empty))
         ∙ clear_is memory seat))
-        (keeps.drops memory stand (updated (currents_of memory) seat 0) (λ s. ⊎_elim
-        (λ (same : seat ≡ s). inr (updated_same (currents_of memory) seat 0 s same, subst (λ seat. end_in (memory (Current seat)) ≤ next_in (memory (Current seat))) same empty))
-        (λ (other : seat ≢ s). inl (updated_else (currents_of memory) seat 0 s other))
-        (cases_eq seat s))))
+        (filling_keeps.drops memory stand (updated (currents_of memory) seat 0) (λ asked_seat. ⊎_elim
+        (λ (same_seat : seat ≡ asked_seat). inr (updated_same (currents_of memory) seat 0 asked_seat same_seat, subst (λ seat. end_in (memory (Current seat)) ≤ next_in (memory (Current seat))) same_seat empty))
+        (λ (not_last : seat ≢ asked_seat). inl (updated_else (currents_of memory) seat 0 asked_seat not_last))
+        (cases_eq seat asked_seat))))
         (cases_lt (next_in its) (end_in its))
 
     settling : Stand (settled_at config memory seat)
     settling = ⊎_elim
         (λ (stays : ((its == 0) || is_last config memory its) ≡ true). subst Stand (sym (cond-true ((its == 0) || is_last config memory its) memory (write (filled_over memory its) (Current seat) 0) stays)) stand)
-        (λ (goes : ((its == 0) || is_last config memory its) ≡ false).
-        subst Stand (sym (cond-false ((its == 0) || is_last config memory its) memory (write (filled_over memory its) (Current seat) 0) goes)) (gone (eqb-false its 0 (or_parts (its == 0) (is_last config memory its) goes).0) (or_parts (its == 0) (is_last config memory its) goes).1))
+        (λ (buffer_goes : ((its == 0) || is_last config memory its) ≡ false).
+        subst Stand (sym (cond-false ((its == 0) || is_last config memory its) memory (write (filled_over memory its) (Current seat) 0) buffer_goes)) (gone (eqb-false its 0 (or_parts (its == 0) (is_last config memory its) buffer_goes).0) (or_parts (its == 0) (is_last config memory its) buffer_goes).1))
         (cases_Bool ((its == 0) || is_last config memory its))
 
   -- after any number of turns
-  pub settled_by_turns : (memory : Word → ℕ) → Stand memory → (n : ℕ) → Stand (settled_below config memory n)
+  pub settled_by_turns : (memory : Word → ℕ) → Stand memory → (turns : ℕ) → Stand (settled_below config memory turns)
   unfolding settled_below
   settled_by_turns memory stand zero = stand
-  settled_by_turns memory stand (suc n) = settling (settled_below config memory n) (settled_by_turns memory stand n) n
+  settled_by_turns memory stand (suc turns) = settling (settled_below config memory turns) (settled_by_turns memory stand turns) turns
 
 -- Letting go: the turn of a seat.
-module _ (config : Config) (Stand : (Word → ℕ) → Type 0) (keeps : KeepsTurns config Stand) where
+module _ (config : Config) (Stand : (Word → ℕ) → Type 0) (turns_keep : KeepsTurns config Stand) where
   module _ (memory : Word → ℕ) (stand : Stand (trim memory)) (ordered : AreOrdered memory) (seat : ℕ) where
     abbrev word : ℕ
     word = memory (Current seat)
@@ -90,50 +90,50 @@ module _ (config : Config) (Stand : (Word → ℕ) → Type 0) (keeps : KeepsTur
     region = buffer_region config word
 
     -- what a buffer leaves that has free words
-    module _ (some : word ≢ 0) (more : next_in word < end_in word) where
+    module _ (some_word : word ≢ 0) (some_free : next_in word < end_in word) where
       is_there : trimmed (currents_of memory) seat ≡ word
-      is_there = trimmed_full (currents_of memory) seat more
+      is_there = trimmed_full (currents_of memory) seat some_free
 
       fills : is_last config memory word ≡ false → Stand (trim (write (write memory (Heap (next_in word)) (filler_header (end_in word - next_in word))) (Current seat) 0))
-      fills other = subst Stand
+      fills not_last = subst Stand
           (sym (ap trim (fill_is memory seat (next_in word) (filler_header (end_in word - next_in word)))
           ∙ trim_without memory (tops_of memory) (updated (heap_of memory) (next_in word) (filler_header (end_in word - next_in word))) seat))
-          (keeps.filling.fills (trim memory) stand seat word is_there some more other)
+          (turns_keep.filling.fills (trim memory) stand seat word is_there some_word some_free not_last)
 
       gives_back : is_last config memory word ≡ true → Stand (trim (write (given_back config memory word) (Current seat) 0))
-      gives_back last = subst Stand
+      gives_back buffer_last = subst Stand
           (sym (ap trim (back_is config memory seat word) ∙ trim_without memory (updated (tops_of memory) region (next_in word - base_of config region)) (heap_of memory) seat))
-          (keeps.gives (trim memory) stand seat word is_there some more last (λ seat is_some. all_full (currents_of memory) seat is_some))
+          (turns_keep.gives (trim memory) stand seat word is_there some_word some_free buffer_last (λ seat is_some. all_full (currents_of memory) seat is_some))
 
     -- and one that has none
     module _ (empty : end_in word ≤ next_in word) where
       same_tops : is_last config memory word ≡ true → updated (tops_of memory) region (next_in word - base_of config region) ≡ tops_of memory
-      same_tops last = fun_ext (λ q. ⊎_elim
-          (λ (same : region ≡ q).
-          let end : end_in word ≡ base_of config region + memory (Top region) = eqb-true (end_in word) (base_of config region + memory (Top region)) last in
-          let less = ordered seat in
-          updated_same (tops_of memory) region (next_in word - base_of config region) q same ∙ (omega (arith, end, less, empty)) ∙ ap (tops_of memory) same)
-          (λ (other : region ≢ q). updated_else (tops_of memory) region (next_in word - base_of config region) q other)
-          (cases_eq region q))
+      same_tops buffer_last = fun_ext (λ asked_region. ⊎_elim
+          (λ (same_region : region ≡ asked_region).
+          let end_at_top : end_in word ≡ base_of config region + memory (Top region) = eqb-true (end_in word) (base_of config region + memory (Top region)) buffer_last in
+          let free_ordered = ordered seat in
+          updated_same (tops_of memory) region (next_in word - base_of config region) asked_region same_region ∙ (omega (arith, end_at_top, free_ordered, empty)) ∙ ap (tops_of memory) same_region)
+          (λ (region_differs : region ≢ asked_region). updated_else (tops_of memory) region (next_in word - base_of config region) asked_region region_differs)
+          (cases_eq region asked_region))
 
       back_same : is_last config memory word ≡ true → trim (write (given_back config memory word) (Current seat) 0) ≡ trim memory
-      back_same last = ap trim (back_is config memory seat word) ∙ trim_empty memory (updated (tops_of memory) region (next_in word - base_of config region)) seat empty (same_tops last)
+      back_same buffer_last = ap trim (back_is config memory seat word) ∙ trim_empty memory (updated (tops_of memory) region (next_in word - base_of config region)) seat empty (same_tops buffer_last)
 
       fill_same : trim (write (filled_over memory word) (Current seat) 0) ≡ trim memory
       fill_same =
-          ap (λ k. trim (write k (Current seat) 0)) (cond-false (nat_lt (next_in word) (end_in word)) (write memory (Heap (next_in word)) (filler_header (end_in word - next_in word))) memory (le-ltb (next_in word) (end_in word) empty))
+          ap (λ some_memory. trim (write some_memory (Current seat) 0)) (cond-false (nat_lt (next_in word) (end_in word)) (write memory (Heap (next_in word)) (filler_header (end_in word - next_in word))) memory (le-ltb (next_in word) (end_in word) empty))
           ∙ ap trim (clear_is memory seat) ∙ trim_empty memory (tops_of memory) seat empty refl
 
     gone_last : word ≢ 0 → is_last config memory word ≡ true → Stand (trim (write (given_back config memory word) (Current seat) 0))
-    gone_last some last = ⊎_elim
-        (λ (more : next_in word < end_in word). gives_back some more last)
-        (λ (empty : end_in word ≤ next_in word). subst Stand (sym (back_same empty last)) stand)
+    gone_last some_word buffer_last = ⊎_elim
+        (λ (some_free : next_in word < end_in word). gives_back some_word some_free buffer_last)
+        (λ (empty : end_in word ≤ next_in word). subst Stand (sym (back_same empty buffer_last)) stand)
         (cases_lt (next_in word) (end_in word))
 
     gone_else : word ≢ 0 → is_last config memory word ≡ false → Stand (trim (write (filled_over memory word) (Current seat) 0))
-    gone_else some other = ⊎_elim
-        (λ (more : next_in word < end_in word). subst (λ k. Stand (trim (write k (Current seat) 0)))
-        (sym (cond-true (nat_lt (next_in word) (end_in word)) (write memory (Heap (next_in word)) (filler_header (end_in word - next_in word))) memory (lt-ltb (next_in word) (end_in word) more))) (fills some more other))
+    gone_else some_word not_last = ⊎_elim
+        (λ (some_free : next_in word < end_in word). subst (λ some_memory. Stand (trim (write some_memory (Current seat) 0)))
+        (sym (cond-true (nat_lt (next_in word) (end_in word)) (write memory (Heap (next_in word)) (filler_header (end_in word - next_in word))) memory (lt-ltb (next_in word) (end_in word) some_free))) (fills some_word some_free not_last))
         (λ (empty : end_in word ≤ next_in word). subst Stand (sym (fill_same empty)) stand)
         (cases_lt (next_in word) (end_in word))
 
@@ -142,62 +142,62 @@ module _ (config : Config) (Stand : (Word → ℕ) → Type 0) (keeps : KeepsTur
     rest = if is_last config memory word then given_back config memory word else filled_over memory word
 
     goes : word ≢ 0 → Stand (trim (write rest (Current seat) 0))
-    goes some = ⊎_elim
-        (λ (last : is_last config memory word ≡ true). subst (λ k. Stand (trim (write k (Current seat) 0))) (sym (cond-true (is_last config memory word) (given_back config memory word) (filled_over memory word) last)) (gone_last some last))
-        (λ (other : is_last config memory word ≡ false). subst (λ k. Stand (trim (write k (Current seat) 0))) (sym (cond-false (is_last config memory word) (given_back config memory word) (filled_over memory word) other)) (gone_else some other))
+    goes some_word = ⊎_elim
+        (λ (buffer_last : is_last config memory word ≡ true). subst (λ some_memory. Stand (trim (write some_memory (Current seat) 0))) (sym (cond-true (is_last config memory word) (given_back config memory word) (filled_over memory word) buffer_last)) (gone_last some_word buffer_last))
+        (λ (not_last : is_last config memory word ≡ false). subst (λ some_memory. Stand (trim (write some_memory (Current seat) 0))) (sym (cond-false (is_last config memory word) (given_back config memory word) (filled_over memory word) not_last)) (gone_else some_word not_last))
         (cases_Bool (is_last config memory word))
 
     letting_go : Stand (trim (let_go_at config memory seat))
     letting_go = ⊎_elim
-        (λ (none : word ≡ 0). subst (λ k. Stand (trim k)) (sym (cond-true (word == 0) memory (write rest (Current seat) 0) (eq-eqb word 0 none))) stand)
-        (λ (some : word ≢ 0). subst (λ k. Stand (trim k)) (sym (cond-false (word == 0) memory (write rest (Current seat) 0) (ne_eqb word 0 some))) (goes some))
+        (λ (no_word : word ≡ 0). subst (λ some_memory. Stand (trim some_memory)) (sym (cond-true (word == 0) memory (write rest (Current seat) 0) (eq-eqb word 0 no_word))) stand)
+        (λ (some_word : word ≢ 0). subst (λ some_memory. Stand (trim some_memory)) (sym (cond-false (word == 0) memory (write rest (Current seat) 0) (ne_eqb word 0 some_word))) (goes some_word))
         (cases_eq word 0)
 
   -- buffers are ordered still
   ordered_still : (memory : Word → ℕ) (seat : ℕ) → AreOrdered memory → AreOrdered (let_go_at config memory seat)
-  ordered_still memory seat ordered s = ⊎_elim
-      (λ (same : seat ≡ s). subst (λ other_seat. next_in (let_go_at config memory seat (Current other_seat)) ≤ end_in (let_go_at config memory seat (Current other_seat))) same (let none = turn_own config memory seat in subst (λ k. next_in k ≤ end_in k) (sym none) (omega arith)))
-      (λ (other : seat ≢ s). subst (λ k. next_in k ≤ end_in k) (sym (turn_other config memory seat s other)) (ordered s))
-      (cases_eq seat s)
+  ordered_still memory seat ordered given_seat = ⊎_elim
+      (λ (same_seat : seat ≡ given_seat). subst (λ other_seat. next_in (let_go_at config memory seat (Current other_seat)) ≤ end_in (let_go_at config memory seat (Current other_seat))) same_seat (let no_word = turn_own config memory seat in subst (λ buffer. next_in buffer ≤ end_in buffer) (sym no_word) (omega arith)))
+      (λ (seat_differs : seat ≢ given_seat). subst (λ buffer. next_in buffer ≤ end_in buffer) (sym (turn_other config memory seat given_seat seat_differs)) (ordered given_seat))
+      (cases_eq seat given_seat)
 
-  ordered_below : (memory : Word → ℕ) → AreOrdered memory → (n : ℕ) → AreOrdered (let_go_below config memory n)
+  ordered_below : (memory : Word → ℕ) → AreOrdered memory → (turns : ℕ) → AreOrdered (let_go_below config memory turns)
   unfolding let_go_below
   ordered_below memory ordered zero = ordered
-  ordered_below memory ordered (suc n) = ordered_still (let_go_below config memory n) n (ordered_below memory ordered n)
+  ordered_below memory ordered (suc turns) = ordered_still (let_go_below config memory turns) turns (ordered_below memory ordered turns)
 
   -- after any number of turns
-  let_go_trimmed : (memory : Word → ℕ) → Stand (trim memory) → AreOrdered memory → (n : ℕ) → Stand (trim (let_go_below config memory n))
+  let_go_trimmed : (memory : Word → ℕ) → Stand (trim memory) → AreOrdered memory → (turns : ℕ) → Stand (trim (let_go_below config memory turns))
   unfolding let_go_below
   let_go_trimmed memory stand ordered zero = stand
-  let_go_trimmed memory stand ordered (suc n) = letting_go (let_go_below config memory n) (let_go_trimmed memory stand ordered n) (ordered_below memory ordered n) n
+  let_go_trimmed memory stand ordered (suc turns) = letting_go (let_go_below config memory turns) (let_go_trimmed memory stand ordered turns) (ordered_below memory ordered turns) turns
 
   -- What stood stands after all turns, where buffers without free words count as none.
   pub trimmed_by_turns : (memory : Word → ℕ) → Stand memory → Stand (trim (let_go config memory))
   trimmed_by_turns memory stand =
       let ordered : AreOrdered memory = λ seat. ⊎_elim
-      (λ (none : memory (Current seat) ≡ 0). subst (λ k. next_in k ≤ end_in k) (sym none) (omega arith))
-      (λ (some : memory (Current seat) ≢ 0). (keeps.lies memory stand seat (memory (Current seat)) refl some).ordered)
+      (λ (no_buffer : memory (Current seat) ≡ 0). subst (λ buffer. next_in buffer ≤ end_in buffer) (sym no_buffer) (omega arith))
+      (λ (has_buffer : memory (Current seat) ≢ 0). (turns_keep.lies memory stand seat (memory (Current seat)) refl has_buffer).ordered)
       (cases_eq (memory (Current seat)) 0) in
-      let_go_trimmed memory (keeps.filling.drops memory stand (trimmed (currents_of memory)) (λ seat. ⊎_elim
-      (λ (more : next_in (memory (Current seat)) < end_in (memory (Current seat))). inl (trimmed_full (currents_of memory) seat more))
+      let_go_trimmed memory (turns_keep.filling.drops memory stand (trimmed (currents_of memory)) (λ seat. ⊎_elim
+      (λ (some_free : next_in (memory (Current seat)) < end_in (memory (Current seat))). inl (trimmed_full (currents_of memory) seat some_free))
       (λ (empty : end_in (memory (Current seat)) ≤ next_in (memory (Current seat))). inr (trimmed_empty (currents_of memory) seat empty, empty))
       (cases_lt (next_in (memory (Current seat))) (end_in (memory (Current seat)))))) ordered (seat_count config.mutators config.helpers)
 
   -- who is no seat has no buffer still
-  none_beyond : (memory : Word → ℕ) (seat : ℕ) → memory (Current seat) ≡ 0 → (n : ℕ) → let_go_below config memory n (Current seat) ≡ 0
+  none_beyond : (memory : Word → ℕ) (seat : ℕ) → memory (Current seat) ≡ 0 → (turns : ℕ) → let_go_below config memory turns (Current seat) ≡ 0
   unfolding let_go_below
-  none_beyond memory seat none zero = none
-  none_beyond memory seat none (suc other_seat) = ⊎_elim
-      (λ (same : other_seat ≡ seat). subst (λ seat. let_go_at config (let_go_below config memory other_seat) other_seat (Current seat) ≡ 0) same (turn_own config (let_go_below config memory other_seat) other_seat))
-      (λ (other : other_seat ≢ seat). turn_other config (let_go_below config memory other_seat) other_seat seat other ∙ none_beyond memory seat none other_seat)
+  none_beyond memory seat no_buffer zero = no_buffer
+  none_beyond memory seat no_buffer (suc other_seat) = ⊎_elim
+      (λ (same_seat : other_seat ≡ seat). subst (λ seat. let_go_at config (let_go_below config memory other_seat) other_seat (Current seat) ≡ 0) same_seat (turn_own config (let_go_below config memory other_seat) other_seat))
+      (λ (seat_differs : other_seat ≢ seat). turn_other config (let_go_below config memory other_seat) other_seat seat seat_differs ∙ none_beyond memory seat no_buffer other_seat)
       (cases_eq other_seat seat)
 
-  module _ (memory : Word → ℕ) (beyond : (seat : ℕ) → seat_count config.mutators config.helpers ≤ seat → memory (Current seat) ≡ 0) where
+  module _ (memory : Word → ℕ) (empty_beyond : (seat : ℕ) → seat_count config.mutators config.helpers ≤ seat → memory (Current seat) ≡ 0) where
     -- nobody has a buffer
     pub none_at_all : (seat : ℕ) → let_go config memory (Current seat) ≡ 0
     none_at_all seat = ⊎_elim
-        (λ (below : seat < seat_count config.mutators config.helpers). none_left config memory (seat_count config.mutators config.helpers) seat below)
-        (λ (past : seat_count config.mutators config.helpers ≤ seat). none_beyond memory seat (beyond seat past) (seat_count config.mutators config.helpers))
+        (λ (seat_below : seat < seat_count config.mutators config.helpers). none_left config memory (seat_count config.mutators config.helpers) seat seat_below)
+        (λ (seat_past : seat_count config.mutators config.helpers ≤ seat). none_beyond memory seat (empty_beyond seat seat_past) (seat_count config.mutators config.helpers))
         (cases_lt seat (seat_count config.mutators config.helpers))
 
     -- What stood stands after all turns.

@@ -7,4 +7,4 @@ use Rattle.heap_words.specs.Words.{Current, view}
 use Rattle.heap_words.proofs.Stores.{view_none}
 
 pub no_seat : (config : Config) (words : List ℕ) (seat : ℕ) → seat_count config.mutators config.helpers ≤ seat → view config words (Current seat) ≡ 0
-no_seat config words seat past = view_none config words (Current seat) (le-ltb seat (seat_count config.mutators config.helpers) past)
+no_seat config words seat seat_past = view_none config words (Current seat) (le-ltb seat (seat_count config.mutators config.helpers) seat_past)

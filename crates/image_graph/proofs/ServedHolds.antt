@@ -19,28 +19,28 @@ record KeptInTurn (config : Config) (memory : Word → ℕ) (block : Plot) (owne
   holds : HoldsBy config other_memory plot owner promises graph
   sized : AreSized memory block → AreSized other_memory plot
 
-one_turn : (config : Config) (first : Word → ℕ) (start : Plot) (owner : ℕ → Option ℕ) (graph : Graph) (memory : Word → ℕ) (block : Plot) (promises : Promises) (thread : ℕ) (found : Option ℕ) → thread < config.mutators
-    → KeptInTurn config first start owner graph memory block promises → turn_room config memory thread ≡ found
-    → KeptInTurn config first start owner graph (served_in config memory thread found) (made_block config memory block thread found) (made_promise memory promises thread found)
-one_turn config first start owner graph memory block promises thread None below still is = record { holds = still.holds; sized = still.sized }
-one_turn config first start owner graph memory block promises thread (Some region) below still is =
-    let room = finds_room config memory thread region is in
+one_turn : (config : Config) (first_memory : Word → ℕ) (start : Plot) (owner : ℕ → Option ℕ) (graph : Graph) (memory : Word → ℕ) (block : Plot) (promises : Promises) (thread : ℕ) (found : Option ℕ) → thread < config.mutators
+    → KeptInTurn config first_memory start owner graph memory block promises → turn_room config memory thread ≡ found
+    → KeptInTurn config first_memory start owner graph (served_in config memory thread found) (made_block config memory block thread found) (made_promise memory promises thread found)
+one_turn config first_memory start owner graph memory block promises thread None thread_below still_kept found_room = record { holds = still_kept.holds; sized = still_kept.sized }
+one_turn config first_memory start owner graph memory block promises thread (Some region) thread_below still_kept found_room =
+    let room = finds_room config memory thread region found_room in
     record {
-      holds = made_holds config memory block owner promises graph still.holds thread region below room.0 room.1 room.2;
-      sized = λ sized. made_sized config memory block owner promises graph still.holds thread region below room.0 room.1 room.2 (still.sized sized);
+      holds = made_holds config memory block owner promises graph still_kept.holds thread region thread_below room.0 room.1 room.2;
+      sized = λ sized. made_sized config memory block owner promises graph still_kept.holds thread region thread_below room.0 room.1 room.2 (still_kept.sized sized);
     }
 
-module _ (config : Config) (memory : Word → ℕ) (block : Plot) (owner : ℕ → Option ℕ) (promises : Promises) (graph : Graph) (holds : HoldsBy config memory block owner promises graph) where
+module _ (config : Config) (memory : Word → ℕ) (block : Plot) (owner : ℕ → Option ℕ) (promises : Promises) (graph : Graph) (graph_held : HoldsBy config memory block owner promises graph) where
   in_turn : (thread : ℕ) → thread ≤ config.mutators → KeptInTurn config memory block owner graph (served config memory thread) (served_block config memory block thread) (served_promises config memory promises thread)
   unfolding served_block served_promises
-  in_turn zero below =
-      let same : memory ≡ served config memory 0 = fun_ext (λ word. sym (served_first config memory word)) in
-      subst (λ k. KeptInTurn config memory block owner graph k block promises) same (record { holds = holds; sized = λ sized. sized })
-  in_turn (suc thread) below =
-      let before = in_turn thread (omega (arith, below)) in
-      let next = one_turn config memory block owner graph (served config memory thread) (served_block config memory block thread) (served_promises config memory promises thread) thread (turn_room config (served config memory thread) thread) (omega (arith, below)) before refl in
-      subst (λ k. KeptInTurn config memory block owner graph k (made_block config (served config memory thread) (served_block config memory block thread) thread (turn_room config (served config memory thread) thread))
-      (made_promise (served config memory thread) (served_promises config memory promises thread) thread (turn_room config (served config memory thread) thread))) (sym (turn_is config memory thread)) next
+  in_turn zero thread_below =
+      let same_memory : memory ≡ served config memory 0 = fun_ext (λ word. sym (served_first config memory word)) in
+      subst (λ next_memory. KeptInTurn config memory block owner graph next_memory block promises) same_memory (record { holds = graph_held; sized = λ sized. sized })
+  in_turn (suc thread) thread_below =
+      let turn_before = in_turn thread (omega (arith, thread_below)) in
+      let next_turn = one_turn config memory block owner graph (served config memory thread) (served_block config memory block thread) (served_promises config memory promises thread) thread (turn_room config (served config memory thread) thread) (omega (arith, thread_below)) turn_before refl in
+      subst (λ next_memory. KeptInTurn config memory block owner graph next_memory (made_block config (served config memory thread) (served_block config memory block thread) thread (turn_room config (served config memory thread) thread))
+      (made_promise (served config memory thread) (served_promises config memory promises thread) thread (turn_room config (served config memory thread) thread))) (sym (turn_is config memory thread)) next_turn
 
   pub serving_holds : HoldsServed config memory (served config memory config.mutators) block owner promises graph
-  serving_holds = let all = in_turn config.mutators (omega arith) in record { holds = all.holds; sized = all.sized }
+  serving_holds = let all_turns = in_turn config.mutators (omega arith) in record { holds = all_turns.holds; sized = all_turns.sized }

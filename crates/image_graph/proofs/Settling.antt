@@ -28,16 +28,16 @@ module _ (config : Config) (memory : Word → ℕ) (seat : ℕ) where
   turn_top region = if_at stays memory gone (Top region) (memory (Top region)) refl (filled_top memory (memory (Current seat)) region)
 
   -- or another's buffer
-  pub turn_other : (other : ℕ) → seat ≢ other → settled_at config memory seat (Current other) ≡ memory (Current other)
-  turn_other other differs = if_at stays memory gone (Current other) (memory (Current other)) refl (other_current (filled_over memory (memory (Current seat))) seat 0 other differs ∙ filled_current memory (memory (Current seat)) other)
+  pub turn_other : (other_seat : ℕ) → seat ≢ other_seat → settled_at config memory seat (Current other_seat) ≡ memory (Current other_seat)
+  turn_other other_seat seats_differ = if_at stays memory gone (Current other_seat) (memory (Current other_seat)) refl (other_current (filled_over memory (memory (Current seat))) seat 0 other_seat seats_differ ∙ filled_current memory (memory (Current seat)) other_seat)
 
   -- what it leaves of the seat's
   by_case : (holds : Bool) → holds ≡ stays → ((if holds then memory else gone) (Current seat) ≡ 0) ⊎ (is_last config memory ((if holds then memory else gone) (Current seat)) ≡ true)
-  by_case true is = ⊎_elim (λ none. inl (eqb-true (memory (Current seat)) 0 none)) (λ last. inr last) (or_cases (memory (Current seat) == 0) (is_last config memory (memory (Current seat))) (sym is))
-  by_case false is = inl (own_current (filled_over memory (memory (Current seat))) seat 0)
+  by_case true holds_is = ⊎_elim (λ no_buffer. inl (eqb-true (memory (Current seat)) 0 no_buffer)) (λ buffer_last. inr buffer_last) (or_cases (memory (Current seat) == 0) (is_last config memory (memory (Current seat))) (sym holds_is))
+  by_case false holds_is = inl (own_current (filled_over memory (memory (Current seat))) seat 0)
 
   pub turn_own : IsLeft config (settled_at config memory seat) seat
-  turn_own = ⊎_elim (λ none. inl none) (λ last. inr (last_same config memory (settled_at config memory seat) (settled_at config memory seat (Current seat)) turn_top ∙ last)) (by_case stays refl)
+  turn_own = ⊎_elim (λ no_buffer. inl no_buffer) (λ buffer_last. inr (last_same config memory (settled_at config memory seat) (settled_at config memory seat (Current seat)) turn_top ∙ buffer_last)) (by_case stays refl)
 
 module _ (config : Config) (memory : Word → ℕ) where
   -- one turn more
@@ -46,26 +46,26 @@ module _ (config : Config) (memory : Word → ℕ) where
   turn_is seat = refl
 
   -- tops stay
-  pub settled_top : (n region : ℕ) → settled_below config memory n (Top region) ≡ memory (Top region)
+  pub settled_top : (turns region : ℕ) → settled_below config memory turns (Top region) ≡ memory (Top region)
   unfolding settled_below
   settled_top zero region = refl
-  settled_top (suc n) region = turn_top config (settled_below config memory n) n region ∙ settled_top n region
+  settled_top (suc turns) region = turn_top config (settled_below config memory turns) turns region ∙ settled_top turns region
 
   -- and who had a turn is left so
-  pub settled_left : (n seat : ℕ) → seat < n → IsLeft config (settled_below config memory n) seat
-  settled_left zero seat below = absurd (omega (arith, below))
-  settled_left (suc other_seat) seat below = subst (λ k. IsLeft config k seat) (sym (turn_is other_seat)) (⊎_elim
-      (λ (same : seat ≡ other_seat). subst (λ k. IsLeft config (settled_at config (settled_below config memory other_seat) other_seat) k) (sym same) (turn_own config (settled_below config memory other_seat) other_seat))
-      (λ (other : seat ≢ other_seat).
-      let word = turn_other config (settled_below config memory other_seat) other_seat seat (λ same. other (sym same)) in
+  pub settled_left : (turns seat : ℕ) → seat < turns → IsLeft config (settled_below config memory turns) seat
+  settled_left zero seat seat_below = absurd (omega (arith, seat_below))
+  settled_left (suc other_seat) seat seat_below = subst (λ k. IsLeft config k seat) (sym (turn_is other_seat)) (⊎_elim
+      (λ (same_seat : seat ≡ other_seat). subst (λ k. IsLeft config (settled_at config (settled_below config memory other_seat) other_seat) k) (sym same_seat) (turn_own config (settled_below config memory other_seat) other_seat))
+      (λ (seat_differs : seat ≢ other_seat).
+      let word = turn_other config (settled_below config memory other_seat) other_seat seat (λ same_seat. seat_differs (sym same_seat)) in
       ⊎_elim
-      (λ none. inl (word ∙ none))
-      (λ last. inr (ap (λ k. is_last config (settled_at config (settled_below config memory other_seat) other_seat) k) word ∙ last_same config (settled_below config memory other_seat) (settled_at config (settled_below config memory other_seat) other_seat) (settled_below config memory other_seat (Current seat)) (turn_top config (settled_below config memory other_seat) other_seat) ∙ last))
-      (settled_left other_seat seat (omega (arith, below, other))))
+      (λ no_buffer. inl (word ∙ no_buffer))
+      (λ buffer_last. inr (ap (λ k. is_last config (settled_at config (settled_below config memory other_seat) other_seat) k) word ∙ last_same config (settled_below config memory other_seat) (settled_at config (settled_below config memory other_seat) other_seat) (settled_below config memory other_seat (Current seat)) (turn_top config (settled_below config memory other_seat) other_seat) ∙ buffer_last))
+      (settled_left other_seat seat (omega (arith, seat_below, seat_differs))))
       (cases_eq seat other_seat))
 
 pub settling_leaves : (config : Config) (memory : Word → ℕ) → SettlingLeaves config memory
 settling_leaves config memory = record {
-  last = λ seat below. settled_left config memory (seat_count config.mutators config.helpers) seat below;
-  tops = λ r. settled_top config memory (seat_count config.mutators config.helpers) r;
+  last = λ seat seat_below. settled_left config memory (seat_count config.mutators config.helpers) seat seat_below;
+  tops = λ region. settled_top config memory (seat_count config.mutators config.helpers) region;
 }

@@ -21,30 +21,30 @@ module _ (Asks : (Word → ℕ) → Plot → Type 0) (of_roots : IsOfRoots Asks)
   standing = record { memory = memory; block = represents_with.block; ghost = represents_with.ghost; graph = graph }
 
   -- Other pieces, tops, words of the heap and buffers, where what is shared stands with them, no room comes, and promised objects keep their words.
-  module _ (top heap current : ℕ → ℕ) (block : Plot) (same : SameButLoose represents_with.block block)
-      (hands : (a seat words : ℕ) → block a ≡ Some (hand seat words) → represents_with.block a ≡ Some (hand seat words))
-      (carveds : (a seat words : ℕ) → block a ≡ Some (carved seat words) → represents_with.block a ≡ Some (carved seat words))
-      (kept : (a k seat words : ℕ) → represents_with.block a ≡ Some (promised seat words) → k < words → heap (a + k) ≡ memory (Heap (a + k)))
+  module _ (top heap current : ℕ → ℕ) (block : Plot) (same_shared : SameButLoose represents_with.block block)
+      (hands : (promised_address seat words : ℕ) → block promised_address ≡ Some (hand seat words) → represents_with.block promised_address ≡ Some (hand seat words))
+      (carveds : (promised_address seat words : ℕ) → block promised_address ≡ Some (carved seat words) → represents_with.block promised_address ≡ Some (carved seat words))
+      (promised_kept : (promised_address offset seat words : ℕ) → represents_with.block promised_address ≡ Some (promised seat words) → offset < words → heap (promised_address + offset) ≡ memory (Heap (promised_address + offset)))
       (shared : Shared config (record { memory = refitted memory top heap current; block = block; ghost = represents_with.ghost; graph = graph })) where
     -- who waits has asked for what it had
     asked_still : (seat : ℕ) (asking : Asking) → IsAsked memory represents_with.block graph.count seat asking → IsAsked (refitted memory top heap current) block graph.count seat asking
-    asked_still seat nothing asked = (asked.0, asked.1, λ a words is. asked.2 a words (same.came a (promised seat words) refl is))
-    asked_still seat (asks refs nums) asked = (
-      record { wait_is = asked.0.wait_is; few_refs = asked.0.few_refs; few_nums = asked.0.few_nums; few = asked.0.few },
-      asked.1,
-      λ a words is. asked.2 a words (same.came a (promised seat words) refl is),
+    asked_still seat nothing asked_before = (asked_before.0, asked_before.1, λ promised_address words piece_there. asked_before.2 promised_address words (same_shared.came promised_address (promised seat words) refl piece_there))
+    asked_still seat (asks refs nums) asked_before = (
+      record { wait_is = asked_before.0.wait_is; few_refs = asked_before.0.few_refs; few_nums = asked_before.0.few_nums; few = asked_before.0.few },
+      asked_before.1,
+      λ promised_address words piece_there. asked_before.2 promised_address words (same_shared.came promised_address (promised seat words) refl piece_there),
     )
-    asked_still seat refused asked = (asked.0, asked.1, λ a words is. asked.2 a words (same.came a (promised seat words) refl is))
-    asked_still seat (given refs nums) asked = (
-      asked.0,
-      asked.1,
+    asked_still seat refused asked_before = (asked_before.0, asked_before.1, λ promised_address words piece_there. asked_before.2 promised_address words (same_shared.came promised_address (promised seat words) refl piece_there))
+    asked_still seat (given refs nums) asked_before = (
+      asked_before.0,
+      asked_before.1,
       record {
-        here = same.stays _ (promised seat (3 + refs + nums)) refl asked.2.here;
-        words = λ asking below. kept _ asking seat (3 + refs + nums) asked.2.here below ∙ asked.2.words asking below;
-        only = λ b more is. asked.2.only b more (same.came b (promised seat more) refl is);
-        few_refs = asked.2.few_refs;
-        few_nums = asked.2.few_nums;
-        few = asked.2.few;
+        here = same_shared.stays _ (promised seat (3 + refs + nums)) refl asked_before.2.here;
+        words = λ asking index_below. promised_kept _ asking seat (3 + refs + nums) asked_before.2.here index_below ∙ asked_before.2.words asking index_below;
+        only = λ asked_address other_words piece_there. asked_before.2.only asked_address other_words (same_shared.came asked_address (promised seat other_words) refl piece_there);
+        few_refs = asked_before.2.few_refs;
+        few_nums = asked_before.2.few_nums;
+        few = asked_before.2.few;
       },
     )
 
@@ -53,13 +53,13 @@ module _ (Asks : (Word → ℕ) → Plot → Type 0) (of_roots : IsOfRoots Asks)
       block = block;
       ghost = represents_with.ghost;
       shared = shared;
-      roots = λ mutator index below small. points_stay represents_with.block block (names_stay config represents_with.block block same) (memory (Root mutator index)) (graph.root (mutator + 1) index) (represents_with.roots mutator index below small);
-      usable = of_roots.refits memory top heap current block (of_roots.stays memory represents_with.block block same represents_with.usable);
-      none = λ a seat words is. represents_with.none a seat words (hands a seat words is);
-      uncarved = λ address seat words is. represents_with.uncarved address seat words (carveds address seat words is);
-      asked = λ seat below. asked_still seat (asking seat) (represents_with.asked seat below);
+      roots = λ mutator index seat_below small. points_stay represents_with.block block (names_stay config represents_with.block block same_shared) (memory (Root mutator index)) (graph.root (mutator + 1) index) (represents_with.roots mutator index seat_below small);
+      usable = of_roots.refits memory top heap current block (of_roots.stays memory represents_with.block block same_shared represents_with.usable);
+      none = λ promised_address seat words piece_there. represents_with.none promised_address seat words (hands promised_address seat words piece_there);
+      uncarved = λ address seat words piece_there. represents_with.uncarved address seat words (carveds address seat words piece_there);
+      asked = λ seat seat_below. asked_still seat (asking seat) (represents_with.asked seat seat_below);
       heard = represents_with.heard;
-      promised_to = λ a seat words is. represents_with.promised_to a seat words (same.came a (promised seat words) refl is);
+      promised_to = λ promised_address seat words piece_there. represents_with.promised_to promised_address seat words (same_shared.came promised_address (promised seat words) refl piece_there);
       unmarking = represents_with.unmarking;
       uncopying = represents_with.uncopying;
       no_more = represents_with.no_more;

@@ -7,62 +7,62 @@ use Rattle.image_graph.proofs.PieceStarts.{start_first, start_ends, start_goes_o
 module _ (heap : ℕ → ℕ) (base : ℕ) where
   -- how many words stand as one from a distance on
   abbrev pub words : ℕ → ℕ
-  words s = stride_at heap (base + s)
+  words offset = stride_at heap (base + offset)
 
   abbrev start : ℕ → ℕ
   start = start_of heap base
 
-  more : (k : ℕ) → start_of heap base (suc k) ≡ cond (start_of heap base k + words (start_of heap base k) == suc k) (suc k) (start_of heap base k)
+  more : (distance : ℕ) → start_of heap base (suc distance) ≡ cond (start_of heap base distance + words (start_of heap base distance) == suc distance) (suc distance) (start_of heap base distance)
   unfolding start_of
-  more k = refl
+  more distance = refl
 
   -- a word lies in the object that has it
-  pub from : (k : ℕ) → start k ≤ k
+  pub from : (distance : ℕ) → start distance ≤ distance
   from zero = omega (arith, start_first heap base)
-  from (suc k) = ⊎_elim
-      (λ (is : start k + words (start k) ≡ suc k). omega (arith, start_ends heap base k is))
-      (λ (other : start k + words (start k) ≢ suc k). omega (arith, start_goes_on heap base k other, from k))
-      (cases_eq (start k + words (start k)) (suc k))
+  from (suc distance) = ⊎_elim
+      (λ (ends_here : start distance + words (start distance) ≡ suc distance). omega (arith, start_ends heap base distance ends_here))
+      (λ (goes_on : start distance + words (start distance) ≢ suc distance). omega (arith, start_goes_on heap base distance goes_on, from distance))
+      (cases_eq (start distance + words (start distance)) (suc distance))
 
   -- the object begins where it begins
-  pub begins : (k : ℕ) → start (start k) ≡ start k
+  pub begins : (distance : ℕ) → start (start distance) ≡ start distance
   begins zero = ap start (start_first heap base)
-  begins (suc k) = ⊎_elim
-      (λ (is : start k + words (start k) ≡ suc k). ap start (start_ends heap base k is))
-      (λ (other : start k + words (start k) ≢ suc k). ap start (start_goes_on heap base k other) ∙ begins k ∙ sym (start_goes_on heap base k other))
-      (cases_eq (start k + words (start k)) (suc k))
+  begins (suc distance) = ⊎_elim
+      (λ (ends_here : start distance + words (start distance) ≡ suc distance). ap start (start_ends heap base distance ends_here))
+      (λ (goes_on : start distance + words (start distance) ≢ suc distance). ap start (start_goes_on heap base distance goes_on) ∙ begins distance ∙ sym (start_goes_on heap base distance goes_on))
+      (cases_eq (start distance + words (start distance)) (suc distance))
 
   -- each word of an object is one of the object
-  pub starts_within : (k j : ℕ) → start k ≡ k → j < words k → start (k + j) ≡ k
-  starts_within k zero begun below = let same : k + zero ≡ k = omega arith in ap start same ∙ begun
-  starts_within k (suc j) begun below =
-      let before : start (k + j) ≡ k = starts_within k j begun (omega (arith, below)) in
-      let next : k + suc j ≡ suc (k + j) = omega arith in
-      let long : words (start (k + j)) ≡ words k = ap words before in
-      ap start next ∙ start_goes_on heap base (k + j) (λ ends. omega (arith, ends, before, long, below)) ∙ before
+  pub starts_within : (distance step : ℕ) → start distance ≡ distance → step < words distance → start (distance + step) ≡ distance
+  starts_within distance zero distance_begun step_below = let no_step : distance + zero ≡ distance = omega arith in ap start no_step ∙ distance_begun
+  starts_within distance (suc step) distance_begun step_below =
+      let same_start : start (distance + step) ≡ distance = starts_within distance step distance_begun (omega (arith, step_below)) in
+      let next_step : distance + suc step ≡ suc (distance + step) = omega arith in
+      let same_words : words (start (distance + step)) ≡ words distance = ap words same_start in
+      ap start next_step ∙ start_goes_on heap base (distance + step) (λ ends. omega (arith, ends, same_start, same_words, step_below)) ∙ same_start
 
   -- an object ends at a distance, or it does not
-  pub next_ends : (k : ℕ) → base + start (k - 1) + words (start (k - 1)) ≡ base + k → start k ≡ k
-  next_ends zero is = start_first heap base
-  next_ends (suc j) is =
-      let last : suc j - 1 ≡ j = omega arith in
-      start_ends heap base j (omega (arith, is, ap start last, ap (λ k. words (start k)) last))
+  pub next_ends : (distance : ℕ) → base + start (distance - 1) + words (start (distance - 1)) ≡ base + distance → start distance ≡ distance
+  next_ends zero ends_here = start_first heap base
+  next_ends (suc last_distance) ends_here =
+      let one_back : suc last_distance - 1 ≡ last_distance = omega arith in
+      start_ends heap base last_distance (omega (arith, ends_here, ap start one_back, ap (λ distance. words (start distance)) one_back))
 
-  pub next_goes_on : (k : ℕ) → base + start (k - 1) + words (start (k - 1)) ≢ base + k → start k ≡ start (k - 1)
-  next_goes_on zero other = (let last : 0 ≡ 0 - 1 = omega arith in ap start last)
-  next_goes_on (suc j) other =
-      let last : suc j - 1 ≡ j = omega arith in
-      start_goes_on heap base j (λ ends. other (omega (arith, ends, ap start last, ap (λ k. words (start k)) last))) ∙ ap start (sym last)
+  pub next_goes_on : (distance : ℕ) → base + start (distance - 1) + words (start (distance - 1)) ≢ base + distance → start distance ≡ start (distance - 1)
+  next_goes_on zero goes_on = (let one_back : 0 ≡ 0 - 1 = omega arith in ap start one_back)
+  next_goes_on (suc last_distance) goes_on =
+      let one_back : suc last_distance - 1 ≡ last_distance = omega arith in
+      start_goes_on heap base last_distance (λ ends. goes_on (omega (arith, ends, ap start one_back, ap (λ distance. words (start distance)) one_back))) ∙ ap start (sym one_back)
 
 -- They begin at the same places where they are as long.
-pub same_starts : (heap other : ℕ → ℕ) (base top : ℕ)
-    → ((s : ℕ) → start_of heap base s ≡ s → s < top → stride_at other (base + s) ≡ stride_at heap (base + s)) → (k : ℕ) → k < top → start_of other base k ≡ start_of heap base k
-same_starts heap other base top same zero below = start_first other base ∙ sym (start_first heap base)
-same_starts heap other base top same (suc k) below =
-    let now = start_of heap base k in
-    let here = same_starts heap other base top same k (omega (arith, below)) in
-    let long = same now (begins heap base k) (omega (arith, from heap base k, below)) in
-    more other base k
-    ∙ ap (λ s. cond (s + stride_at other (base + s) == suc k) (suc k) s) here
-    ∙ ap (λ n. cond (now + n == suc k) (suc k) now) long
-    ∙ sym (more heap base k)
+pub same_starts : (heap other_heap : ℕ → ℕ) (base top : ℕ)
+    → ((object_start : ℕ) → start_of heap base object_start ≡ object_start → object_start < top → stride_at other_heap (base + object_start) ≡ stride_at heap (base + object_start)) → (distance : ℕ) → distance < top → start_of other_heap base distance ≡ start_of heap base distance
+same_starts heap other_heap base top same_stride zero distance_below = start_first other_heap base ∙ sym (start_first heap base)
+same_starts heap other_heap base top same_stride (suc distance) distance_below =
+    let current_start = start_of heap base distance in
+    let start_same = same_starts heap other_heap base top same_stride distance (omega (arith, distance_below)) in
+    let stride_same = same_stride current_start (begins heap base distance) (omega (arith, from heap base distance, distance_below)) in
+    more other_heap base distance
+    ∙ ap (λ object_start. cond (object_start + stride_at other_heap (base + object_start) == suc distance) (suc distance) object_start) start_same
+    ∙ ap (λ stride. cond (current_start + stride == suc distance) (suc distance) current_start) stride_same
+    ∙ sym (more heap base distance)

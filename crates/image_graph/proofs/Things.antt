@@ -16,23 +16,23 @@ use Rattle.image_graph.proofs.Origin.{block_at, IsFrom, IsLeft, block_from}
 
 -- the words of an object in its new place, by their index
 pub word_stays : (renew : ℕ → ℕ) (refs index word : ℕ) → index ≢ 0 → (index < 3) → placed_word renew refs index word ≡ word
-word_stays renew refs index word positive low =
-    cond-false (index == 0) plain_header (cond (nat_le 3 index && nat_lt index (3 + refs)) (renew word) word) (ne_eqb index 0 positive)
-    ∙ cond-false (nat_le 3 index && nat_lt index (3 + refs)) (renew word) word (and_left (nat_le 3 index) (nat_lt index (3 + refs)) (lt-leb 3 index low))
+word_stays renew refs index word some_index index_low =
+    cond-false (index == 0) plain_header (cond (nat_le 3 index && nat_lt index (3 + refs)) (renew word) word) (ne_eqb index 0 some_index)
+    ∙ cond-false (nat_le 3 index && nat_lt index (3 + refs)) (renew word) word (and_left (nat_le 3 index) (nat_lt index (3 + refs)) (lt-leb 3 index index_low))
 
-pub reference_placed : (renew : ℕ → ℕ) (refs i word : ℕ) → i < refs → placed_word renew refs (3 + i) word ≡ renew word
-reference_placed renew refs i word below =
-    cond-false (3 + i == 0) plain_header (cond (nat_le 3 (3 + i) && nat_lt (3 + i) (3 + refs)) (renew word) word) (ne_eqb (3 + i) 0 (λ e. omega (arith, e)))
-    ∙ cond-true (nat_le 3 (3 + i) && nat_lt (3 + i) (3 + refs)) (renew word) word
-    (and_from (nat_le 3 (3 + i)) (nat_lt (3 + i) (3 + refs)) (le-leb 3 (3 + i) (omega arith)) (lt-ltb (3 + i) (3 + refs) (omega (arith, below))))
+pub reference_placed : (renew : ℕ → ℕ) (refs index word : ℕ) → index < refs → placed_word renew refs (3 + index) word ≡ renew word
+reference_placed renew refs index word index_below =
+    cond-false (3 + index == 0) plain_header (cond (nat_le 3 (3 + index) && nat_lt (3 + index) (3 + refs)) (renew word) word) (ne_eqb (3 + index) 0 (λ same_offset. omega (arith, same_offset)))
+    ∙ cond-true (nat_le 3 (3 + index) && nat_lt (3 + index) (3 + refs)) (renew word) word
+    (and_from (nat_le 3 (3 + index)) (nat_lt (3 + index) (3 + refs)) (le-leb 3 (3 + index) (omega arith)) (lt-ltb (3 + index) (3 + refs) (omega (arith, index_below))))
 
-pub number_placed : (renew : ℕ → ℕ) (refs i word : ℕ) → placed_word renew refs (3 + refs + i) word ≡ word
-number_placed renew refs i word =
-    cond-false (3 + refs + i == 0) plain_header (cond (nat_le 3 (3 + refs + i) && nat_lt (3 + refs + i) (3 + refs)) (renew word) word) (ne_eqb (3 + refs + i) 0 (λ e. omega (arith, e)))
-    ∙ cond-false (nat_le 3 (3 + refs + i) && nat_lt (3 + refs + i) (3 + refs)) (renew word) word
-    (and_right (nat_le 3 (3 + refs + i)) (nat_lt (3 + refs + i) (3 + refs)) (le-ltb (3 + refs + i) (3 + refs) (omega arith)))
+pub number_placed : (renew : ℕ → ℕ) (refs index word : ℕ) → placed_word renew refs (3 + refs + index) word ≡ word
+number_placed renew refs index word =
+    cond-false (3 + refs + index == 0) plain_header (cond (nat_le 3 (3 + refs + index) && nat_lt (3 + refs + index) (3 + refs)) (renew word) word) (ne_eqb (3 + refs + index) 0 (λ same_offset. omega (arith, same_offset)))
+    ∙ cond-false (nat_le 3 (3 + refs + index) && nat_lt (3 + refs + index) (3 + refs)) (renew word) word
+    (and_right (nat_le 3 (3 + refs + index)) (nat_lt (3 + refs + index) (3 + refs)) (le-ltb (3 + refs + index) (3 + refs) (omega arith)))
 
-module _ (config : Config) (top heap : ℕ → ℕ) (block : Plot) (object : Name → Option Object) (now kept : ℕ → ℕ) (can : CanPack config top heap block object now kept) (shut : ℕ → Bool) where
+module _ (config : Config) (top heap : ℕ → ℕ) (block : Plot) (object : Name → Option Object) (now kept : ℕ → ℕ) (packable : CanPack config top heap block object now kept) (shut : ℕ → Bool) where
   abbrev place : ℕ → ℕ
   place = new_place config.region_words shut kept
 
@@ -43,68 +43,68 @@ module _ (config : Config) (top heap : ℕ → ℕ) (block : Plot) (object : Nam
   renew = renewed place now
 
   abbrev from_kept : ℕ → Block → Type 0
-  from_kept p piece = IsFrom config top heap block object now kept can shut p piece
+  from_kept new_address piece = IsFrom config top heap block object now kept packable shut new_address piece
 
   abbrev left_over : ℕ → Block → Type 0
-  left_over p piece = IsLeft config top heap block object now kept can shut p piece
+  left_over new_address piece = IsLeft config top heap block object now kept packable shut new_address piece
 
   -- a word that stood for a reference, renewed, stands for it
   pub renewed_points : (word : ℕ) (reference : Reference) → Points block word reference → (word ≢ 0 → 0 < kept (now word)) → Points new_block (renew word) reference
   renewed_points word None points led = cond-true (word == 0) 0 (place (now word)) (eq-eqb word 0 points)
   renewed_points word (Some name) points led =
-      let other = none_at_0 config top block can.plotted word name points in
-      let copy = can.current word name points in
-      let goes : renew word ≡ place (now word) = cond-false (word == 0) 0 (place (now word)) (ne_eqb word 0 other) in
-      ap (λ k. name_at (new_block k)) goes ∙ ap name_at (block_at config top heap block object now kept can shut (now word) (led other) ∙ copy.2)
+      let not_null = none_at_0 config top block packable.plotted word name points in
+      let copy = packable.current word name points in
+      let word_goes : renew word ≡ place (now word) = cond-false (word == 0) 0 (place (now word)) (ne_eqb word 0 not_null) in
+      ap (λ new_address. name_at (new_block new_address)) word_goes ∙ ap name_at (block_at config top heap block object now kept packable shut (now word) (led not_null) ∙ copy.2)
 
   -- an object of the new plot is that of a kept address
-  pub object_from : (p refs nums : ℕ) (name : Name) → new_block p ≡ Some (thing name refs nums) → from_kept p (thing name refs nums)
-  object_from p refs nums name is = ⊎_elim
-      (λ (a : from_kept p (thing name refs nums)). a)
-      (λ (left : left_over p (thing name refs nums)). absurd (let differ : filler (words_of left.0) ≡ thing name refs nums = left.4 in cc))
-      (block_from config top heap block object now kept can shut p (thing name refs nums) is)
+  pub object_from : (new_address refs nums : ℕ) (name : Name) → new_block new_address ≡ Some (thing name refs nums) → from_kept new_address (thing name refs nums)
+  object_from new_address refs nums name new_thing = ⊎_elim
+      (λ (kept_object : from_kept new_address (thing name refs nums)). kept_object)
+      (λ (left_piece : left_over new_address (thing name refs nums)). absurd (let differ : filler (words_of left_piece.0) ≡ thing name refs nums = left_piece.4 in cc))
+      (block_from config top heap block object now kept packable shut new_address (thing name refs nums) new_thing)
 
   -- it is as in the graph, where its words are as they should be
-  module _ (after : ℕ → ℕ) (word_at : (a i : ℕ) → i < kept a → after (place a + i) ≡ slid_word renew heap a i) where
+  module _ (after : ℕ → ℕ) (word_at : (given_address i : ℕ) → i < kept given_address → after (place given_address + i) ≡ slid_word renew heap given_address i) where
     object_slid : (address refs nums : ℕ) (name : Name) (object : Object) → 0 < kept address → kept address ≡ 3 + refs + nums → IsThing heap block address refs nums name object
         → IsThing after new_block (place address) refs nums name object
-    object_slid address refs nums name object positive size is =
-        let p = place address in
-        let shape : refs_in (heap (address + 1)) ≡ refs = ap refs_in is.shape ∙ refs_read refs nums is.few_refs is.few_nums in
-        let plain : p + 0 ≡ p = omega arith in
+    object_slid address refs nums name object some_kept kept_size thing_there =
+        let new_address = place address in
+        let same_refs : refs_in (heap (address + 1)) ≡ refs = ap refs_in thing_there.shape ∙ refs_read refs nums thing_there.few_refs thing_there.few_nums in
+        let same_address : new_address + 0 ≡ new_address = omega arith in
         record {
-          header = ap after (sym plain) ∙ word_at address 0 positive ∙ cond-true (0 == 0) plain_header (cond (nat_le 3 0 && nat_lt 0 (3 + refs_in (heap (address + 1)))) (renew (heap (address + 0))) (heap (address + 0))) refl;
-          shape = word_at address 1 (omega (arith, size)) ∙ word_stays renew (refs_in (heap (address + 1))) 1 (heap (address + 1)) (λ e. omega (arith, e)) (omega arith) ∙ is.shape;
-          name_word = word_at address 2 (omega (arith, size)) ∙ word_stays renew (refs_in (heap (address + 1))) 2 (heap (address + 2)) (λ e. omega (arith, e)) (omega arith) ∙ is.name_word;
-          few_refs = is.few_refs;
-          few_nums = is.few_nums;
-          refs_are = is.refs_are;
-          nums_are = is.nums_are;
-          references = λ i r there.
-              let below : i < refs = (let within = slice_get_within object.refs i r there in omega (arith, within, is.refs_are)) in
-              let few : i < refs_in (heap (address + 1)) = omega (arith, below, shape) in
-              let index : p + 3 + i ≡ p + (3 + i) = omega arith in
-              let old : address + (3 + i) ≡ address + 3 + i = omega arith in
-              let word : after (p + 3 + i) ≡ renew (heap (address + 3 + i)) =
-              ap after index ∙ word_at address (3 + i) (omega (arith, size, below)) ∙ reference_placed renew (refs_in (heap (address + 1))) i (heap (address + (3 + i))) few ∙ ap (λ address. renew (heap address)) old in
-              subst (λ x. Points new_block x r) (sym word) (renewed_points (heap (address + 3 + i)) r (is.references i r there) (λ other. can.closed address i positive few other));
-          numbers = λ i n there.
-              let below : i < nums = (let within = slice_get_within object.nums i n there in omega (arith, within, is.nums_are)) in
-              let index : p + 3 + refs + i ≡ p + (3 + refs_in (heap (address + 1)) + i) = omega (arith, shape) in
-              let old : address + (3 + refs_in (heap (address + 1)) + i) ≡ address + 3 + refs + i = omega (arith, shape) in
-              ap after index ∙ word_at address (3 + refs_in (heap (address + 1)) + i) (omega (arith, size, below, shape))
-              ∙ number_placed renew (refs_in (heap (address + 1))) i (heap (address + (3 + refs_in (heap (address + 1)) + i))) ∙ ap heap old ∙ is.numbers i n there;
+          header = ap after (sym same_address) ∙ word_at address 0 some_kept ∙ cond-true (0 == 0) plain_header (cond (nat_le 3 0 && nat_lt 0 (3 + refs_in (heap (address + 1)))) (renew (heap (address + 0))) (heap (address + 0))) refl;
+          shape = word_at address 1 (omega (arith, kept_size)) ∙ word_stays renew (refs_in (heap (address + 1))) 1 (heap (address + 1)) (λ same_offset. omega (arith, same_offset)) (omega arith) ∙ thing_there.shape;
+          name_word = word_at address 2 (omega (arith, kept_size)) ∙ word_stays renew (refs_in (heap (address + 1))) 2 (heap (address + 2)) (λ same_offset. omega (arith, same_offset)) (omega arith) ∙ thing_there.name_word;
+          few_refs = thing_there.few_refs;
+          few_nums = thing_there.few_nums;
+          refs_are = thing_there.refs_are;
+          nums_are = thing_there.nums_are;
+          references = λ field reference entry_there.
+              let index_below : field < refs = (let entry_within = slice_get_within object.refs field reference entry_there in omega (arith, entry_within, thing_there.refs_are)) in
+              let field_below : field < refs_in (heap (address + 1)) = omega (arith, index_below, same_refs) in
+              let index_parts : new_address + 3 + field ≡ new_address + (3 + field) = omega arith in
+              let old : address + (3 + field) ≡ address + 3 + field = omega arith in
+              let word : after (new_address + 3 + field) ≡ renew (heap (address + 3 + field)) =
+              ap after index_parts ∙ word_at address (3 + field) (omega (arith, kept_size, index_below)) ∙ reference_placed renew (refs_in (heap (address + 1))) field (heap (address + (3 + field))) field_below ∙ ap (λ address. renew (heap address)) old in
+              subst (λ x. Points new_block x reference) (sym word) (renewed_points (heap (address + 3 + field)) reference (thing_there.references field reference entry_there) (λ not_null. packable.closed address field some_kept field_below not_null));
+          numbers = λ field number entry_there.
+              let index_below : field < nums = (let entry_within = slice_get_within object.nums field number entry_there in omega (arith, entry_within, thing_there.nums_are)) in
+              let index_parts : new_address + 3 + refs + field ≡ new_address + (3 + refs_in (heap (address + 1)) + field) = omega (arith, same_refs) in
+              let old : address + (3 + refs_in (heap (address + 1)) + field) ≡ address + 3 + refs + field = omega (arith, same_refs) in
+              ap after index_parts ∙ word_at address (3 + refs_in (heap (address + 1)) + field) (omega (arith, kept_size, index_below, same_refs))
+              ∙ number_placed renew (refs_in (heap (address + 1))) field (heap (address + (3 + refs_in (heap (address + 1)) + field))) ∙ ap heap old ∙ thing_there.numbers field number entry_there;
         }
 
     -- the pieces of the new plot are the graph's objects, each once
     pub slid_are_objects : AreObjects after new_block object
     slid_are_objects = record {
-      each = λ p refs nums name is.
-          let a = object_from p refs nums name is in
-          let o = can.each a.0 refs nums name a.1 a.4 in
-          (o.0, o.1, subst (λ k. IsThing after new_block k refs nums name o.0) a.3 (object_slid a.0 refs nums name o.0 a.1 (sym a.5) o.2));
-      once = λ p q refs nums more_refs more_nums name is_p is_q.
-          let a = object_from p refs nums name is_p in
-          let b = object_from q more_refs more_nums name is_q in
-          sym a.3 ∙ ap place (can.once a.0 b.0 refs nums more_refs more_nums name a.1 b.1 a.4 b.4) ∙ b.3;
+      each = λ first_address refs nums name new_thing.
+          let first_kept = object_from first_address refs nums name new_thing in
+          let graph_object = packable.each first_kept.0 refs nums name first_kept.1 first_kept.4 in
+          (graph_object.0, graph_object.1, subst (λ that_address. IsThing after new_block that_address refs nums name graph_object.0) first_kept.3 (object_slid first_kept.0 refs nums name graph_object.0 first_kept.1 (sym first_kept.5) graph_object.2));
+      once = λ first_address second_address refs nums other_refs other_nums name first_new second_new.
+          let first_kept = object_from first_address refs nums name first_new in
+          let second_kept = object_from second_address other_refs other_nums name second_new in
+          sym first_kept.3 ∙ ap place (packable.once first_kept.0 second_kept.0 refs nums other_refs other_nums name first_kept.1 second_kept.1 first_kept.4 second_kept.4) ∙ second_kept.3;
     }

@@ -22,7 +22,7 @@ trim memory = refitted memory (tops_of memory) (heap_of memory) (trimmed (curren
 
 -- with free words it is there
 pub trimmed_full : (current : ℕ → ℕ) (seat : ℕ) → next_in (current seat) < end_in (current seat) → trimmed current seat ≡ current seat
-trimmed_full current seat below = cond-true (nat_lt (next_in (current seat)) (end_in (current seat))) (current seat) 0 (lt-ltb (next_in (current seat)) (end_in (current seat)) below)
+trimmed_full current seat some_free = cond-true (nat_lt (next_in (current seat)) (end_in (current seat))) (current seat) 0 (lt-ltb (next_in (current seat)) (end_in (current seat)) some_free)
 
 -- without, it is not
 pub trimmed_empty : (current : ℕ → ℕ) (seat : ℕ) → end_in (current seat) ≤ next_in (current seat) → trimmed current seat ≡ 0
@@ -30,20 +30,20 @@ trimmed_empty current seat empty = cond-false (nat_lt (next_in (current seat)) (
 
 -- nor where there was none
 pub trimmed_none : (current : ℕ → ℕ) (seat : ℕ) → current seat ≡ 0 → trimmed current seat ≡ 0
-trimmed_none current seat none = ⊎_elim (λ more. trimmed_full current seat more ∙ none) (λ empty. trimmed_empty current seat empty) (cases_lt (next_in (current seat)) (end_in (current seat)))
+trimmed_none current seat no_buffer = ⊎_elim (λ some_free. trimmed_full current seat some_free ∙ no_buffer) (λ empty. trimmed_empty current seat empty) (cases_lt (next_in (current seat)) (end_in (current seat)))
 
 -- one that is there has free words
 pub all_full : (current : ℕ → ℕ) (seat : ℕ) → trimmed current seat ≢ 0 → next_in (trimmed current seat) < end_in (trimmed current seat)
-all_full current seat positive = ⊎_elim
-    (λ (more : next_in (current seat) < end_in (current seat)). subst (λ word. next_in word < end_in word) (sym (trimmed_full current seat more)) more)
-    (λ (empty : end_in (current seat) ≤ next_in (current seat)). absurd (positive (trimmed_empty current seat empty)))
+all_full current seat some_buffer = ⊎_elim
+    (λ (some_free : next_in (current seat) < end_in (current seat)). subst (λ word. next_in word < end_in word) (sym (trimmed_full current seat some_free)) some_free)
+    (λ (empty : end_in (current seat) ≤ next_in (current seat)). absurd (some_buffer (trimmed_empty current seat empty)))
     (cases_lt (next_in (current seat)) (end_in (current seat)))
 
 -- trimmed without a seat's is without it trimmed
 trimmed_without : (current : ℕ → ℕ) (seat : ℕ) → trimmed (updated current seat 0) ≡ updated (trimmed current) seat 0
 trimmed_without current seat = fun_ext (λ other_seat. ⊎_elim
-    (λ (same : seat ≡ other_seat). trimmed_none (updated current seat 0) other_seat (updated_same current seat 0 other_seat same) ∙ sym (updated_same (trimmed current) seat 0 other_seat same))
-    (λ (other : seat ≢ other_seat). ap (λ word. if nat_lt (next_in word) (end_in word) then word else 0) (updated_else current seat 0 other_seat other) ∙ sym (updated_else (trimmed current) seat 0 other_seat other))
+    (λ (same_seat : seat ≡ other_seat). trimmed_none (updated current seat 0) other_seat (updated_same current seat 0 other_seat same_seat) ∙ sym (updated_same (trimmed current) seat 0 other_seat same_seat))
+    (λ (seat_differs : seat ≢ other_seat). ap (λ word. if nat_lt (next_in word) (end_in word) then word else 0) (updated_else current seat 0 other_seat seat_differs) ∙ sym (updated_else (trimmed current) seat 0 other_seat seat_differs))
     (cases_eq seat other_seat))
 
 -- after a seat's buffer went
@@ -55,29 +55,29 @@ trim_without memory top heap seat =
 
 -- the seat's, which had no free words, is none before and after
 pub trim_empty : (memory : Word → ℕ) (top : ℕ → ℕ) (seat : ℕ) → end_in (memory (Current seat)) ≤ next_in (memory (Current seat)) → top ≡ tops_of memory → trim (refitted memory top (heap_of memory) (updated (currents_of memory) seat 0)) ≡ trim memory
-trim_empty memory top seat empty same =
+trim_empty memory top seat empty same_tops =
     refit_twice memory top (heap_of memory) (updated (currents_of memory) seat 0) top (heap_of memory) (trimmed (updated (currents_of memory) seat 0))
-    ∙ ap (λ top. refitted memory top (heap_of memory) (trimmed (updated (currents_of memory) seat 0))) same
+    ∙ ap (λ top. refitted memory top (heap_of memory) (trimmed (updated (currents_of memory) seat 0))) same_tops
     ∙ ap (refitted memory (tops_of memory) (heap_of memory)) (fun_ext (λ other_seat. ⊎_elim
-    (λ (at : seat ≡ other_seat). trimmed_none (updated (currents_of memory) seat 0) other_seat (updated_same (currents_of memory) seat 0 other_seat at) ∙ sym (trimmed_empty (currents_of memory) seat empty) ∙ ap (trimmed (currents_of memory)) at)
-    (λ (other : seat ≢ other_seat). ap (λ word. if nat_lt (next_in word) (end_in word) then word else 0) (updated_else (currents_of memory) seat 0 other_seat other))
+    (λ (same_seat : seat ≡ other_seat). trimmed_none (updated (currents_of memory) seat 0) other_seat (updated_same (currents_of memory) seat 0 other_seat same_seat) ∙ sym (trimmed_empty (currents_of memory) seat empty) ∙ ap (trimmed (currents_of memory)) same_seat)
+    (λ (seat_differs : seat ≢ other_seat). ap (λ word. if nat_lt (next_in word) (end_in word) then word else 0) (updated_else (currents_of memory) seat 0 other_seat seat_differs))
     (cases_eq seat other_seat)))
 
 -- a filler is stored, and the buffer goes
 pub fill_is : (memory : Word → ℕ) (seat address value : ℕ) → write (write memory (Heap address) value) (Current seat) 0 ≡ refitted memory (tops_of memory) (updated (heap_of memory) address value) (updated (currents_of memory) seat 0)
 fill_is memory seat address value =
-    ap (λ k. write (write k (Heap address) value) (Current seat) 0) (refit_same memory)
-    ∙ ap (λ k. write k (Current seat) 0) (refit_heap memory (tops_of memory) (heap_of memory) (currents_of memory) address value)
+    ap (λ some_memory. write (write some_memory (Heap address) value) (Current seat) 0) (refit_same memory)
+    ∙ ap (λ some_memory. write some_memory (Current seat) 0) (refit_heap memory (tops_of memory) (heap_of memory) (currents_of memory) address value)
     ∙ refit_current memory (tops_of memory) (updated (heap_of memory) address value) (currents_of memory) seat 0
 
 -- the buffer goes alone
 pub clear_is : (memory : Word → ℕ) (seat : ℕ) → write memory (Current seat) 0 ≡ refitted memory (tops_of memory) (heap_of memory) (updated (currents_of memory) seat 0)
-clear_is memory seat = ap (λ k. write k (Current seat) 0) (refit_same memory) ∙ refit_current memory (tops_of memory) (heap_of memory) (currents_of memory) seat 0
+clear_is memory seat = ap (λ some_memory. write some_memory (Current seat) 0) (refit_same memory) ∙ refit_current memory (tops_of memory) (heap_of memory) (currents_of memory) seat 0
 
 -- free words are given back, and the buffer goes
 pub back_is : (config : Config) (memory : Word → ℕ) (seat word : ℕ) → write (given_back config memory word) (Current seat) 0
     ≡ refitted memory (updated (tops_of memory) (buffer_region config word) (next_in word - base_of config (buffer_region config word))) (heap_of memory) (updated (currents_of memory) seat 0)
 back_is config memory seat word =
-    ap (λ k. write (write k (Top (buffer_region config word)) (next_in word - base_of config (buffer_region config word))) (Current seat) 0) (refit_same memory)
-    ∙ ap (λ k. write k (Current seat) 0) (refit_top memory (tops_of memory) (heap_of memory) (currents_of memory) (buffer_region config word) (next_in word - base_of config (buffer_region config word)))
+    ap (λ some_memory. write (write some_memory (Top (buffer_region config word)) (next_in word - base_of config (buffer_region config word))) (Current seat) 0) (refit_same memory)
+    ∙ ap (λ some_memory. write some_memory (Current seat) 0) (refit_top memory (tops_of memory) (heap_of memory) (currents_of memory) (buffer_region config word) (next_in word - base_of config (buffer_region config word)))
     ∙ refit_current memory (updated (tops_of memory) (buffer_region config word) (next_in word - base_of config (buffer_region config word))) (heap_of memory) (currents_of memory) seat 0

@@ -20,7 +20,7 @@ settled_piece config memory (spare seat words) = if is_last config memory (memor
 settled_piece config memory piece = piece
 
 abbrev pub settled_block : Config → (Word → ℕ) → Plot → Plot
-settled_block config memory block a = option_map (settled_piece config memory) (block a)
+settled_block config memory block address = option_map (settled_piece config memory) (block address)
 
 -- Whatever graph the words held, in whatever way, they hold it once buffers were settled, by the pieces that are left; and where each piece
 -- said how many words it has, each does.

@@ -26,8 +26,8 @@ HasNoOtherBuffers config memory = (seat : ℕ) → seat_count config.mutators co
 
 -- Where each buffer is the last of its region, edges divide the pieces, ..
 abbrev pub LastDivide : Type 0
-LastDivide = (config : Config) (memory : Word → ℕ) (graph : Graph) (asking : ℕ → Asking) (r : RepresentsByCopies config memory graph asking) → AreLast config memory → AreDivided config memory r.block
+LastDivide = (config : Config) (memory : Word → ℕ) (graph : Graph) (asking : ℕ → Asking) (represented : RepresentsByCopies config memory graph asking) → AreLast config memory → AreDivided config memory represented.block
 
 -- .. and where nobody has a buffer, no piece is room.
 abbrev pub NoneHaveRoom : Type 0
-NoneHaveRoom = (config : Config) (memory : Word → ℕ) (graph : Graph) (asking : ℕ → Asking) (r : RepresentsByCopies config memory graph asking) → HasNoBuffers config memory → HasNoRoom r.block
+NoneHaveRoom = (config : Config) (memory : Word → ℕ) (graph : Graph) (asking : ℕ → Asking) (represented : RepresentsByCopies config memory graph asking) → HasNoBuffers config memory → HasNoRoom represented.block

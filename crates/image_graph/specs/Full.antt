@@ -83,7 +83,7 @@ top_then config shut kept memory region = if shut (region + 1) then memory (Top 
 
 -- the heap after the kept objects were moved
 unfoldable pub moved_heap : Config → (shut : ℕ → Bool) (now kept : ℕ → ℕ) → (Word → ℕ) → ℕ → ℕ
-moved_heap config shut now kept memory a = slid (place_in config shut kept) kept (renewed (place_in config shut kept) now) (λ address. memory (Heap address)) (heap_end config) a
+moved_heap config shut now kept memory asked_address = slid (place_in config shut kept) kept (renewed (place_in config shut kept) now) (λ address. memory (Heap address)) (heap_end config) asked_address
 
 -- The words after the kept objects were packed: objects at their new places, references renewed, what is left over in pinned regions
 -- only fills, tops and the free word by what was placed. Nothing of a collection in progress is left. Words that no object covers stay,
@@ -126,17 +126,17 @@ abbrev pub asked_in : (Word → ℕ) → ℕ → ℕ
 asked_in memory mutator = if memory (Wait mutator) == 0 then 0 else object_words (request_shape_in (memory (Wait mutator)))
 
 -- what a word of the heap is after an object of a shape and a name word was made at an address: its fields are null and 0
-abbrev pub made_word : (address shape name before x : ℕ) → ℕ
-made_word address shape name before x =
-    if nat_le address x && nat_lt x (address + object_words shape) then
-    (if address == x then plain_header else (if address + 1 == x then shape else (if address + 2 == x then name else 0)))
+abbrev pub made_word : (address shape name before asked_address : ℕ) → ℕ
+made_word address shape name before asked_address =
+    if nat_le address asked_address && nat_lt asked_address (address + object_words shape) then
+    (if address == asked_address then plain_header else (if address + 1 == asked_address then shape else (if address + 2 == asked_address then name else 0)))
     else before
 
 -- the words after the object that a thread asks for was made at the top of a region
 unfoldable pub made_in : Config → (Word → ℕ) → (mutator region : ℕ) → Word → ℕ
 made_in config memory mutator region (Heap address) =
     made_word (base_of config region + memory (Top region)) (request_shape_in (memory (Wait mutator))) (name_code (mutator + 1) (request_count_in (memory (Wait mutator)))) (memory (Heap address)) address
-made_in config memory mutator region (Top other_region) = if region == other_region then memory (Top region) + object_words (request_shape_in (memory (Wait mutator))) else memory (Top other_region)
+made_in config memory mutator region (Top asked_region) = if region == asked_region then memory (Top region) + object_words (request_shape_in (memory (Wait mutator))) else memory (Top asked_region)
 made_in config memory mutator region Free = bit_and (memory Free) (all_but region)
 made_in config memory mutator region (Answer other_mutator) = if mutator == other_mutator then base_of config region + memory (Top region) else memory (Answer other_mutator)
 made_in config memory mutator region (Wait other_mutator) = if mutator == other_mutator then 0 else memory (Wait other_mutator)

@@ -25,7 +25,7 @@ pub record AreHeldKept (heap : ℕ → ℕ) (Held : ℕ → Type 0) (kept : ℕ 
 -- the list with the fields of an object at its end, if there is one
 abbrev pub with_fields : (ℕ → List ℕ) → List ℕ → Option ℕ → List ℕ
 with_fields fields order None = order
-with_fields fields order (Some a) = with_addresses order (fields a)
+with_fields fields order (Some address) = with_addresses order (fields address)
 
 -- the addresses that are found in so many turns, each of which takes the next address of the list and adds its fields
 unfoldable pub found_in : (fields : ℕ → List ℕ) (roots : List ℕ) → ℕ → List ℕ

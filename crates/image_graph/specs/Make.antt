@@ -5,7 +5,7 @@ use Rattle.heap_words.specs.Words.{Word, Top, Heap}
 
 -- a memory after so many words of the heap were cleared, from an address on
 abbrev pub heap_cleared : (address words : ℕ) → (Word → ℕ) → Word → ℕ
-heap_cleared address words memory (Heap other_address) = if nat_le address other_address && nat_lt other_address (address + words) then 0 else memory (Heap other_address)
+heap_cleared address words memory (Heap asked_address) = if nat_le address asked_address && nat_lt asked_address (address + words) then 0 else memory (Heap asked_address)
 heap_cleared address words memory word = memory word
 
 -- so many words from an address on are of the heap

@@ -15,7 +15,7 @@ pins_below memory (suc mutator) = pins_below memory mutator ++ map (λ slot. mem
 
 -- an address lies in a region
 abbrev pub lies_in : Config → (region : ℕ) → ℕ → Bool
-lies_in config region a = nat_le (base_of config region) a && nat_lt a (base_of config region + config.region_words)
+lies_in config region address = nat_le (base_of config region) address && nat_lt address (base_of config region + config.region_words)
 
 -- a pin slot of a mutator holds an address of a region
 abbrev pub has_pin : Config → (Word → ℕ) → (region mutator : ℕ) → Bool
@@ -26,12 +26,12 @@ abbrev pub is_pinned : Config → (Word → ℕ) → ℕ → Bool
 is_pinned config memory region = list_any (has_pin config memory region) (range_with_len 0 config.mutators)
 
 abbrev pub is_pinned_below : Config → (Word → ℕ) → (regions : ℕ) → ℕ → Bool
-is_pinned_below config memory regions r = nat_lt r regions && is_pinned config memory r
+is_pinned_below config memory regions region = nat_lt region regions && is_pinned config memory region
 
 -- the set of the first so many regions that pass a test
 unfoldable pub set_of : (ℕ → Bool) → ℕ → ℕ
 set_of test zero = 0
-set_of test (suc r) = (if test r then 1 else 0) * 2 ^ r + set_of test r
+set_of test (suc region) = (if test region then 1 else 0) * 2 ^ region + set_of test region
 
 -- the set of the pinned regions, and of a row of the heap whether its region is in it: rows are regions counted from 1
 abbrev pub pinned_set : Config → (Word → ℕ) → ℕ
@@ -50,7 +50,7 @@ is_in_use config memory address = nat_le config.region_words address && (nat_lt 
 
 -- an object begins there, or words that only fill
 abbrev pub begins : Config → (Word → ℕ) → ℕ → Bool
-begins config memory x = is_in_use config memory x && (object_of config memory x == x)
+begins config memory address = is_in_use config memory address && (object_of config memory address == address)
 
 -- The words after the objects that pass a test, in the regions that pass another, became words that only fill. All other words stay.
 abbrev pub filled_in : Config → (in_region : ℕ → Bool) (left : ℕ → Bool) → (Word → ℕ) → Word → ℕ
@@ -64,11 +64,11 @@ is_filled_from config left start memory word = if left start then write memory (
 
 -- An object begins at a distance behind the base of a region, or words that only fill: what is before it ends there.
 abbrev pub BeginsAt : Config → (Word → ℕ) → (region : ℕ) → ℕ → Type 0
-BeginsAt config memory region k = start_of (λ address. memory (Heap address)) (base_of config region) k ≡ k
+BeginsAt config memory region distance = start_of (λ address. memory (Heap address)) (base_of config region) distance ≡ distance
 
 -- each object of a region ends at its top, or before, and so do words that only fill
 abbrev pub EndInRegion : Config → (Word → ℕ) → (region : ℕ) → Type 0
-EndInRegion config memory region = (k : ℕ) → k < memory (Top region) → BeginsAt config memory region k → k + stride_at (λ address. memory (Heap address)) (base_of config region + k) ≤ memory (Top region)
+EndInRegion config memory region = (distance : ℕ) → distance < memory (Top region) → BeginsAt config memory region distance → distance + stride_at (λ address. memory (Heap address)) (base_of config region + distance) ≤ memory (Top region)
 
 -- what is left over of a region can be filled
 pub record CanFill (config : Config) (memory : Word → ℕ) (region : ℕ) : Type 0 where

@@ -40,9 +40,9 @@ abbrev pub heap_end : Config → ℕ
 heap_end config = (config.regions + 1) * config.region_words
 
 -- the kept address below an end whose object is placed at an address, if there is one
-unfoldable pub origin : (place kept : ℕ → ℕ) (at : ℕ) → ℕ → Option ℕ
-origin place kept at zero = None
-origin place kept at (suc a) = if nat_lt 0 (kept a) && (place a == at) then Some a else origin place kept at a
+unfoldable pub origin : (place kept : ℕ → ℕ) (target_address : ℕ) → ℕ → Option ℕ
+origin place kept target_address zero = None
+origin place kept target_address (suc address) = if nat_lt 0 (kept address) && (place address == target_address) then Some address else origin place kept target_address address
 
 -- a piece of a pinned region that no kept object is only fills then
 abbrev pub left_piece : Block → Block
@@ -51,9 +51,9 @@ left_piece piece = filler (words_of piece)
 -- At the new place of each kept object the piece that was at its address. In pinned regions, which are shut, each other piece only
 -- fills; and there are no other pieces.
 abbrev pub packed_block : Config → (shut : ℕ → Bool) (kept : ℕ → ℕ) → Plot → Plot
-packed_block config shut kept block at =
-    if shut (region_with config at + 1) then (if kept at == 0 then option_map left_piece (block at) else block at)
-    else option_and_then block (origin (new_place config.region_words shut kept) kept at (heap_end config))
+packed_block config shut kept block address =
+    if shut (region_with config address + 1) then (if kept address == 0 then option_map left_piece (block address) else block address)
+    else option_and_then block (origin (new_place config.region_words shut kept) kept address (heap_end config))
 
 -- the top of each open region then
 abbrev pub packed_top : Config → (shut : ℕ → Bool) (kept : ℕ → ℕ) → ℕ → ℕ

@@ -36,24 +36,24 @@ pub record AreFresh (threads : ℕ) (graph : Graph) (promises : Promises) : Type
 -- so many words, if there is something
 abbrev pub words_if : Reference → ℕ → ℕ
 words_if None words = 0
-words_if (Some n) words = words
+words_if (Some name) words = words
 
 -- the words of what a thread is promised
 abbrev pub promised_words : Promises → ℕ → ℕ
-promised_words promises t = words_if (promises.ref t) (3 + promises.refs t + promises.nums t)
+promised_words promises thread = words_if (promises.ref thread) (3 + promises.refs thread + promises.nums thread)
 
 -- What is kept has no more words than what the graph reaches, ..
 abbrev pub KeptAreLive : Type 0
 KeptAreLive = (config : Config) (top heap : ℕ → ℕ) (block : Plot) (now kept : ℕ → ℕ) (roots : List ℕ) (graph : Graph) (names : List Name)
     → HoldsGraph config top heap block now (IsAmong roots) graph → AreHeldKept heap (IsLedTo now heap (IsAmong roots)) kept → IsReach graph names
-    → (end : ℕ) → sum_below kept end ≤ sum_by (λ n. size (named graph (Some n))) names
+    → (end : ℕ) → sum_below kept end ≤ sum_by (λ name. size (named graph (Some name))) names
 
 -- .. and where objects are promised, no more than that and what is promised.
 abbrev pub KeptAreLiveOrPromised : Type 0
 KeptAreLiveOrPromised = (config : Config) (top heap : ℕ → ℕ) (block : Plot) (now kept : ℕ → ℕ) (roots : List ℕ) (graph : Graph) (promises : Promises) (names : List Name)
     → HoldsGraph config top heap block now (IsAmong roots) (with_promised graph promises) → AreHeldKept heap (IsLedTo now heap (IsAmong roots)) kept
     → AreFresh config.mutators graph promises → IsReach graph names
-    → (end : ℕ) → sum_below kept end ≤ sum_by (λ n. size (named graph (Some n))) names + sum_below (promised_words promises) (config.mutators + 1)
+    → (end : ℕ) → sum_below kept end ≤ sum_by (λ name. size (named graph (Some name))) names + sum_below (promised_words promises) (config.mutators + 1)
 
 -- Where objects are pinned, each of these is kept in a region that is shut: so what is kept in open regions has no more words than what the
 -- graph reaches and is not pinned, and what is promised.
@@ -63,4 +63,4 @@ OpenKeptAreFewer = (config : Config) (shut : ℕ → Bool) (top heap : ℕ → �
     → AreFresh config.mutators graph promises → IsReach graph names → Held graph held
     → ((thread slot : ℕ) (pinned : Pinned) → graph.pin thread slot ≡ Some pinned → (0 < kept pinned.place) × (shut (pinned.place / config.region_words) ≡ true) × IsCopy block pinned.place pinned.name)
     → (end : ℕ) → sum_below (open_kept config.region_words shut kept) end
-    ≤ sum_by (λ n. size (named graph (Some n))) names - held + sum_below (promised_words promises) (config.mutators + 1)
+    ≤ sum_by (λ name. size (named graph (Some name))) names - held + sum_below (promised_words promises) (config.mutators + 1)

@@ -10,7 +10,7 @@ use Rattle.image_graph.specs.Full.{asked_in, served, refused}
 
 -- the tops when the turn of a thread comes
 abbrev pub tops_at_turn : Config → (Word → ℕ) → ℕ → ℕ → ℕ
-tops_at_turn config memory t region = served config memory t (Top region)
+tops_at_turn config memory mutator region = served config memory mutator (Top region)
 
 -- the words that are given to the threads, by their turns
 abbrev pub given_in : Config → (Word → ℕ) → ℕ → ℕ

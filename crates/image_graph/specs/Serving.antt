@@ -27,7 +27,7 @@ asked_name memory mutator = record { thread = mutator + 1; count = request_count
 
 -- the object that is made for it
 abbrev pub asked_piece : (Word → ℕ) → ℕ → Block
-asked_piece memory t = thing (asked_name memory t) (refs_in (asked_shape memory t)) (nums_in (asked_shape memory t))
+asked_piece memory mutator = thing (asked_name memory mutator) (refs_in (asked_shape memory mutator)) (nums_in (asked_shape memory mutator))
 
 -- the regions with it at the top of a region, if one was found
 abbrev pub made_block : Config → (Word → ℕ) → Plot → (mutator : ℕ) → Option ℕ → Plot
@@ -37,10 +37,10 @@ made_block config memory block mutator (Some region) = λ address. if base_of co
 -- what threads are promised with it
 abbrev pub made_promise : (Word → ℕ) → Promises → (mutator : ℕ) → Option ℕ → Promises
 made_promise memory promises mutator None = promises
-made_promise memory promises mutator (Some r) = record {
-  ref = λ u. if mutator + 1 == u then Some (asked_name memory mutator) else promises.ref u;
-  refs = λ u. if mutator + 1 == u then refs_in (asked_shape memory mutator) else promises.refs u;
-  nums = λ u. if mutator + 1 == u then nums_in (asked_shape memory mutator) else promises.nums u;
+made_promise memory promises mutator (Some region) = record {
+  ref = λ thread. if mutator + 1 == thread then Some (asked_name memory mutator) else promises.ref thread;
+  refs = λ thread. if mutator + 1 == thread then refs_in (asked_shape memory mutator) else promises.refs thread;
+  nums = λ thread. if mutator + 1 == thread then nums_in (asked_shape memory mutator) else promises.nums thread;
 }
 
 -- the region that a thread's object is made in at its turn; none where the thread does not wait, or finds no room
@@ -71,7 +71,7 @@ AreAsking config memory graph promises from = (mutator : ℕ) → from ≤ mutat
 -- Serving keeps the graph: the words stand for it, with the objects that were made as further promises.
 abbrev pub ServingStands : Type 0
 ServingStands = (config : Config) (memory : Word → ℕ) (block : Plot) (graph : Graph) (promises : Promises) → ImageStands config memory block graph promises → AreAsking config memory graph promises 0
-    → (n : ℕ) → n ≤ config.mutators → ImageStands config (served config memory n) (served_block config memory block n) graph (served_promises config memory promises n)
+    → (count : ℕ) → count ≤ config.mutators → ImageStands config (served config memory count) (served_block config memory block count) graph (served_promises config memory promises count)
 
 -- A full collection keeps the graph: where the words of an image hold it, by current copies, with objects that threads
 -- were promised, and who waits asks for an object that can be, they stand for it afterwards, with the objects that were
@@ -91,5 +91,5 @@ FullIsCrowded = (config : Config) (memory : Word → ℕ) (block : Plot) (graph 
     → RootsStand config memory block graph promises → AreFresh config.mutators graph promises → IsReach graph names → Held graph held → PinnedRegions config.region_words graph pinned
     → (mutator : ℕ) → mutator < config.mutators → memory (Wait mutator) ≢ 0 → asked_in memory mutator ≤ config.region_words → full_from config memory (Answer mutator) ≡ 1
     → (config.regions - pinned) * (config.region_words - asked_in memory mutator + 1)
-    ≤ sum_by (λ n. size (named graph (Some n))) names - held + sum_below (promised_words promises) (config.mutators + 1)
+    ≤ sum_by (λ name. size (named graph (Some name))) names - held + sum_below (promised_words promises) (config.mutators + 1)
     + sum_below (given_in config (packed config (is_row_pinned config memory) (now_in memory) (kept_in config memory) memory)) mutator

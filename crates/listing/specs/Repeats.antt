@@ -4,4 +4,4 @@ use Rattle.listing.specs.declared.fold.Folds.{Folds}
 
 -- how many lines the run has behind its first group
 abbrev pub more_of : Folds → ℕ
-more_of f = f.more
+more_of folds = folds.more

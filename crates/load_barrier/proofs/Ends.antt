@@ -16,8 +16,8 @@ use Rattle.load_barrier.specs.declared.spot.ResolveSpot.TheVariants.{Entering, T
 use Rattle.load_barrier.specs.Rows.{next_at, says_at, is_ended, says_of, says_by, after_enter, after_take, after_stop, take_next}
 
 says_resolved : (next : ResolveSpot) → says_of next ≡ Done → is_ended next ≡ true
-says_resolved (Resolved answer) done = refl
-says_resolved next done = absurd (cc (done))
+says_resolved (Resolved answer) says_done = refl
+says_resolved next says_done = absurd (cc (says_done))
 
 resolved_says : (next : ResolveSpot) → is_ended next ≡ true → says_of next ≡ Done
 resolved_says (Resolved answer) resolved = refl
@@ -27,8 +27,8 @@ says_is : (next : ResolveSpot) → (says_of next ≡ Done) ↔ (is_ended next �
 says_is next = (says_resolved next, resolved_says next)
 
 says_by_is : (said : Took) (next : ResolveSpot) → is_ended next ≡ false → (says_by said next ≡ Done) ↔ (is_ended next ≡ true)
-says_by_is Again next going = ((λ done. absurd (cc (done))), (λ resolved. absurd (cc (going, resolved))))
-says_by_is said next going = says_is next
+says_by_is Again next next_going = ((λ says_done. absurd (cc (says_done))), (λ resolved. absurd (cc (next_going, resolved))))
+says_by_is said next next_going = says_is next
 
 enter_goes : (spot : RoomSpot) → is_ended (after_enter spot) ≡ false
 enter_goes room.Inside = refl

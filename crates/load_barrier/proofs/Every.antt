@@ -13,25 +13,25 @@ module _ (config : Config) (seat address phase : ℕ) where
   CanAt resolving = Can phase address resolving.memory resolving.spot
 
   move_keeps : (resolving : Resolving) (move : Move) → IsMove config seat address phase resolving move → CanAt resolving → CanAt (after_move config seat address phase resolving move)
-  move_keeps resolving own is can = each_step config seat address phase resolving.memory resolving.spot is.going is.counter is.apart can
-  move_keeps resolving (others after) left can = can_stays phase address resolving.spot resolving.memory after left can
+  move_keeps resolving own is_move can_before = each_step config seat address phase resolving.memory resolving.spot is_move.going is_move.counter is_move.apart can_before
+  move_keeps resolving (others after) other_move can_before = can_stays phase address resolving.spot resolving.memory after other_move can_before
 
   moves_keep : (resolving : Resolving) (moves : List Move) → AreMoves config seat address phase resolving moves → CanAt resolving → CanAt (after_moves config seat address phase resolving moves)
   unfolding after_moves AreMoves
-  moves_keep resolving [] are can = can
-  moves_keep resolving (move ∷ moves) are can = moves_keep (after_move config seat address phase resolving move) moves are.1 (move_keeps resolving move are.0 can)
+  moves_keep resolving [] are_moves can_before = can_before
+  moves_keep resolving (move ∷ moves) are_moves can_before = moves_keep (after_move config seat address phase resolving move) moves are_moves.1 (move_keeps resolving move are_moves.0 can_before)
 
   -- in between what the law says holds
   kept_of : (resolving : Resolving) → CanAt resolving → ResolvingHolds address resolving
-  kept_of resolving can = record {
-    answer = λ to is. (known is).0;
-    whole = λ copy end is. known is;
+  kept_of resolving can_stand = record {
+    answer = λ answer spot_is. (known spot_is).0;
+    whole = λ copy end spot_is. known spot_is;
   }
     where
       known : {spot : ResolveSpot} → resolving.spot ≡ spot → Knows phase address (λ address. resolving.memory (Heap address)) (resolving.memory Evac) spot
-      known is = subst (λ spot. Knows phase address (λ address. resolving.memory (Heap address)) (resolving.memory Evac) spot) is can.knows
+      known spot_is = subst (λ spot. Knows phase address (λ address. resolving.memory (Heap address)) (resolving.memory Evac) spot) spot_is can_stand.knows
 
 pub answers_current : AnswersAreCurrent
-answers_current c seat address phase memory moves header are =
-    kept_of c seat address phase (after_moves c seat address phase (resolving_from memory) moves)
-    (moves_keep c seat address phase (resolving_from memory) moves are (record { header = header; counted = λ copies. absurd (cc (copies)); knows = tt }))
+answers_current config seat address phase memory moves header_plain are_moves =
+    kept_of config seat address phase (after_moves config seat address phase (resolving_from memory) moves)
+    (moves_keep config seat address phase (resolving_from memory) moves are_moves (record { header = header_plain; counted = λ copies. absurd (cc (copies)); knows = tt }))

@@ -26,50 +26,50 @@ use Rattle.load_barrier.specs.UnitFit.{is_ready}
 
 -- of words from an address on that lie in the heap each does
 words_inside : (config : Config) (address words index : ℕ) → has_words config address words ≡ true → index < words → IsWord config (Heap (address + index))
-words_inside config address words index has below =
-    let parts = and_parts (nat_le config.region_words address) (nat_le (address + words) ((config.regions + 1) * config.region_words)) has in
-    let low : config.region_words ≤ address = leb-true _ _ parts.0 in
-    let high : address + words ≤ (config.regions + 1) * config.region_words = leb-true _ _ parts.1 in (omega (arith, low), omega (arith, high, below))
+words_inside config address words index words_fit index_below =
+    let bounds = and_parts (nat_le config.region_words address) (nat_le (address + words) ((config.regions + 1) * config.region_words)) words_fit in
+    let heap_address : config.region_words ≤ address = leb-true _ _ bounds.0 in
+    let words_below : address + words ≤ (config.regions + 1) * config.region_words = leb-true _ _ bounds.1 in (omega (arith, heap_address), omega (arith, words_below, index_below))
 
 heap_there : (config : Config) (address : ℕ) → is_word config (Heap address) ≡ true → IsWord config (Heap address)
-heap_there config address is = is_word_true config (Heap address) is
+heap_there config address passes = is_word_true config (Heap address) passes
 
 copy_inside : (config : Config) (seat address copy end : ℕ) (spot : CopySpot) → seat < seat_count config.mutators config.helpers → is_word config (Heap address) ≡ true → copy_ready config address copy spot ≡ true → IsWord config (resolves.copy_touch seat address copy end spot).word
-copy_inside config seat address copy end (LoadWord words index) seated there ready =
-    let object = and_parts _ _ ready in
+copy_inside config seat address copy end (LoadWord words index) seated address_there copy_is_ready =
+    let object = and_parts _ _ copy_is_ready in
     words_inside config address words index (and_parts _ _ object.0).1 (ltb-true _ _ (and_parts _ _ object.1).1)
-copy_inside config seat address copy end (StoreWord words index found) seated there ready =
-    let room = and_parts _ _ (and_parts _ _ ready).1 in
+copy_inside config seat address copy end (StoreWord words index found) seated address_there copy_is_ready =
+    let room = and_parts _ _ (and_parts _ _ copy_is_ready).1 in
     words_inside config copy words index room.0 (ltb-true _ _ room.1)
-copy_inside config seat address copy end StoreHeader seated there ready = heap_there config copy ready
-copy_inside config seat address copy end Publish seated there ready = heap_there config address there
-copy_inside config seat address copy end (GiveBack answer) seated there ready = seated
+copy_inside config seat address copy end StoreHeader seated address_there copy_is_ready = heap_there config copy copy_is_ready
+copy_inside config seat address copy end Publish seated address_there copy_is_ready = heap_there config address address_there
+copy_inside config seat address copy end (GiveBack answer) seated address_there copy_is_ready = seated
 
 -- where the address is one of the heap, each access of its resolving is of a word of the table
 pub resolve_inside : (config : Config) (seat address : ℕ) (spot : ResolveSpot) → seat < seat_count config.mutators config.helpers → is_word config (Heap address) ≡ true → resolve.is_ready config seat address spot ≡ true → IsWord config (resolves.touch_at config seat address spot).word
-resolve_inside config seat address LoadHeader seated there ready = heap_there config address there
-resolve_inside config seat address (Entering spot) seated there ready = tt
-resolve_inside config seat address LoadShape seated there ready = heap_there config (address + 1) ready
-resolve_inside config seat address (Taking words spot) seated there ready =
-    is_word_true config (takes.touch_at seat words spot).word (and_parts _ _ (and_parts _ _ (and_parts _ _ (and_parts _ _ ready).1).1).0).0
-resolve_inside config seat address (Copying copy end spot) seated there ready = copy_inside config seat address copy end spot seated there (and_parts _ _ ready).0
-resolve_inside config seat address (Leaving answer) seated there ready = tt
-resolve_inside config seat address (Stopping spot) seated there ready = tt
-resolve_inside config seat address LoadAgain seated there ready = heap_there config address there
-resolve_inside config seat address (Resolved answer) seated there ready = heap_there config address there
+resolve_inside config seat address LoadHeader seated address_there spot_ready = heap_there config address address_there
+resolve_inside config seat address (Entering spot) seated address_there spot_ready = tt
+resolve_inside config seat address LoadShape seated address_there spot_ready = heap_there config (address + 1) spot_ready
+resolve_inside config seat address (Taking words spot) seated address_there spot_ready =
+    is_word_true config (takes.touch_at seat words spot).word (and_parts _ _ (and_parts _ _ (and_parts _ _ (and_parts _ _ spot_ready).1).1).0).0
+resolve_inside config seat address (Copying copy end spot) seated address_there spot_ready = copy_inside config seat address copy end spot seated address_there (and_parts _ _ spot_ready).0
+resolve_inside config seat address (Leaving answer) seated address_there spot_ready = tt
+resolve_inside config seat address (Stopping spot) seated address_there spot_ready = tt
+resolve_inside config seat address LoadAgain seated address_there spot_ready = heap_there config address address_there
+resolve_inside config seat address (Resolved answer) seated address_there spot_ready = heap_there config address address_there
 
 -- and so is each access of an evacuation
 pub evacuation_inside : (config : Config) (seat : ℕ) (spot : EvacSpot) → seat < seat_count config.mutators config.helpers → is_ready config seat spot ≡ true → IsWord config (evacs.touch_at config seat spot).word
-evacuation_inside config seat evac.LoadClaim seated ready = tt
-evacuation_inside config seat (evac.ClaimUnit unit) seated ready = tt
-evacuation_inside config seat (evac.LoadTop region) seated ready = ltb-true _ _ ready
-evacuation_inside config seat (evac.LoadFirst address end) seated ready = heap_there config address ready
-evacuation_inside config seat (evac.LoadShape address end) seated ready = heap_there config (address + 1) (and_parts _ _ ready).1
-evacuation_inside config seat (evac.LoadMark address end next) seated ready = word_inside config address (heap_there config address (and_parts _ _ (and_parts _ _ ready).0).0)
-evacuation_inside config seat (evac.Resolving address end next spot) seated ready =
-    let parts = and_parts _ _ ready in
-    resolve_inside config seat address spot seated (and_parts _ _ parts.0).0 (and_parts _ _ (and_parts _ _ parts.1).1).0
-evacuation_inside config seat (evac.Ended unit) seated ready = tt
+evacuation_inside config seat evac.LoadClaim seated spot_ready = tt
+evacuation_inside config seat (evac.ClaimUnit unit) seated spot_ready = tt
+evacuation_inside config seat (evac.LoadTop region) seated spot_ready = ltb-true _ _ spot_ready
+evacuation_inside config seat (evac.LoadFirst address end) seated spot_ready = heap_there config address spot_ready
+evacuation_inside config seat (evac.LoadShape address end) seated spot_ready = heap_there config (address + 1) (and_parts _ _ spot_ready).1
+evacuation_inside config seat (evac.LoadMark address end next) seated spot_ready = word_inside config address (heap_there config address (and_parts _ _ (and_parts _ _ spot_ready).0).0)
+evacuation_inside config seat (evac.Resolving address end next spot) seated spot_ready =
+    let ready_parts = and_parts _ _ spot_ready in
+    resolve_inside config seat address spot seated (and_parts _ _ ready_parts.0).0 (and_parts _ _ (and_parts _ _ ready_parts.1).1).0
+evacuation_inside config seat (evac.Ended unit) seated spot_ready = tt
 
 copy_image : (seat address copy end : ℕ) (spot : CopySpot) → is_image (resolves.copy_touch seat address copy end spot).word ≡ true
 copy_image seat address copy end (LoadWord words index) = refl

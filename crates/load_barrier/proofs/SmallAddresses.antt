@@ -8,11 +8,11 @@ use Rattle.heap_words.specs.Words.{Heap, IsWord}
 use Rattle.heap_words.proofs.Bounds as bounds
 
 pub address_small : (config : Config) (address : ℕ) → IsWord config (Heap address) → address < 2 ^ 32
-address_small config address is = bounds.address_small config address is
+address_small config address is_word = bounds.address_small config address is_word
 
 pub filler_small : (header words : ℕ) → header < 2 ^ 64 → filler_words_in header ≡ Some words → words < 2 ^ 62
-filler_small header words small is = by_test (header % 4 == 2) is
+filler_small header words header_small filler_is = by_test (header % 4 == 2) filler_is
   where
     by_test : (holds : Bool) → (if holds then Some (header / 4) else None) ≡ Some words → words < 2 ^ 62
-    by_test true e = let same : header / 4 ≡ words = same_Some (header / 4) words e in omega (arith, same, small)
-    by_test false e = absurd (none-some words e)
+    by_test true words_told = let quarter_is : header / 4 ≡ words = same_Some (header / 4) words words_told in omega (arith, quarter_is, header_small)
+    by_test false words_told = absurd (none-some words words_told)

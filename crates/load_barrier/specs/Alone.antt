@@ -46,7 +46,7 @@ words_by_shape heap address = object_words (heap (address + 1))
 
 -- behind its header the copy has, below an index, the words of the object
 abbrev pub AreCopied : (ℕ → ℕ) → ℕ → ℕ → ℕ → Type 0
-AreCopied heap address copy index = (k : ℕ) → 1 ≤ k → k < index → heap (copy + k) ≡ heap (address + k)
+AreCopied heap address copy index = (offset : ℕ) → 1 ≤ offset → offset < index → heap (copy + offset) ≡ heap (address + offset)
 
 -- a copy is whole: a plain header, and all the words of the object behind it
 pub record IsWholeCopy (heap : ℕ → ℕ) (address copy : ℕ) : Type 0 where
@@ -61,7 +61,7 @@ IsApart heap address _ = ⊤
 
 -- the words of the machine's room stay as they are
 abbrev pub RoomStays : (ℕ → ℕ) → (ℕ → ℕ) → ℕ → ResolveSpot → Type 0
-RoomStays before after address (Copying copy end spot) = (k : ℕ) → k < words_by_shape before address → after (copy + k) ≡ before (copy + k)
+RoomStays before after address (Copying copy end spot) = (offset : ℕ) → offset < words_by_shape before address → after (copy + offset) ≡ before (copy + offset)
 RoomStays before after address _ = ⊤
 
 -- What other machines may do while one that resolves an address stands at a spot.

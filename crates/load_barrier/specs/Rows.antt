@@ -136,8 +136,8 @@ says_of _ = More
 
 -- what a step of a part says: again where the part says so, and else by where it leads
 abbrev pub says_by : Took → ResolveSpot → Took
-says_by Again next = Again
-says_by _ next = says_of next
+says_by Again next_spot = Again
+says_by _ next_spot = says_of next_spot
 
 -- what the step says
 abbrev pub says_at : Config → ℕ → ℕ → ResolveSpot → ℕ → Took

@@ -14,11 +14,11 @@ pub record Resolver : Type 0 where
   pub phase : ℕ
 
 abbrev pub resolver_of : Resolve → Resolver
-resolver_of r = record { config = r.config; seat = r.seat; address = r.address; phase = r.phase }
+resolver_of resolve = record { config = resolve.config; seat = resolve.seat; address = resolve.address; phase = resolve.phase }
 
 -- where it stands
 abbrev pub spot_of : Resolve → ResolveSpot
-spot_of r = r.spot
+spot_of resolve = resolve.spot
 
 -- who evacuates, in which heap, and which collection set
 pub record Evacuator : Type 0 where
@@ -27,8 +27,8 @@ pub record Evacuator : Type 0 where
   pub cset : ℕ
 
 abbrev pub evacuator_of : EvacUnit → Evacuator
-evacuator_of e = record { config = e.config; seat = e.seat; cset = e.cset }
+evacuator_of evac_unit = record { config = evac_unit.config; seat = evac_unit.seat; cset = evac_unit.cset }
 
 -- where it stands
 abbrev pub evac_spot_of : EvacUnit → EvacSpot
-evac_spot_of e = e.spot
+evac_spot_of evac_unit = evac_unit.spot

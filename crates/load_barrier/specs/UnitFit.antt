@@ -16,7 +16,7 @@ has_shape config address = is_word config (Heap address) && is_word config (Heap
 
 -- whether a walk can go on at an address: it has come to the end, or a header can be loaded there
 abbrev pub is_walkable : Config → ℕ → ℕ → Bool
-is_walkable config next end = if nat_lt next end then is_word config (Heap next) else true
+is_walkable config address end = if nat_lt address end then is_word config (Heap address) else true
 
 -- whether a resolving of the address can make its next access
 abbrev pub resolve_ready : Config → ℕ → ℕ → ResolveSpot → Bool

@@ -103,8 +103,8 @@ says_of _ = More
 
 -- what a step of a resolving says: again where the resolving says so, and else by where it leads
 abbrev pub says_by : Took → EvacSpot → Took
-says_by Again next = Again
-says_by _ next = says_of next
+says_by Again next_spot = Again
+says_by _ next_spot = says_of next_spot
 
 -- what the step says: again where another machine has claimed the unit, or the resolving waits
 abbrev pub says_at : Config → ℕ → EvacSpot → ℕ → Took

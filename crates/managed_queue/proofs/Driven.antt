@@ -38,116 +38,116 @@ pub record Going (user : Use) (asked : Command) : Type 0 where
   pub command : command_of user ≡ asked
 
 pub going : (user : Use) (command : Command) → next_of user ≡ Some command → Going user command
-going user command is = at (has_ended user) refl is
+going user command next_command = at (has_ended user) refl next_command
   where
     at : (holds : Bool) → has_ended user ≡ holds → (if holds then None else Some (command_of user)) ≡ Some command → Going user command
-    at true ended never = let no_command : None ≡ Some command = never in absurd cc
-    at false on here = record { on = on; command = cc }
+    at true user_ended never = let no_command : None ≡ Some command = never in absurd cc
+    at false end_test command_given = record { on = end_test; command = cc }
 
 pub used_is : (user : Use) (answered : Reply) → has_ended user ≡ false → used user answered ≡ onward user answered
-used_is user answered on = ap (λ b. if b then user else onward user answered) on
+used_is user answered not_ended = ap (λ ended. if ended then user else onward user answered) not_ended
 
 not_full : (answered : Reply) → answered ≢ reply.Full → is_full answered ≡ false
-not_full (reply.Ref name) given = refl
-not_full reply.Null given = refl
-not_full reply.Ok given = refl
-not_full reply.Yes given = refl
-not_full reply.No given = refl
-not_full (reply.Number n) given = refl
-not_full reply.Bad given = refl
-not_full (reply.At place) given = refl
-not_full reply.Full given = absurd (given refl)
+not_full (reply.Ref name) reply_not_full = refl
+not_full reply.Null reply_not_full = refl
+not_full reply.Ok reply_not_full = refl
+not_full reply.Yes reply_not_full = refl
+not_full reply.No reply_not_full = refl
+not_full (reply.Number number) reply_not_full = refl
+not_full reply.Bad reply_not_full = refl
+not_full (reply.At place) reply_not_full = refl
+not_full reply.Full reply_not_full = absurd (reply_not_full refl)
 
 nothing_full : (answered : Reply) → answered ≢ reply.Full → on_full answered ≡ []
-nothing_full (reply.Ref name) given = refl
-nothing_full reply.Null given = refl
-nothing_full reply.Ok given = refl
-nothing_full reply.Yes given = refl
-nothing_full reply.No given = refl
-nothing_full (reply.Number n) given = refl
-nothing_full reply.Bad given = refl
-nothing_full (reply.At place) given = refl
-nothing_full reply.Full given = absurd (given refl)
+nothing_full (reply.Ref name) reply_not_full = refl
+nothing_full reply.Null reply_not_full = refl
+nothing_full reply.Ok reply_not_full = refl
+nothing_full reply.Yes reply_not_full = refl
+nothing_full reply.No reply_not_full = refl
+nothing_full (reply.Number number) reply_not_full = refl
+nothing_full reply.Bad reply_not_full = refl
+nothing_full (reply.At place) reply_not_full = refl
+nothing_full reply.Full reply_not_full = absurd (reply_not_full refl)
 
 pub not_refused : (command : Command) (answered : Reply) → answered ≢ reply.Full → is_refused command answered ≡ false
-not_refused (New dst refs nums) answered given = not_full answered given
-not_refused (Get dst src field) answered given = refl
-not_refused (Set obj field val) answered given = refl
-not_refused (Cas obj field expect val) answered given = refl
-not_refused (Xchg dst obj field val) answered given = refl
-not_refused (Rd obj index) answered given = refl
-not_refused (Wr obj index value) answered given = refl
-not_refused (Copy dst src) answered given = refl
-not_refused (Drop dst) answered given = refl
-not_refused (Same a b) answered given = refl
-not_refused Gc answered given = refl
-not_refused (Pin slot obj) answered given = refl
-not_refused (Unpin slot) answered given = refl
+not_refused (New dst refs nums) answered reply_not_full = not_full answered reply_not_full
+not_refused (Get dst src field) answered reply_not_full = refl
+not_refused (Set obj field val) answered reply_not_full = refl
+not_refused (Cas obj field expect val) answered reply_not_full = refl
+not_refused (Xchg dst obj field val) answered reply_not_full = refl
+not_refused (Rd obj index) answered reply_not_full = refl
+not_refused (Wr obj index value) answered reply_not_full = refl
+not_refused (Copy dst src) answered reply_not_full = refl
+not_refused (Drop dst) answered reply_not_full = refl
+not_refused (Same first_reference second_reference) answered reply_not_full = refl
+not_refused Gc answered reply_not_full = refl
+not_refused (Pin slot obj) answered reply_not_full = refl
+not_refused (Unpin slot) answered reply_not_full = refl
 
 answered : (spot : Spot) (answer : Reply) → answer ≢ reply.Full → IsGranted spot answer
-answered MakesAnchor answer given = given
-answered MakesFirst answer given = given
-answered _ answer given = tt
+answered MakesAnchor answer reply_not_full = reply_not_full
+answered MakesFirst answer reply_not_full = reply_not_full
+answered _ answer reply_not_full = tt
 
 given_first : (entry : Entry) (entries : List Entry) → IsWithoutFull (entry ∷ entries) → entry.reply ≢ reply.Full
-given_first entry entries given = All-head (λ (entry : Entry). entry.reply ≢ reply.Full) entry entries given
+given_first entry entries none_full = All-head (λ (entry : Entry). entry.reply ≢ reply.Full) entry entries none_full
 
 given_later : (entry : Entry) (entries : List Entry) → IsWithoutFull (entry ∷ entries) → IsWithoutFull entries
-given_later entry entries given = All-tail (λ (entry : Entry). entry.reply ≢ reply.Full) entry entries given
+given_later entry entries none_full = All-tail (λ (entry : Entry). entry.reply ≢ reply.Full) entry entries none_full
 
 -- the spot after an entry, by its command
 spot_on : (user : Use) (entry : Entry) → Going user entry.command → (used user entry.reply).spot ≡ next_spot user.spot entry.command entry.reply
-spot_on user entry goes = ap (λ x. x.spot) (used_is user entry.reply goes.on) ∙ ap (λ c. next_spot user.spot c entry.reply) goes.command
+spot_on user entry going_on = ap (λ x. x.spot) (used_is user entry.reply going_on.on) ∙ ap (λ command. next_spot user.spot command entry.reply) going_on.command
 
 pub users_play : UsersPlay
-users_play u [] fine given driven = (tt, refl)
-users_play u (e ∷ es) fine given driven =
-    let goes = going u e.command driven.0 in
-    let first = given_first e es given in
-    let on = spot_on u e goes in
-    let still : (used u e.reply).refused ≡ false = ap (λ x. x.refused) (used_is u e.reply goes.on) ∙ not_refused (command_of u) e.reply first in
-    let later = users_play (used u e.reply) es still (given_later e es given) driven.1 in (
+users_play user [] unrefused none_full driven = (tt, refl)
+users_play user (entry ∷ entries) unrefused none_full driven =
+    let going_on = going user entry.command driven.0 in
+    let entry_not_full = given_first entry entries none_full in
+    let same_spot = spot_on user entry going_on in
+    let still_unrefused : (used user entry.reply).refused ≡ false = ap (λ x. x.refused) (used_is user entry.reply going_on.on) ∙ not_refused (command_of user) entry.reply entry_not_full in
+    let later = users_play (used user entry.reply) entries still_unrefused (given_later entry entries none_full) driven.1 in (
       (
-        subst (λ (command : Command). MayCome u.spot command) goes.command (command_is_next (chosen u.plan) u.spot),
-        answered u.spot e.reply first,
-        subst (λ (spot : Spot). IsPlayed spot es) on later.0,
+        subst (λ (command : Command). MayCome user.spot command) going_on.command (command_is_next (chosen user.plan) user.spot),
+        answered user.spot entry.reply entry_not_full,
+        subst (λ (spot : Spot). IsPlayed spot entries) same_spot later.0,
       ),
-      ap (λ s. spot_after s es) (sym on) ∙ later.1,
+      ap (λ starting_spot. spot_after starting_spot entries) (sym same_spot) ∙ later.1,
     )
 
 -- puts and gots of two lists
 
-puts-append : (a b : List Operation) → puts_of (a ++ b) ≡ puts_of a ++ puts_of b
-puts-append [] b = refl
-puts-append (put value ∷ a) b = ap (λ l. value ∷ l) (puts-append a b)
-puts-append (got value ∷ a) b = puts-append a b
-puts-append (empty ∷ a) b = puts-append a b
-puts-append (full ∷ a) b = puts-append a b
+puts-append : (operations later_operations : List Operation) → puts_of (operations ++ later_operations) ≡ puts_of operations ++ puts_of later_operations
+puts-append [] later_operations = refl
+puts-append (put value ∷ operations) later_operations = ap (λ values. value ∷ values) (puts-append operations later_operations)
+puts-append (got value ∷ operations) later_operations = puts-append operations later_operations
+puts-append (empty ∷ operations) later_operations = puts-append operations later_operations
+puts-append (full ∷ operations) later_operations = puts-append operations later_operations
 
-gots-append : (a b : List Operation) → gots_of (a ++ b) ≡ gots_of a ++ gots_of b
-gots-append [] b = refl
-gots-append (put value ∷ a) b = gots-append a b
-gots-append (got value ∷ a) b = ap (λ l. value ∷ l) (gots-append a b)
-gots-append (empty ∷ a) b = gots-append a b
-gots-append (full ∷ a) b = gots-append a b
+gots-append : (operations later_operations : List Operation) → gots_of (operations ++ later_operations) ≡ gots_of operations ++ gots_of later_operations
+gots-append [] later_operations = refl
+gots-append (put value ∷ operations) later_operations = gots-append operations later_operations
+gots-append (got value ∷ operations) later_operations = ap (λ values. value ∷ values) (gots-append operations later_operations)
+gots-append (empty ∷ operations) later_operations = gots-append operations later_operations
+gots-append (full ∷ operations) later_operations = gots-append operations later_operations
 
 -- takers
 
 abbrev taking : Spot → ℕ → Gotten → Use
-taking spot left have = record { spot = spot; plan = Takes left; got = have; refused = false }
+taking spot takes gotten = record { spot = spot; plan = Takes takes; got = gotten; refused = false }
 
 -- a taker is at a spot of a take, and has one to do
 abbrev InTake : Spot → ℕ → Type 0
-InTake Joins left = Unit {0}
-InTake Rests left = Unit {0}
-InTake Turns left = 1 ≤ left
-InTake TookHead left = 1 ≤ left
-InTake TookTail left = 1 ≤ left
-InTake (Compares nothing) left = 1 ≤ left
-InTake Pushes left = 1 ≤ left
-InTake Reads left = 1 ≤ left
-InTake (Unlinks value) left = 1 ≤ left
-InTake _ left = ⊥
+InTake Joins takes = Unit {0}
+InTake Rests takes = Unit {0}
+InTake Turns takes = 1 ≤ takes
+InTake TookHead takes = 1 ≤ takes
+InTake TookTail takes = 1 ≤ takes
+InTake (Compares nothing) takes = 1 ≤ takes
+InTake Pushes takes = 1 ≤ takes
+InTake Reads takes = 1 ≤ takes
+InTake (Unlinks value) takes = 1 ≤ takes
+InTake _ takes = ⊥
 
 -- what one reply makes of it
 record TakeStep (spot : Spot) (left : ℕ) (have : Gotten) (answered : Reply) : Type 0 where
@@ -162,89 +162,89 @@ record TakeStep (spot : Spot) (left : ℕ) (have : Gotten) (answered : Reply) : 
   inside : InTake (next_spot spot (command_coming choice.Take spot) answered) left_then
 
 -- the reply ends nothing that counts
-idle : (spot : Spot) (left : ℕ) (have : Gotten) (answered : Reply) → operation_ended spot answered ≡ [] → InTake (next_spot spot (command_coming choice.Take spot) answered) left → TakeStep spot left have answered
-idle spot left have answered none inside = record {
-  left_then = left;
-  have_then = have;
-  plan = ap (λ o. plan_after (Takes left) (answer_told o)) none;
-  count = let e = ap (λ o. length (gots_of o)) none in omega (arith, e);
-  counted = ap (λ o. got_after (Takes left) have (answer_told o)) none;
-  items = let e = ap (λ o. length (gots_of o)) none in omega (arith, e);
-  total = let e = ap (λ o. sum (gots_of o)) none in omega (arith, e);
-  no_put = ap puts_of none;
+idle : (spot : Spot) (takes : ℕ) (gotten : Gotten) (answered : Reply) → operation_ended spot answered ≡ [] → InTake (next_spot spot (command_coming choice.Take spot) answered) takes → TakeStep spot takes gotten answered
+idle spot takes gotten answered nothing_ended inside = record {
+  left_then = takes;
+  have_then = gotten;
+  plan = ap (λ ended_operations. plan_after (Takes takes) (answer_told ended_operations)) nothing_ended;
+  count = let same_gots = ap (λ ended_operations. length (gots_of ended_operations)) nothing_ended in omega (arith, same_gots);
+  counted = ap (λ ended_operations. got_after (Takes takes) gotten (answer_told ended_operations)) nothing_ended;
+  items = let same_gots = ap (λ ended_operations. length (gots_of ended_operations)) nothing_ended in omega (arith, same_gots);
+  total = let same_gots = ap (λ ended_operations. sum (gots_of ended_operations)) nothing_ended in omega (arith, same_gots);
+  no_put = ap puts_of nothing_ended;
   inside = inside;
 }
 
-joins_on : (left : ℕ) (answered : Reply) → InTake (after_join answered) left
-joins_on left (reply.Ref name) = tt
-joins_on left reply.Null = tt
-joins_on left reply.Ok = tt
-joins_on left reply.Yes = tt
-joins_on left reply.No = tt
-joins_on left (reply.Number n) = tt
-joins_on left reply.Bad = tt
-joins_on left (reply.At place) = tt
-joins_on left reply.Full = tt
+joins_on : (takes : ℕ) (answered : Reply) → InTake (after_join answered) takes
+joins_on takes (reply.Ref name) = tt
+joins_on takes reply.Null = tt
+joins_on takes reply.Ok = tt
+joins_on takes reply.Yes = tt
+joins_on takes reply.No = tt
+joins_on takes (reply.Number number) = tt
+joins_on takes reply.Bad = tt
+joins_on takes (reply.At place) = tt
+joins_on takes reply.Full = tt
 
-take_step : (spot : Spot) (left : ℕ) (have : Gotten) (answered : Reply) → InTake spot left → (is_rest spot ≡ true → 1 ≤ left) → answered ≢ reply.Full → TakeStep spot left have answered
-take_step MakesAnchor left have answered inside more given = absurd inside
-take_step MakesFirst left have answered inside more given = absurd inside
-take_step SetsHead left have answered inside more given = absurd inside
-take_step SetsTail left have answered inside more given = absurd inside
-take_step Shows left have answered inside more given = absurd inside
-take_step Fills left have answered inside more given = absurd inside
-take_step (Looks value) left have answered inside more given = absurd inside
-take_step (Follows value) left have answered inside more given = absurd inside
-take_step (Links value) left have answered inside more given = absurd inside
-take_step (Helps value) left have answered inside more given = absurd inside
-take_step (Swings value) left have answered inside more given = absurd inside
-take_step Joins left have answered inside more given = idle Joins left have answered refl (joins_on left answered)
-take_step Rests left have answered inside more given = idle Rests left have answered (nothing_full answered given) (more refl)
-take_step Turns left have answered inside more given = idle Turns left have answered refl inside
-take_step TookHead left have answered inside more given = idle TookHead left have answered refl inside
-take_step TookTail left have answered inside more given = idle TookTail left have answered refl inside
-take_step (Compares true) left have reply.Yes inside more given =
-    record { left_then = left; have_then = have; plan = refl; count = omega arith; counted = refl; items = omega arith; total = omega arith; no_put = refl; inside = tt }
-take_step (Compares true) left have (reply.Ref name) inside more given = idle (Compares true) left have (reply.Ref name) refl inside
-take_step (Compares true) left have reply.Null inside more given = idle (Compares true) left have reply.Null refl inside
-take_step (Compares true) left have reply.Ok inside more given = idle (Compares true) left have reply.Ok refl inside
-take_step (Compares true) left have reply.No inside more given = idle (Compares true) left have reply.No refl inside
-take_step (Compares true) left have (reply.Number n) inside more given = idle (Compares true) left have (reply.Number n) refl inside
-take_step (Compares true) left have reply.Bad inside more given = idle (Compares true) left have reply.Bad refl inside
-take_step (Compares true) left have (reply.At place) inside more given = idle (Compares true) left have (reply.At place) refl inside
-take_step (Compares true) left have reply.Full inside more given = idle (Compares true) left have reply.Full refl inside
-take_step (Compares false) left have reply.Yes inside more given = idle (Compares false) left have reply.Yes refl inside
-take_step (Compares false) left have (reply.Ref name) inside more given = idle (Compares false) left have (reply.Ref name) refl inside
-take_step (Compares false) left have reply.Null inside more given = idle (Compares false) left have reply.Null refl inside
-take_step (Compares false) left have reply.Ok inside more given = idle (Compares false) left have reply.Ok refl inside
-take_step (Compares false) left have reply.No inside more given = idle (Compares false) left have reply.No refl inside
-take_step (Compares false) left have (reply.Number n) inside more given = idle (Compares false) left have (reply.Number n) refl inside
-take_step (Compares false) left have reply.Bad inside more given = idle (Compares false) left have reply.Bad refl inside
-take_step (Compares false) left have (reply.At place) inside more given = idle (Compares false) left have (reply.At place) refl inside
-take_step (Compares false) left have reply.Full inside more given = idle (Compares false) left have reply.Full refl inside
-take_step Pushes left have answered inside more given = idle Pushes left have answered refl inside
-take_step Reads left have answered inside more given = idle Reads left have answered refl inside
-take_step (Unlinks value) left have reply.Yes inside more given =
-    let some = lt-ltb 0 left inside in
+take_step : (spot : Spot) (takes : ℕ) (gotten : Gotten) (answered : Reply) → InTake spot takes → (is_rest spot ≡ true → 1 ≤ takes) → answered ≢ reply.Full → TakeStep spot takes gotten answered
+take_step MakesAnchor takes gotten answered inside one_left reply_not_full = absurd inside
+take_step MakesFirst takes gotten answered inside one_left reply_not_full = absurd inside
+take_step SetsHead takes gotten answered inside one_left reply_not_full = absurd inside
+take_step SetsTail takes gotten answered inside one_left reply_not_full = absurd inside
+take_step Shows takes gotten answered inside one_left reply_not_full = absurd inside
+take_step Fills takes gotten answered inside one_left reply_not_full = absurd inside
+take_step (Looks value) takes gotten answered inside one_left reply_not_full = absurd inside
+take_step (Follows value) takes gotten answered inside one_left reply_not_full = absurd inside
+take_step (Links value) takes gotten answered inside one_left reply_not_full = absurd inside
+take_step (Helps value) takes gotten answered inside one_left reply_not_full = absurd inside
+take_step (Swings value) takes gotten answered inside one_left reply_not_full = absurd inside
+take_step Joins takes gotten answered inside one_left reply_not_full = idle Joins takes gotten answered refl (joins_on takes answered)
+take_step Rests takes gotten answered inside one_left reply_not_full = idle Rests takes gotten answered (nothing_full answered reply_not_full) (one_left refl)
+take_step Turns takes gotten answered inside one_left reply_not_full = idle Turns takes gotten answered refl inside
+take_step TookHead takes gotten answered inside one_left reply_not_full = idle TookHead takes gotten answered refl inside
+take_step TookTail takes gotten answered inside one_left reply_not_full = idle TookTail takes gotten answered refl inside
+take_step (Compares true) takes gotten reply.Yes inside one_left reply_not_full =
+    record { left_then = takes; have_then = gotten; plan = refl; count = omega arith; counted = refl; items = omega arith; total = omega arith; no_put = refl; inside = tt }
+take_step (Compares true) takes gotten (reply.Ref name) inside one_left reply_not_full = idle (Compares true) takes gotten (reply.Ref name) refl inside
+take_step (Compares true) takes gotten reply.Null inside one_left reply_not_full = idle (Compares true) takes gotten reply.Null refl inside
+take_step (Compares true) takes gotten reply.Ok inside one_left reply_not_full = idle (Compares true) takes gotten reply.Ok refl inside
+take_step (Compares true) takes gotten reply.No inside one_left reply_not_full = idle (Compares true) takes gotten reply.No refl inside
+take_step (Compares true) takes gotten (reply.Number number) inside one_left reply_not_full = idle (Compares true) takes gotten (reply.Number number) refl inside
+take_step (Compares true) takes gotten reply.Bad inside one_left reply_not_full = idle (Compares true) takes gotten reply.Bad refl inside
+take_step (Compares true) takes gotten (reply.At place) inside one_left reply_not_full = idle (Compares true) takes gotten (reply.At place) refl inside
+take_step (Compares true) takes gotten reply.Full inside one_left reply_not_full = idle (Compares true) takes gotten reply.Full refl inside
+take_step (Compares false) takes gotten reply.Yes inside one_left reply_not_full = idle (Compares false) takes gotten reply.Yes refl inside
+take_step (Compares false) takes gotten (reply.Ref name) inside one_left reply_not_full = idle (Compares false) takes gotten (reply.Ref name) refl inside
+take_step (Compares false) takes gotten reply.Null inside one_left reply_not_full = idle (Compares false) takes gotten reply.Null refl inside
+take_step (Compares false) takes gotten reply.Ok inside one_left reply_not_full = idle (Compares false) takes gotten reply.Ok refl inside
+take_step (Compares false) takes gotten reply.No inside one_left reply_not_full = idle (Compares false) takes gotten reply.No refl inside
+take_step (Compares false) takes gotten (reply.Number number) inside one_left reply_not_full = idle (Compares false) takes gotten (reply.Number number) refl inside
+take_step (Compares false) takes gotten reply.Bad inside one_left reply_not_full = idle (Compares false) takes gotten reply.Bad refl inside
+take_step (Compares false) takes gotten (reply.At place) inside one_left reply_not_full = idle (Compares false) takes gotten (reply.At place) refl inside
+take_step (Compares false) takes gotten reply.Full inside one_left reply_not_full = idle (Compares false) takes gotten reply.Full refl inside
+take_step Pushes takes gotten answered inside one_left reply_not_full = idle Pushes takes gotten answered refl inside
+take_step Reads takes gotten answered inside one_left reply_not_full = idle Reads takes gotten answered refl inside
+take_step (Unlinks value) takes gotten reply.Yes inside one_left reply_not_full =
+    let some_left = lt-ltb 0 takes inside in
     record {
-      left_then = left - 1;
-      have_then = record { items = have.items + 1; sum = have.sum + value };
+      left_then = takes - 1;
+      have_then = record { items = gotten.items + 1; sum = gotten.sum + value };
       plan = refl;
       count = omega (arith, inside);
-      counted = ap (λ b. if b then record { items = have.items + 1; sum = have.sum + value } else have) some;
+      counted = ap (λ got_value. if got_value then record { items = gotten.items + 1; sum = gotten.sum + value } else gotten) some_left;
       items = refl;
       total = omega arith;
       no_put = refl;
       inside = tt;
     }
-take_step (Unlinks value) left have (reply.Ref name) inside more given = idle (Unlinks value) left have (reply.Ref name) refl inside
-take_step (Unlinks value) left have reply.Null inside more given = idle (Unlinks value) left have reply.Null refl inside
-take_step (Unlinks value) left have reply.Ok inside more given = idle (Unlinks value) left have reply.Ok refl inside
-take_step (Unlinks value) left have reply.No inside more given = idle (Unlinks value) left have reply.No refl inside
-take_step (Unlinks value) left have (reply.Number n) inside more given = idle (Unlinks value) left have (reply.Number n) refl inside
-take_step (Unlinks value) left have reply.Bad inside more given = idle (Unlinks value) left have reply.Bad refl inside
-take_step (Unlinks value) left have (reply.At place) inside more given = idle (Unlinks value) left have (reply.At place) refl inside
-take_step (Unlinks value) left have reply.Full inside more given = idle (Unlinks value) left have reply.Full refl inside
+take_step (Unlinks value) takes gotten (reply.Ref name) inside one_left reply_not_full = idle (Unlinks value) takes gotten (reply.Ref name) refl inside
+take_step (Unlinks value) takes gotten reply.Null inside one_left reply_not_full = idle (Unlinks value) takes gotten reply.Null refl inside
+take_step (Unlinks value) takes gotten reply.Ok inside one_left reply_not_full = idle (Unlinks value) takes gotten reply.Ok refl inside
+take_step (Unlinks value) takes gotten reply.No inside one_left reply_not_full = idle (Unlinks value) takes gotten reply.No refl inside
+take_step (Unlinks value) takes gotten (reply.Number number) inside one_left reply_not_full = idle (Unlinks value) takes gotten (reply.Number number) refl inside
+take_step (Unlinks value) takes gotten reply.Bad inside one_left reply_not_full = idle (Unlinks value) takes gotten reply.Bad refl inside
+take_step (Unlinks value) takes gotten (reply.At place) inside one_left reply_not_full = idle (Unlinks value) takes gotten (reply.At place) refl inside
+take_step (Unlinks value) takes gotten reply.Full inside one_left reply_not_full = idle (Unlinks value) takes gotten reply.Full refl inside
 
 -- what all of a taker's entries make of it
 record TakesOn (spot : Spot) (left : ℕ) (have : Gotten) (entries : List Entry) : Type 0 where
@@ -255,71 +255,71 @@ record TakesOn (spot : Spot) (left : ℕ) (have : Gotten) (entries : List Entry)
 
 -- between two operations one is left, where it has not ended
 pub more_left : (spot : Spot) (left : ℕ) → (is_rest spot && (left == 0)) ≡ false → is_rest spot ≡ true → 1 ≤ left
-more_left spot left on rest = at left (ap (λ b. b && (left == 0)) (sym rest) ∙ on)
+more_left spot left not_at_end spot_rests = at left (ap (λ at_rest. at_rest && (left == 0)) (sym spot_rests) ∙ not_at_end)
   where
-    at : (n : ℕ) → (true && (n == 0)) ≡ false → 1 ≤ n
+    at : (takes : ℕ) → (true && (takes == 0)) ≡ false → 1 ≤ takes
     at zero never = absurd (false≢true (sym never))
-    at (suc n) some = omega arith
+    at (suc takes) not_zero = omega arith
 
 -- one that has no next command has none left
-none_left : (spot : Spot) (left : ℕ) (have : Gotten) → next_of (taking spot left have) ≡ None → left ≡ 0
-none_left spot left have is = at (is_rest spot) (left == 0) refl is
+none_left : (spot : Spot) (takes : ℕ) (gotten : Gotten) → next_of (taking spot takes gotten) ≡ None → takes ≡ 0
+none_left spot takes gotten no_command = at (is_rest spot) (takes == 0) refl no_command
   where
-    at : (holds other_holds : Bool) → (left == 0) ≡ other_holds → (if holds && other_holds then None else Some (command_of (taking spot left have))) ≡ None → left ≡ 0
-    at true true none is = elim (eqb_tells left 0) [ inl here ↦ here.1 | inr other ↦ absurd (false≢true (sym other.0 ∙ none)) ]
-    at true false none is = let never : Some (command_of (taking spot left have)) ≡ None = is in absurd cc
-    at false other_holds none is = let never : Some (command_of (taking spot left have)) ≡ None = is in absurd cc
+    at : (holds zero_test : Bool) → (takes == 0) ≡ zero_test → (if holds && zero_test then None else Some (command_of (taking spot takes gotten))) ≡ None → takes ≡ 0
+    at true true no_takes no_next = elim (eqb_tells takes 0) [ inl equal_case ↦ equal_case.1 | inr unequal_case ↦ absurd (false≢true (sym unequal_case.0 ∙ no_takes)) ]
+    at true false no_takes no_next = let never : Some (command_of (taking spot takes gotten)) ≡ None = no_next in absurd cc
+    at false zero_test no_takes no_next = let never : Some (command_of (taking spot takes gotten)) ≡ None = no_next in absurd cc
 
-take_all : (entries : List Entry) (spot : Spot) (left : ℕ) (have : Gotten) → InTake spot left → IsWithoutFull entries → IsDriven (taking spot left have) entries → TakesOn spot left have entries
-take_all [] spot left have inside given driven = record { items = omega arith; total = omega arith; no_put = refl; all = λ ended. sym (none_left spot left have ended) }
-take_all (entry ∷ entries) spot left have inside given driven =
-    let goes = going (taking spot left have) entry.command driven.0 in
-    let first = given_first entry entries given in
-    let step = take_step spot left have entry.reply inside (more_left spot left goes.on) first in
-    let here : used (taking spot left have) entry.reply ≡ taking (next_spot spot entry.command entry.reply) step.left_then step.have_then =
-    used_is (taking spot left have) entry.reply goes.on ∙ same step goes.command (not_refused (command_coming choice.Take spot) entry.reply first) in
+take_all : (entries : List Entry) (spot : Spot) (takes : ℕ) (gotten : Gotten) → InTake spot takes → IsWithoutFull entries → IsDriven (taking spot takes gotten) entries → TakesOn spot takes gotten entries
+take_all [] spot takes gotten inside none_full driven = record { items = omega arith; total = omega arith; no_put = refl; all = λ ended. sym (none_left spot takes gotten ended) }
+take_all (entry ∷ entries) spot takes gotten inside none_full driven =
+    let going_on = going (taking spot takes gotten) entry.command driven.0 in
+    let entry_not_full = given_first entry entries none_full in
+    let step = take_step spot takes gotten entry.reply inside (more_left spot takes going_on.on) entry_not_full in
+    let used_entry : used (taking spot takes gotten) entry.reply ≡ taking (next_spot spot entry.command entry.reply) step.left_then step.have_then =
+    used_is (taking spot takes gotten) entry.reply going_on.on ∙ same step going_on.command (not_refused (command_coming choice.Take spot) entry.reply entry_not_full) in
     let later = take_all entries (next_spot spot entry.command entry.reply) step.left_then step.have_then
-    (subst (λ (command : Command). InTake (next_spot spot command entry.reply) step.left_then) goes.command step.inside) (given_later entry entries given) (subst (λ (user : Use). IsDriven user entries) here driven.1) in
+    (subst (λ (command : Command). InTake (next_spot spot command entry.reply) step.left_then) going_on.command step.inside) (given_later entry entries none_full) (subst (λ (user : Use). IsDriven user entries) used_entry driven.1) in
     let gots = gots-append (operation_ended spot entry.reply) (ended_in (next_spot spot entry.command entry.reply) entries) in
-    let long = ap (length {A = ℕ}) gots ∙ length-append (gots_of (operation_ended spot entry.reply)) (gots_of (ended_in (next_spot spot entry.command entry.reply) entries)) in
-    let whole = ap sum gots ∙ sum_by-append (λ x. x) (gots_of (operation_ended spot entry.reply)) (gots_of (ended_in (next_spot spot entry.command entry.reply) entries)) in
+    let gots_length = ap (length {A = ℕ}) gots ∙ length-append (gots_of (operation_ended spot entry.reply)) (gots_of (ended_in (next_spot spot entry.command entry.reply) entries)) in
+    let gots_sum = ap sum gots ∙ sum_by-append (λ x. x) (gots_of (operation_ended spot entry.reply)) (gots_of (ended_in (next_spot spot entry.command entry.reply) entries)) in
     record {
-      items = ap (λ (user : Use). (use_after user entries).got.items) here ∙ later.items ∙ omega (arith, step.items, long);
-      total = ap (λ (user : Use). (use_after user entries).got.sum) here ∙ later.total ∙ omega (arith, step.total, whole);
-      no_put = puts-append (operation_ended spot entry.reply) (ended_in (next_spot spot entry.command entry.reply) entries) ∙ ap (λ l. l ++ puts_of (ended_in (next_spot spot entry.command entry.reply) entries)) step.no_put ∙ later.no_put;
-      all = λ ended. let rest = later.all (ap (λ (user : Use). next_of (use_after user entries)) (sym here) ∙ ended) in omega (arith, rest, long, step.count);
+      items = ap (λ (user : Use). (use_after user entries).got.items) used_entry ∙ later.items ∙ omega (arith, step.items, gots_length);
+      total = ap (λ (user : Use). (use_after user entries).got.sum) used_entry ∙ later.total ∙ omega (arith, step.total, gots_sum);
+      no_put = puts-append (operation_ended spot entry.reply) (ended_in (next_spot spot entry.command entry.reply) entries) ∙ ap (λ values. values ++ puts_of (ended_in (next_spot spot entry.command entry.reply) entries)) step.no_put ∙ later.no_put;
+      all = λ ended. let rest_taken = later.all (ap (λ (user : Use). next_of (use_after user entries)) (sym used_entry) ∙ ended) in omega (arith, rest_taken, gots_length, step.count);
     }
   where
-    same : (step : TakeStep spot left have entry.reply) → command_coming choice.Take spot ≡ entry.command → is_refused (command_coming choice.Take spot) entry.reply ≡ false
-        → onward (taking spot left have) entry.reply ≡ taking (next_spot spot entry.command entry.reply) step.left_then step.have_then
-    same step command fine = λ i. record { spot = next_spot spot (command i) entry.reply; plan = step.plan i; got = step.counted i; refused = fine i }
+    same : (step : TakeStep spot takes gotten entry.reply) → command_coming choice.Take spot ≡ entry.command → is_refused (command_coming choice.Take spot) entry.reply ≡ false
+        → onward (taking spot takes gotten) entry.reply ≡ taking (next_spot spot entry.command entry.reply) step.left_then step.have_then
+    same step command not_refused = λ i. record { spot = next_spot spot (command i) entry.reply; plan = step.plan i; got = step.counted i; refused = not_refused i }
 
 pub takers_take : TakersTake
-takers_take count es given driven =
-    let all = take_all es Joins count nothing_got tt given driven in
-    record { items = all.items ∙ omega arith; sum = all.total ∙ omega arith; no_put = all.no_put; all = all.all }
+takers_take count entries none_full driven =
+    let all_taken = take_all entries Joins count nothing_got tt none_full driven in
+    record { items = all_taken.items ∙ omega arith; sum = all_taken.total ∙ omega arith; no_put = all_taken.no_put; all = all_taken.all }
 
 -- putters
 
 abbrev putting : Spot → ℕ → ℕ → Use
-putting spot next left = record { spot = spot; plan = Puts next left; got = nothing_got; refused = false }
+putting spot number puts = record { spot = spot; plan = Puts number puts; got = nothing_got; refused = false }
 
 -- a putter is in the set-up, joins, rests, or is at a spot of a put of its next number, of which it has one to do
 abbrev InPut : Spot → ℕ → ℕ → Type 0
-InPut MakesAnchor next left = Unit {0}
-InPut MakesFirst next left = Unit {0}
-InPut SetsHead next left = Unit {0}
-InPut SetsTail next left = Unit {0}
-InPut Shows next left = Unit {0}
-InPut Joins next left = Unit {0}
-InPut Rests next left = Unit {0}
-InPut Fills next left = 1 ≤ left
-InPut (Looks value) next left = (value ≡ next) × (1 ≤ left)
-InPut (Follows value) next left = (value ≡ next) × (1 ≤ left)
-InPut (Links value) next left = (value ≡ next) × (1 ≤ left)
-InPut (Helps value) next left = (value ≡ next) × (1 ≤ left)
-InPut (Swings value) next left = (value ≡ next) × (1 ≤ left)
-InPut _ next left = ⊥
+InPut MakesAnchor number puts = Unit {0}
+InPut MakesFirst number puts = Unit {0}
+InPut SetsHead number puts = Unit {0}
+InPut SetsTail number puts = Unit {0}
+InPut Shows number puts = Unit {0}
+InPut Joins number puts = Unit {0}
+InPut Rests number puts = Unit {0}
+InPut Fills number puts = 1 ≤ puts
+InPut (Looks value) number puts = (value ≡ number) × (1 ≤ puts)
+InPut (Follows value) number puts = (value ≡ number) × (1 ≤ puts)
+InPut (Links value) number puts = (value ≡ number) × (1 ≤ puts)
+InPut (Helps value) number puts = (value ≡ number) × (1 ≤ puts)
+InPut (Swings value) number puts = (value ≡ number) × (1 ≤ puts)
+InPut _ number puts = ⊥
 
 -- what one reply makes of it
 record PutStep (spot : Spot) (next left : ℕ) (answered : Reply) : Type 0 where
@@ -329,133 +329,133 @@ record PutStep (spot : Spot) (next left : ℕ) (answered : Reply) : Type 0 where
   puts : puts_of (operation_ended spot answered) ++ range_with_len next_then left_then ≡ range_with_len next left
   inside : InPut (next_spot spot (command_coming (choice.Put next) spot) answered) next_then left_then
 
-waits : (spot : Spot) (next left : ℕ) (answered : Reply) → operation_ended spot answered ≡ [] → InPut (next_spot spot (command_coming (choice.Put next) spot) answered) next left → PutStep spot next left answered
-waits spot next left answered none inside = record {
-  next_then = next;
-  left_then = left;
-  plan = ap (λ o. plan_after (Puts next left) (answer_told o)) none;
-  puts = ap (λ o. puts_of o ++ range_with_len next left) none;
+waits : (spot : Spot) (number puts : ℕ) (answered : Reply) → operation_ended spot answered ≡ [] → InPut (next_spot spot (command_coming (choice.Put number) spot) answered) number puts → PutStep spot number puts answered
+waits spot number puts answered nothing_ended inside = record {
+  next_then = number;
+  left_then = puts;
+  plan = ap (λ ended_operations. plan_after (Puts number puts) (answer_told ended_operations)) nothing_ended;
+  puts = ap (λ ended_operations. puts_of ended_operations ++ range_with_len number puts) nothing_ended;
   inside = inside;
 }
 
-joins_in : (next left : ℕ) (answered : Reply) → InPut (after_join answered) next left
-joins_in next left (reply.Ref name) = tt
-joins_in next left reply.Null = tt
-joins_in next left reply.Ok = tt
-joins_in next left reply.Yes = tt
-joins_in next left reply.No = tt
-joins_in next left (reply.Number n) = tt
-joins_in next left reply.Bad = tt
-joins_in next left (reply.At place) = tt
-joins_in next left reply.Full = tt
+joins_in : (number puts : ℕ) (answered : Reply) → InPut (after_join answered) number puts
+joins_in number puts (reply.Ref name) = tt
+joins_in number puts reply.Null = tt
+joins_in number puts reply.Ok = tt
+joins_in number puts reply.Yes = tt
+joins_in number puts reply.No = tt
+joins_in number puts (reply.Number replied_number) = tt
+joins_in number puts reply.Bad = tt
+joins_in number puts (reply.At place) = tt
+joins_in number puts reply.Full = tt
 
-begins_in : (next left : ℕ) (answered : Reply) → answered ≢ reply.Full → 1 ≤ left → InPut (after_rest (New 3 1 1) answered) next left
-begins_in next left (reply.Ref name) given positive = positive
-begins_in next left reply.Null given positive = positive
-begins_in next left reply.Ok given positive = positive
-begins_in next left reply.Yes given positive = positive
-begins_in next left reply.No given positive = positive
-begins_in next left (reply.Number n) given positive = positive
-begins_in next left reply.Bad given positive = positive
-begins_in next left (reply.At place) given positive = positive
-begins_in next left reply.Full given positive = absurd (given refl)
+begins_in : (number puts : ℕ) (answered : Reply) → answered ≢ reply.Full → 1 ≤ puts → InPut (after_rest (New 3 1 1) answered) number puts
+begins_in number puts (reply.Ref name) reply_not_full some_puts = some_puts
+begins_in number puts reply.Null reply_not_full some_puts = some_puts
+begins_in number puts reply.Ok reply_not_full some_puts = some_puts
+begins_in number puts reply.Yes reply_not_full some_puts = some_puts
+begins_in number puts reply.No reply_not_full some_puts = some_puts
+begins_in number puts (reply.Number replied_number) reply_not_full some_puts = some_puts
+begins_in number puts reply.Bad reply_not_full some_puts = some_puts
+begins_in number puts (reply.At place) reply_not_full some_puts = some_puts
+begins_in number puts reply.Full reply_not_full some_puts = absurd (reply_not_full refl)
 
-follows_in : (value next left : ℕ) (answered : Reply) → (value ≡ next) × (1 ≤ left) → InPut (behind_tail value answered) next left
-follows_in value next left (reply.Ref name) is = is
-follows_in value next left reply.Null is = is
-follows_in value next left reply.Ok is = is
-follows_in value next left reply.Yes is = is
-follows_in value next left reply.No is = is
-follows_in value next left (reply.Number n) is = is
-follows_in value next left reply.Bad is = is
-follows_in value next left (reply.At place) is = is
-follows_in value next left reply.Full is = is
+follows_in : (value number puts : ℕ) (answered : Reply) → (value ≡ number) × (1 ≤ puts) → InPut (behind_tail value answered) number puts
+follows_in value number puts (reply.Ref name) next_value = next_value
+follows_in value number puts reply.Null next_value = next_value
+follows_in value number puts reply.Ok next_value = next_value
+follows_in value number puts reply.Yes next_value = next_value
+follows_in value number puts reply.No next_value = next_value
+follows_in value number puts (reply.Number replied_number) next_value = next_value
+follows_in value number puts reply.Bad next_value = next_value
+follows_in value number puts (reply.At place) next_value = next_value
+follows_in value number puts reply.Full next_value = next_value
 
-links_in : (value next left : ℕ) (answered : Reply) → (value ≡ next) × (1 ≤ left) → InPut (after_link value answered) next left
-links_in value next left (reply.Ref name) is = is
-links_in value next left reply.Null is = is
-links_in value next left reply.Ok is = is
-links_in value next left reply.Yes is = is
-links_in value next left reply.No is = is
-links_in value next left (reply.Number n) is = is
-links_in value next left reply.Bad is = is
-links_in value next left (reply.At place) is = is
-links_in value next left reply.Full is = is
+links_in : (value number puts : ℕ) (answered : Reply) → (value ≡ number) × (1 ≤ puts) → InPut (after_link value answered) number puts
+links_in value number puts (reply.Ref name) next_value = next_value
+links_in value number puts reply.Null next_value = next_value
+links_in value number puts reply.Ok next_value = next_value
+links_in value number puts reply.Yes next_value = next_value
+links_in value number puts reply.No next_value = next_value
+links_in value number puts (reply.Number replied_number) next_value = next_value
+links_in value number puts reply.Bad next_value = next_value
+links_in value number puts (reply.At place) next_value = next_value
+links_in value number puts reply.Full next_value = next_value
 
 -- the last reply of a put
-swings_in : (value next left : ℕ) (answered : Reply) → value ≡ next → 1 ≤ left → PutStep (Swings value) next left answered
-swings_in value next zero answered is positive = absurd (omega (arith, positive))
-swings_in value next (suc n) answered is positive =
-    let less : suc n - 1 ≡ n = omega arith in
+swings_in : (value number puts : ℕ) (answered : Reply) → value ≡ number → 1 ≤ puts → PutStep (Swings value) number puts answered
+swings_in value number zero answered next_value some_puts = absurd (omega (arith, some_puts))
+swings_in value number (suc puts_after) answered next_value some_puts =
+    let one_fewer : suc puts_after - 1 ≡ puts_after = omega arith in
     record {
-      next_then = next + 1;
-      left_then = n;
-      plan = ap (λ b. if b then Puts (next + 1) (suc n - 1) else Puts next (suc n)) (lt-ltb 0 (suc n) positive) ∙ ap (Puts (next + 1)) less;
-      puts = ap (λ v. v ∷ range_with_len (next + 1) n) is;
+      next_then = number + 1;
+      left_then = puts_after;
+      plan = ap (λ more_puts. if more_puts then Puts (number + 1) (suc puts_after - 1) else Puts number (suc puts_after)) (lt-ltb 0 (suc puts_after) some_puts) ∙ ap (Puts (number + 1)) one_fewer;
+      puts = ap (λ put_value. put_value ∷ range_with_len (number + 1) puts_after) next_value;
       inside = tt;
     }
 
-put_step : (spot : Spot) (next left : ℕ) (answered : Reply) → InPut spot next left → (is_rest spot ≡ true → 1 ≤ left) → answered ≢ reply.Full → PutStep spot next left answered
-put_step MakesAnchor next left answered inside more given = waits MakesAnchor next left answered refl tt
-put_step MakesFirst next left answered inside more given = waits MakesFirst next left answered refl tt
-put_step SetsHead next left answered inside more given = waits SetsHead next left answered refl tt
-put_step SetsTail next left answered inside more given = waits SetsTail next left answered refl tt
-put_step Shows next left answered inside more given = waits Shows next left answered refl tt
-put_step Joins next left answered inside more given = waits Joins next left answered refl (joins_in next left answered)
-put_step Rests next left answered inside more given = waits Rests next left answered (nothing_full answered given) (begins_in next left answered given (more refl))
-put_step Fills next left answered inside more given = waits Fills next left answered refl (refl, inside)
-put_step (Looks value) next left answered inside more given = waits (Looks value) next left answered refl inside
-put_step (Follows value) next left answered inside more given = waits (Follows value) next left answered refl (follows_in value next left answered inside)
-put_step (Links value) next left answered inside more given = waits (Links value) next left answered refl (links_in value next left answered inside)
-put_step (Helps value) next left answered inside more given = waits (Helps value) next left answered refl inside
-put_step (Swings value) next left answered inside more given = swings_in value next left answered inside.0 inside.1
-put_step Turns next left answered inside more given = absurd inside
-put_step TookHead next left answered inside more given = absurd inside
-put_step TookTail next left answered inside more given = absurd inside
-put_step (Compares nothing) next left answered inside more given = absurd inside
-put_step Pushes next left answered inside more given = absurd inside
-put_step Reads next left answered inside more given = absurd inside
-put_step (Unlinks value) next left answered inside more given = absurd inside
+put_step : (spot : Spot) (number puts : ℕ) (answered : Reply) → InPut spot number puts → (is_rest spot ≡ true → 1 ≤ puts) → answered ≢ reply.Full → PutStep spot number puts answered
+put_step MakesAnchor number puts answered inside one_left reply_not_full = waits MakesAnchor number puts answered refl tt
+put_step MakesFirst number puts answered inside one_left reply_not_full = waits MakesFirst number puts answered refl tt
+put_step SetsHead number puts answered inside one_left reply_not_full = waits SetsHead number puts answered refl tt
+put_step SetsTail number puts answered inside one_left reply_not_full = waits SetsTail number puts answered refl tt
+put_step Shows number puts answered inside one_left reply_not_full = waits Shows number puts answered refl tt
+put_step Joins number puts answered inside one_left reply_not_full = waits Joins number puts answered refl (joins_in number puts answered)
+put_step Rests number puts answered inside one_left reply_not_full = waits Rests number puts answered (nothing_full answered reply_not_full) (begins_in number puts answered reply_not_full (one_left refl))
+put_step Fills number puts answered inside one_left reply_not_full = waits Fills number puts answered refl (refl, inside)
+put_step (Looks value) number puts answered inside one_left reply_not_full = waits (Looks value) number puts answered refl inside
+put_step (Follows value) number puts answered inside one_left reply_not_full = waits (Follows value) number puts answered refl (follows_in value number puts answered inside)
+put_step (Links value) number puts answered inside one_left reply_not_full = waits (Links value) number puts answered refl (links_in value number puts answered inside)
+put_step (Helps value) number puts answered inside one_left reply_not_full = waits (Helps value) number puts answered refl inside
+put_step (Swings value) number puts answered inside one_left reply_not_full = swings_in value number puts answered inside.0 inside.1
+put_step Turns number puts answered inside one_left reply_not_full = absurd inside
+put_step TookHead number puts answered inside one_left reply_not_full = absurd inside
+put_step TookTail number puts answered inside one_left reply_not_full = absurd inside
+put_step (Compares nothing) number puts answered inside one_left reply_not_full = absurd inside
+put_step Pushes number puts answered inside one_left reply_not_full = absurd inside
+put_step Reads number puts answered inside one_left reply_not_full = absurd inside
+put_step (Unlinks value) number puts answered inside one_left reply_not_full = absurd inside
 
 record PutsOn (spot : Spot) (next left : ℕ) (entries : List Entry) : Type 0 where
   rest : List ℕ
   puts : puts_of (ended_in spot entries) ++ rest ≡ range_with_len next left
   all : next_of (use_after (putting spot next left) entries) ≡ None → rest ≡ []
 
-none_to_put : (spot : Spot) (next left : ℕ) → next_of (putting spot next left) ≡ None → left ≡ 0
-none_to_put spot next left is = at (is_rest spot) (left == 0) refl is
+none_to_put : (spot : Spot) (number puts : ℕ) → next_of (putting spot number puts) ≡ None → puts ≡ 0
+none_to_put spot number puts no_command = at (is_rest spot) (puts == 0) refl no_command
   where
-    at : (holds other_holds : Bool) → (left == 0) ≡ other_holds → (if holds && other_holds then None else Some (command_of (putting spot next left))) ≡ None → left ≡ 0
-    at true true none is = elim (eqb_tells left 0) [ inl here ↦ here.1 | inr other ↦ absurd (false≢true (sym other.0 ∙ none)) ]
-    at true false none is = let never : Some (command_of (putting spot next left)) ≡ None = is in absurd cc
-    at false other_holds none is = let never : Some (command_of (putting spot next left)) ≡ None = is in absurd cc
+    at : (holds zero_test : Bool) → (puts == 0) ≡ zero_test → (if holds && zero_test then None else Some (command_of (putting spot number puts))) ≡ None → puts ≡ 0
+    at true true no_puts no_next = elim (eqb_tells puts 0) [ inl equal_case ↦ equal_case.1 | inr unequal_case ↦ absurd (false≢true (sym unequal_case.0 ∙ no_puts)) ]
+    at true false no_puts no_next = let never : Some (command_of (putting spot number puts)) ≡ None = no_next in absurd cc
+    at false zero_test no_puts no_next = let never : Some (command_of (putting spot number puts)) ≡ None = no_next in absurd cc
 
-put_all : (entries : List Entry) (spot : Spot) (next left : ℕ) → InPut spot next left → IsWithoutFull entries → IsDriven (putting spot next left) entries → PutsOn spot next left entries
-put_all [] spot next left inside given driven = record { rest = range_with_len next left; puts = refl; all = λ ended. ap (range_with_len next) (none_to_put spot next left ended) }
-put_all (entry ∷ entries) spot next left inside given driven =
-    let goes = going (putting spot next left) entry.command driven.0 in
-    let first = given_first entry entries given in
-    let step = put_step spot next left entry.reply inside (more_left spot left goes.on) first in
-    let here : used (putting spot next left) entry.reply ≡ putting (next_spot spot entry.command entry.reply) step.next_then step.left_then =
-    used_is (putting spot next left) entry.reply goes.on ∙ same step goes.command (not_refused (command_coming (choice.Put next) spot) entry.reply first) in
+put_all : (entries : List Entry) (spot : Spot) (number puts : ℕ) → InPut spot number puts → IsWithoutFull entries → IsDriven (putting spot number puts) entries → PutsOn spot number puts entries
+put_all [] spot number puts inside none_full driven = record { rest = range_with_len number puts; puts = refl; all = λ ended. ap (range_with_len number) (none_to_put spot number puts ended) }
+put_all (entry ∷ entries) spot number puts inside none_full driven =
+    let going_on = going (putting spot number puts) entry.command driven.0 in
+    let entry_not_full = given_first entry entries none_full in
+    let step = put_step spot number puts entry.reply inside (more_left spot puts going_on.on) entry_not_full in
+    let used_entry : used (putting spot number puts) entry.reply ≡ putting (next_spot spot entry.command entry.reply) step.next_then step.left_then =
+    used_is (putting spot number puts) entry.reply going_on.on ∙ same step going_on.command (not_refused (command_coming (choice.Put number) spot) entry.reply entry_not_full) in
     let later = put_all entries (next_spot spot entry.command entry.reply) step.next_then step.left_then
-    (subst (λ (command : Command). InPut (next_spot spot command entry.reply) step.next_then step.left_then) goes.command step.inside) (given_later entry entries given) (subst (λ (user : Use). IsDriven user entries) here driven.1) in
-    let now = operation_ended spot entry.reply in
-    let behind = ended_in (next_spot spot entry.command entry.reply) entries in
+    (subst (λ (command : Command). InPut (next_spot spot command entry.reply) step.next_then step.left_then) going_on.command step.inside) (given_later entry entries none_full) (subst (λ (user : Use). IsDriven user entries) used_entry driven.1) in
+    let ended_now = operation_ended spot entry.reply in
+    let ended_later = ended_in (next_spot spot entry.command entry.reply) entries in
     record {
       rest = later.rest;
-      puts = ap (λ l. l ++ later.rest) (puts-append now behind) ∙ append_assoc (puts_of now) (puts_of behind) later.rest ∙ ap (λ l. puts_of now ++ l) later.puts ∙ step.puts;
-      all = λ ended. later.all (ap (λ (user : Use). next_of (use_after user entries)) (sym here) ∙ ended);
+      puts = ap (λ values. values ++ later.rest) (puts-append ended_now ended_later) ∙ append_assoc (puts_of ended_now) (puts_of ended_later) later.rest ∙ ap (λ values. puts_of ended_now ++ values) later.puts ∙ step.puts;
+      all = λ ended. later.all (ap (λ (user : Use). next_of (use_after user entries)) (sym used_entry) ∙ ended);
     }
   where
-    same : (step : PutStep spot next left entry.reply) → command_coming (choice.Put next) spot ≡ entry.command → is_refused (command_coming (choice.Put next) spot) entry.reply ≡ false
-        → onward (putting spot next left) entry.reply ≡ putting (next_spot spot entry.command entry.reply) step.next_then step.left_then
-    same step command fine = λ i. record { spot = next_spot spot (command i) entry.reply; plan = step.plan i; got = nothing_got; refused = fine i }
+    same : (step : PutStep spot number puts entry.reply) → command_coming (choice.Put number) spot ≡ entry.command → is_refused (command_coming (choice.Put number) spot) entry.reply ≡ false
+        → onward (putting spot number puts) entry.reply ≡ putting (next_spot spot entry.command entry.reply) step.next_then step.left_then
+    same step command not_refused = λ i. record { spot = next_spot spot (command i) entry.reply; plan = step.plan i; got = nothing_got; refused = not_refused i }
 
 pub putters_put : PuttersPut
-putters_put true first count es given driven =
-    let all = put_all es MakesAnchor first count tt given driven in
-    record { rest = all.rest; puts = all.puts; all = all.all }
-putters_put false first count es given driven =
-    let all = put_all es Joins first count tt given driven in
-    record { rest = all.rest; puts = all.puts; all = all.all }
+putters_put true first_number count entries none_full driven =
+    let all_put = put_all entries MakesAnchor first_number count tt none_full driven in
+    record { rest = all_put.rest; puts = all_put.puts; all = all_put.all }
+putters_put false first_number count entries none_full driven =
+    let all_put = put_all entries Joins first_number count tt none_full driven in
+    record { rest = all_put.rest; puts = all_put.puts; all = all_put.all }

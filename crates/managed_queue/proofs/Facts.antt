@@ -22,7 +22,7 @@ abbrev pub cell : Reference → ℕ → Object
 cell next value = record { refs = next ∷ []; nums = value ∷ [] }
 
 abbrev pub ends : Reference → Reference → Object
-ends front back = record { refs = front ∷ back ∷ []; nums = [] }
+ends front referrer = record { refs = front ∷ referrer ∷ []; nums = [] }
 
 abbrev pub shown_hub : Object
 shown_hub = record { refs = slice_set (replicate 16 None) 0 (Some anchor); nums = [] }
@@ -46,7 +46,7 @@ pub data IsLinked (object : Objects) (place : Name → Option ℕ) (numbers : Li
 
 -- each name that has an object was given out
 abbrev pub AreMade : Objects → (ℕ → ℕ) → Type 0
-AreMade object count = (name : Name) (o : Object) → object name ≡ Some o → (name ≡ hub) ⊎ (name.count ≤ count name.thread)
+AreMade object count = (name : Name) (found_object : Object) → object name ≡ Some found_object → (name ≡ hub) ⊎ (name.count ≤ count name.thread)
 
 pub record IsChain (object : Objects) (count : ℕ → ℕ) (chain : Chain) : Type 0 where
   pub hub_is : object hub ≡ Some shown_hub
@@ -108,23 +108,23 @@ pub record IsPair (chain : Chain) (reference other_reference : Reference) : Type
   pub order : front.index ≤ back.index
 
 abbrev pub Facts : ℕ → Objects → Chain → (ℕ → Reference) → Spot → Type 0
-Facts t object chain root Joins = IsJoining t root
-Facts t object chain root Rests = IsUser t root
-Facts t object chain root Turns = IsUser t root
-Facts t object chain root Fills = IsUser t root × (value : ℕ) × IsOwn t object chain (root 3) value
-Facts t object chain root (Looks value) = IsUser t root × IsOwn t object chain (root 3) value
-Facts t object chain root (Follows value) = IsUser t root × IsOwn t object chain (root 3) value × IsAt chain (root 4) chain.tail
-Facts t object chain root (Links value) = IsUser t root × IsOwn t object chain (root 3) value × IsAt chain (root 4) chain.tail
-Facts t object chain root (Helps value) = IsUser t root × IsOwn t object chain (root 3) value × IsEdge object chain (root 4) (root 5)
-Facts t object chain root (Swings value) = IsUser t root × IsEdge object chain (root 4) (root 3)
-Facts t object chain root TookHead = IsUser t root × IsAt chain (root 4) chain.head
-Facts t object chain root TookTail = IsUser t root × IsPair chain (root 4) (root 5)
-Facts t object chain root (Compares true) = IsUser t root × (root 4 ≡ root 5)
-Facts t object chain root (Compares false) = IsUser t root × IsPair chain (root 4) (root 5) × IsEdge object chain (root 4) (root 6)
-Facts t object chain root Pushes = IsUser t root × IsEdge object chain (root 5) (root 6)
-Facts t object chain root Reads = IsUser t root × (edge : IsEdge object chain (root 4) (root 6)) × (suc edge.index ≤ chain.tail)
-Facts t object chain root (Unlinks value) = IsUser t root × (edge : IsEdge object chain (root 4) (root 6)) × (suc edge.index ≤ chain.tail) × (slice_get chain.numbers (suc edge.index) ≡ Some value)
-Facts t object chain root _ = ⊥
+Facts thread object chain root Joins = IsJoining thread root
+Facts thread object chain root Rests = IsUser thread root
+Facts thread object chain root Turns = IsUser thread root
+Facts thread object chain root Fills = IsUser thread root × (value : ℕ) × IsOwn thread object chain (root 3) value
+Facts thread object chain root (Looks value) = IsUser thread root × IsOwn thread object chain (root 3) value
+Facts thread object chain root (Follows value) = IsUser thread root × IsOwn thread object chain (root 3) value × IsAt chain (root 4) chain.tail
+Facts thread object chain root (Links value) = IsUser thread root × IsOwn thread object chain (root 3) value × IsAt chain (root 4) chain.tail
+Facts thread object chain root (Helps value) = IsUser thread root × IsOwn thread object chain (root 3) value × IsEdge object chain (root 4) (root 5)
+Facts thread object chain root (Swings value) = IsUser thread root × IsEdge object chain (root 4) (root 3)
+Facts thread object chain root TookHead = IsUser thread root × IsAt chain (root 4) chain.head
+Facts thread object chain root TookTail = IsUser thread root × IsPair chain (root 4) (root 5)
+Facts thread object chain root (Compares true) = IsUser thread root × (root 4 ≡ root 5)
+Facts thread object chain root (Compares false) = IsUser thread root × IsPair chain (root 4) (root 5) × IsEdge object chain (root 4) (root 6)
+Facts thread object chain root Pushes = IsUser thread root × IsEdge object chain (root 5) (root 6)
+Facts thread object chain root Reads = IsUser thread root × (edge : IsEdge object chain (root 4) (root 6)) × (suc edge.index ≤ chain.tail)
+Facts thread object chain root (Unlinks value) = IsUser thread root × (edge : IsEdge object chain (root 4) (root 6)) × (suc edge.index ≤ chain.tail) × (slice_get chain.numbers (suc edge.index) ≡ Some value)
+Facts thread object chain root _ = ⊥
 
 -- What a user relies on while another makes a step.
 pub record Rely (u : ℕ) (object : Objects) (chain : Chain) (new_object : Objects) (new_chain : Chain) : Type 0 where

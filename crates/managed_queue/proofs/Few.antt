@@ -25,9 +25,9 @@ use Rattle.managed_queue.proofs.Small.{most, AreSmall, Stays, next_small, entry_
 
 -- what can be reached was given
 reached : (graph : Graph) (names : List Name) → AreSmall graph names → (name : Name) → IsReachable graph name → Contains names name
-reached graph names small _ (from_root t r name is) = small.roots t r name is
-reached graph names small _ (from_pin thread slot held is) = absurd (none-some held (sym (small.no_pin thread slot) ∙ is))
-reached graph names small _ (from_field m name f from is) = small.fields m f name is
+reached graph names graph_small _ (from_root root_thread root_index name names_it) = graph_small.roots root_thread root_index name names_it
+reached graph names graph_small _ (from_pin thread slot held_pin names_it) = absurd (none-some held_pin (sym (graph_small.no_pin thread slot) ∙ names_it))
+reached graph names graph_small _ (from_field holder name field from names_it) = graph_small.fields holder field name names_it
 
 -- the hub counts once
 
@@ -35,11 +35,11 @@ abbrev extra : Name → ℕ
 extra name = if same_name hub name then 14 else 0
 
 no_hub : (name : Name) (names : List Name) → name ≡ hub → AllByRecursion (λ y. same_name name y ≡ false) names → sum_by extra names ≡ 0
-no_hub name [] is apart = refl
-no_hub name (other_name ∷ names) is apart =
-    let rest = no_hub name names is apart.1 in
-    let here : extra other_name ≡ 0 = ap (λ b. if b then 14 else 0) (ap (λ x. same_name x other_name) (sym is) ∙ apart.0) in
-    omega (arith, sum_by-cons extra other_name names, rest, here)
+no_hub name [] same_hub others_differ = refl
+no_hub name (next_name ∷ names) same_hub others_differ =
+    let rest_none = no_hub name names same_hub others_differ.1 in
+    let no_extra : extra next_name ≡ 0 = ap (λ is_hub. if is_hub then 14 else 0) (ap (λ x. same_name x next_name) (sym same_hub) ∙ others_differ.0) in
+    omega (arith, sum_by-cons extra next_name names, rest_none, no_extra)
 
 once : (names : List Name) → InOrder names → sum_by extra names ≤ 14
 once [] order = omega arith
@@ -48,13 +48,13 @@ once (name ∷ names) order =
     by_first (same_name hub name) refl later
   where
     by_first : (holds : Bool) → same_name hub name ≡ holds → sum_by extra names ≤ 14 → sum_by extra (name ∷ names) ≤ 14
-    by_first true is later =
-        let none = no_hub name names (sym (same_name-true hub name is)) (order_first name names order) in
-        let here : extra name ≡ 14 = ap (λ holds. if holds then 14 else 0) is in
-        omega (arith, sum_by-cons extra name names, none, here)
-    by_first false is later =
-        let here : extra name ≡ 0 = ap (λ holds. if holds then 14 else 0) is in
-        omega (arith, sum_by-cons extra name names, later, here)
+    by_first true hub_tested later =
+        let no_extra = no_hub name names (sym (same_name-true hub name hub_tested)) (order_first name names order) in
+        let first_extra : extra name ≡ 14 = ap (λ holds. if holds then 14 else 0) hub_tested in
+        omega (arith, sum_by-cons extra name names, no_extra, first_extra)
+    by_first false hub_tested later =
+        let first_extra : extra name ≡ 0 = ap (λ holds. if holds then 14 else 0) hub_tested in
+        omega (arith, sum_by-cons extra name names, later, first_extra)
 
 most_is : (name : Name) → most name ≡ 5 + extra name
 most_is name = at (same_name hub name)
@@ -63,41 +63,41 @@ most_is name = at (same_name hub name)
     at true = refl
     at false = refl
 
-weigh : (graph : Graph) (names : List Name) → AreSmall graph names → (other_names : List Name) → sum_by (λ n. size (named graph (Some n))) other_names ≤ 5 * length other_names + sum_by extra other_names
-weigh graph names small [] = omega arith
-weigh graph names small (other_name ∷ other_names) =
-    let rest = weigh graph names small other_names in
-    let low = small.sizes other_name in
-    let is = most_is other_name in
-    omega (arith, sum_by-cons (λ (name : Name). size (named graph (Some name))) other_name other_names, sum_by-cons extra other_name other_names, rest, low, is)
+weigh : (graph : Graph) (names : List Name) → AreSmall graph names → (given_names : List Name) → sum_by (λ given_name. size (named graph (Some given_name))) given_names ≤ 5 * length given_names + sum_by extra given_names
+weigh graph names graph_small [] = omega arith
+weigh graph names graph_small (first_name ∷ given_names) =
+    let rest_weighed = weigh graph names graph_small given_names in
+    let size_most = graph_small.sizes first_name in
+    let size_bound = most_is first_name in
+    omega (arith, sum_by-cons (λ (name : Name). size (named graph (Some name))) first_name given_names, sum_by-cons extra first_name given_names, rest_weighed, size_most, size_bound)
 
 -- all entries
 all_stay : (entries : List Entry) (graph : Graph) (names : List Name) (spots : ℕ → Spot) → AreSmall graph names → ((thread : ℕ) → IsPlayed (spots thread) (of_thread entries thread)) → Stays (after graph entries) names (makings entries)
-all_stay [] graph names spots small played = record { new_names = names; small = small; count = omega arith }
-all_stay (entry ∷ entries) graph names spots small played =
-    let mine : IsPlayed (spots entry.thread) (entry ∷ of_thread entries entry.thread) = subst (IsPlayed (spots entry.thread)) (of_here entry entries) (played entry.thread) in
-    let step = entry_stays graph names entry (next_small (spots entry.thread) entry.command mine.0) small in
+all_stay [] graph names spots graph_small played = record { new_names = names; small = graph_small; count = omega arith }
+all_stay (entry ∷ entries) graph names spots graph_small played =
+    let own_played : IsPlayed (spots entry.thread) (entry ∷ of_thread entries entry.thread) = subst (IsPlayed (spots entry.thread)) (of_here entry entries) (played entry.thread) in
+    let step = entry_stays graph names entry (next_small (spots entry.thread) entry.command own_played.0) graph_small in
     let later = all_stay entries (after_entry graph entry) step.new_names (spot_moved spots entry) step.small (λ thread. elim (cases_eq thread entry.thread) [
-      | inl same ↦ subst (λ (k : ℕ). IsPlayed (spot_moved spots entry k) (of_thread entries k)) (sym same) (subst (λ (spot : Spot). IsPlayed spot (of_thread entries entry.thread)) (sym (on_here spots entry.thread entry.command entry.reply)) mine.2)
-      | inr other ↦ subst (λ (spot : Spot). IsPlayed spot (of_thread entries thread)) (sym (on_there spots entry.thread entry.command entry.reply thread other)) (subst (IsPlayed (spots thread)) (of_there entry entries thread other) (played thread))
+      | inl same_thread ↦ subst (λ (player : ℕ). IsPlayed (spot_moved spots entry player) (of_thread entries player)) (sym same_thread) (subst (λ (spot : Spot). IsPlayed spot (of_thread entries entry.thread)) (sym (on_here spots entry.thread entry.command entry.reply)) own_played.2)
+      | inr threads_differ ↦ subst (λ (spot : Spot). IsPlayed spot (of_thread entries thread)) (sym (on_there spots entry.thread entry.command entry.reply thread threads_differ)) (subst (IsPlayed (spots thread)) (of_there entry entries thread threads_differ) (played thread))
     ]) in
     record { new_names = later.new_names; small = later.small; count = later.count ∙ omega (arith, step.count) }
 
 -- no region has a pinned object
 pub none_pinned : (threads region_words pinned : ℕ) (history : List Entry) → ArePlayed history → PinnedRegions region_words (after (opening threads) history) pinned → pinned ≡ 0
-none_pinned threads region_words pinned history played ([], are, is) = is
-none_pinned threads region_words pinned history played (r ∷ regions, are, is) =
-    let has = are.only r (0, omega arith, refl) in
-    let all = all_stay history (opening threads) (hub ∷ []) entry_spot (small_opening threads) played in
-    absurd (none-some has.2 (sym (all.small.no_pin has.0 has.1) ∙ has.3))
+none_pinned threads region_words pinned history played ([], pinned_regions, same_count) = same_count
+none_pinned threads region_words pinned history played (region ∷ regions, pinned_regions, same_count) =
+    let pinned_there = pinned_regions.only region (0, omega arith, refl) in
+    let stayed = all_stay history (opening threads) (hub ∷ []) entry_spot (small_opening threads) played in
+    absurd (none-some pinned_there.2 (sym (stayed.small.no_pin pinned_there.0 pinned_there.1) ∙ pinned_there.3))
 
 pub few_are_live : FewAreLive
 few_are_live threads words history played live =
-    let g = after (opening threads) history in
-    let all = all_stay history (opening threads) (hub ∷ []) entry_spot (small_opening threads) played in
-    let ns = live.0 in
-    let fewer = length-le_from_is_member same_name-laws ns all.new_names (distinct ns live.1.in_order)
-    (λ name there. list_any-from_Contains same_name-laws name all.new_names (reached g all.new_names all.small name (live.1.only name (Contains-from_any same_name-true name ns there)))) in
-    let weight = weigh g all.new_names all.small ns in
-    let hubs = once ns live.1.in_order in
-    omega (arith, fewer, weight, hubs, all.count, live.2)
+    let graph = after (opening threads) history in
+    let stayed = all_stay history (opening threads) (hub ∷ []) entry_spot (small_opening threads) played in
+    let live_names = live.0 in
+    let fewer = length-le_from_is_member same_name-laws live_names stayed.new_names (distinct live_names live.1.in_order)
+    (λ name contained. list_any-from_Contains same_name-laws name stayed.new_names (reached graph stayed.new_names stayed.small name (live.1.only name (Contains-from_any same_name-true name live_names contained)))) in
+    let weight = weigh graph stayed.new_names stayed.small live_names in
+    let hubs = once live_names live.1.in_order in
+    omega (arith, fewer, weight, hubs, stayed.count, live.2)

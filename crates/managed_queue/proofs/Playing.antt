@@ -30,37 +30,37 @@ pub record Steps (graph : Graph) (spots : ℕ → Spot) (queue : List ℕ) (t : 
   pub replies : open_at (spots t) ++ fixed_at (spots t) outcome.reply ≡ operation_ended (spots t) outcome.reply ++ open_at (next_spot (spots t) command outcome.reply)
 
 -- all users after one's step
-stands : (graph : Graph) (spots : ℕ → Spot) (chain : Chain) (thread : ℕ) (command : Command) (outcome : Outcome) → ((other_thread : ℕ) → Facts other_thread graph.object chain (graph.root other_thread) (spots other_thread)) → (step : Goes thread graph chain (spots thread) command outcome)
-    → (other_thread : ℕ) → Facts other_thread outcome.graph.object step.after (outcome.graph.root other_thread) (goes_on spots thread command outcome.reply other_thread)
-stands graph spots chain thread command outcome users step other_thread =
-    elim (cases_eq other_thread thread) [
-      | inl same ↦ subst (λ (other_thread : ℕ). Facts other_thread outcome.graph.object step.after (outcome.graph.root other_thread) (goes_on spots thread command outcome.reply other_thread)) (sym same)
+stands : (graph : Graph) (spots : ℕ → Spot) (chain : Chain) (thread : ℕ) (command : Command) (outcome : Outcome) → ((user : ℕ) → Facts user graph.object chain (graph.root user) (spots user)) → (step : Goes thread graph chain (spots thread) command outcome)
+    → (user : ℕ) → Facts user outcome.graph.object step.after (outcome.graph.root user) (goes_on spots thread command outcome.reply user)
+stands graph spots chain thread command outcome users step user =
+    elim (cases_eq user thread) [
+      | inl same_thread ↦ subst (λ (user : ℕ). Facts user outcome.graph.object step.after (outcome.graph.root user) (goes_on spots thread command outcome.reply user)) (sym same_thread)
           (subst (Facts thread outcome.graph.object step.after (outcome.graph.root thread)) (sym (on_here spots thread command outcome.reply)) step.facts)
-      | inr other ↦ subst (Facts other_thread outcome.graph.object step.after (outcome.graph.root other_thread)) (sym (on_there spots thread command outcome.reply other_thread other))
-          (subst (λ (root : ℕ → Reference). Facts other_thread outcome.graph.object step.after root (spots other_thread)) (sym (step.others other_thread other))
-          (facts_stay other_thread graph.object chain outcome.graph.object step.after (graph.root other_thread) (spots other_thread) (step.rely other_thread other) (users other_thread)))
+      | inr threads_differ ↦ subst (Facts user outcome.graph.object step.after (outcome.graph.root user)) (sym (on_there spots thread command outcome.reply user threads_differ))
+          (subst (λ (root : ℕ → Reference). Facts user outcome.graph.object step.after root (spots user)) (sym (step.others user threads_differ))
+          (facts_stay user graph.object chain outcome.graph.object step.after (graph.root user) (spots user) (step.rely user threads_differ) (users user)))
     ]
 
-stepped : (graph : Graph) (spots : ℕ → Spot) (queue : List ℕ) (thread : ℕ) (command : Command) (reply : Reply) (other_graph : Graph) → State graph spots queue → MayCome (spots thread) command → IsGranted (spots thread) reply → IsPlain graph thread command reply other_graph → Steps graph spots queue thread command (answers reply other_graph)
-stepped graph spots queue thread command reply other_graph (rising is none) next given legal =
-    let step = rises graph spots thread command reply other_graph is next given legal in
-    record { new_queue = []; state = step.0; run = subst (λ (ops : List Operation). Leads queue ops []) (sym step.1) none; replies = step.2 }
-stepped graph spots queue thread command reply other_graph (shown other_chain chain users is) next given legal =
-    let step = goes thread graph other_chain (spots thread) command reply other_graph chain (users thread) next legal in
+stepped : (graph : Graph) (spots : ℕ → Spot) (queue : List ℕ) (thread : ℕ) (command : Command) (reply : Reply) (next_graph : Graph) → State graph spots queue → MayCome (spots thread) command → IsGranted (spots thread) reply → IsPlain graph thread command reply next_graph → Steps graph spots queue thread command (answers reply next_graph)
+stepped graph spots queue thread command reply next_graph (rising stated queue_empty) may_come granted reply_legal =
+    let step = rises graph spots thread command reply next_graph stated may_come granted reply_legal in
+    record { new_queue = []; state = step.0; run = subst (λ (ops : List Operation). Leads queue ops []) (sym step.1) queue_empty; replies = step.2 }
+stepped graph spots queue thread command reply next_graph (shown shown_chain chain users stated) may_come granted reply_legal =
+    let step = goes thread graph shown_chain (spots thread) command reply next_graph chain (users thread) may_come reply_legal in
     record {
       new_queue = waiting step.after;
-      state = shown step.after step.chain (stands graph spots other_chain thread command (answers reply other_graph) users step) refl;
-      run = subst (λ (q : List ℕ). Leads q (fixed_at (spots thread) reply) (waiting step.after)) (sym is) step.run;
+      state = shown step.after step.chain (stands graph spots shown_chain thread command (answers reply next_graph) users step) refl;
+      run = subst (λ (values : List ℕ). Leads values (fixed_at (spots thread) reply) (waiting step.after)) (sym stated) step.run;
       replies = step.replies;
     }
 
 -- a run goes on with another
-leads_join : (queue between left : List ℕ) (a b : List Operation) → Leads queue a between → Leads between b left → Leads queue (a ++ b) left
-leads_join queue between left [] b is later = subst (λ (q : List ℕ). Leads q b left) (sym is) later
-leads_join queue between left (put value ∷ a) b is later = leads_join (queue ++ value ∷ []) between left a b is later
-leads_join queue between left (got value ∷ a) b is later = (is.0, is.1, leads_join is.0 between left a b is.2 later)
-leads_join queue between left (empty ∷ a) b is later = (is.0, leads_join queue between left a b is.1 later)
-leads_join queue between left (full ∷ a) b is later = leads_join queue between left a b is later
+leads_join : (queue between left : List ℕ) (first_run second_run : List Operation) → Leads queue first_run between → Leads between second_run left → Leads queue (first_run ++ second_run) left
+leads_join queue between left [] second_run first_leads later = subst (λ (values : List ℕ). Leads values second_run left) (sym first_leads) later
+leads_join queue between left (put value ∷ first_run) second_run first_leads later = leads_join (queue ++ value ∷ []) between left first_run second_run first_leads later
+leads_join queue between left (got value ∷ first_run) second_run first_leads later = (first_leads.0, first_leads.1, leads_join first_leads.0 between left first_run second_run first_leads.2 later)
+leads_join queue between left (empty ∷ first_run) second_run first_leads later = (first_leads.0, leads_join queue between left first_run second_run first_leads.1 later)
+leads_join queue between left (full ∷ first_run) second_run first_leads later = leads_join queue between left first_run second_run first_leads later
 
 -- the entries of a thread
 
@@ -68,7 +68,7 @@ pub of_here : (entry : Entry) (entries : List Entry) → of_thread (entry ∷ en
 of_here entry entries = rw (eqb_itself entry.thread) refl
 
 pub of_there : (entry : Entry) (entries : List Entry) (thread : ℕ) → thread ≢ entry.thread → of_thread (entry ∷ entries) thread ≡ of_thread entries thread
-of_there entry entries thread apart = rw (ne_eqb entry.thread thread (λ is. apart (sym is))) refl
+of_there entry entries thread threads_differ = rw (ne_eqb entry.thread thread (λ same_thread. threads_differ (sym same_thread))) refl
 
 -- a thread's replies are those of the run, from a spot on
 abbrev Answers : Spot → List Entry → Type 0
@@ -76,13 +76,13 @@ Answers spot entries = open_at spot ++ fixed_in spot entries ≡ ended_in spot e
 
 answers_on : (spot : Spot) (entry : Entry) (entries : List Entry) → open_at spot ++ fixed_at spot entry.reply ≡ operation_ended spot entry.reply ++ open_at (next_spot spot entry.command entry.reply)
     → Answers (next_spot spot entry.command entry.reply) entries → Answers spot (entry ∷ entries)
-answers_on spot entry entries here later =
-    let next = next_spot spot entry.command entry.reply in
-    sym (append_assoc (open_at spot) (fixed_at spot entry.reply) (fixed_in next entries))
-    ∙ ap (λ l. l ++ fixed_in next entries) here
-    ∙ append_assoc (operation_ended spot entry.reply) (open_at next) (fixed_in next entries)
-    ∙ ap (λ l. operation_ended spot entry.reply ++ l) later
-    ∙ sym (append_assoc (operation_ended spot entry.reply) (ended_in next entries) (open_at (spot_after next entries)))
+answers_on spot entry entries entry_answers later =
+    let coming_spot = next_spot spot entry.command entry.reply in
+    sym (append_assoc (open_at spot) (fixed_at spot entry.reply) (fixed_in coming_spot entries))
+    ∙ ap (λ ended_operations. ended_operations ++ fixed_in coming_spot entries) entry_answers
+    ∙ append_assoc (operation_ended spot entry.reply) (open_at coming_spot) (fixed_in coming_spot entries)
+    ∙ ap (λ ended_operations. operation_ended spot entry.reply ++ ended_operations) later
+    ∙ sym (append_assoc (operation_ended spot entry.reply) (ended_in coming_spot entries) (open_at (spot_after coming_spot entries)))
 
 pub record Plays (spots : ℕ → Spot) (entries : List Entry) (queue : List ℕ) : Type 0 where
   pub left : List ℕ
@@ -92,49 +92,49 @@ pub record Plays (spots : ℕ → Spot) (entries : List Entry) (queue : List ℕ
 pub plays : (regions region_words : ℕ) (entries : List Entry) (graph : Graph) (spots : ℕ → Spot) (queue : List ℕ) → State graph spots queue → EachIsLegal regions region_words graph entries → ((thread : ℕ) → IsPlayed (spots thread) (of_thread entries thread)) → Plays spots entries queue
 plays regions region_words [] graph spots queue state legal played = record { left = queue; run = refl; replies = λ thread. append-nil (open_at (spots thread)) }
 plays regions region_words (entry ∷ entries) graph spots queue state legal played =
-    let mine : IsPlayed (spots entry.thread) (entry ∷ of_thread entries entry.thread) = subst (IsPlayed (spots entry.thread)) (of_here entry entries) (played entry.thread) in
-    let here = legal_plain regions region_words graph entry.thread entry.command entry.reply (after_entry graph entry) (next_pins_none (spots entry.thread) entry.command mine.0) legal.0 in
-    let step = stepped graph spots queue entry.thread entry.command entry.reply (after_entry graph entry) state mine.0 mine.1 here in
+    let own_played : IsPlayed (spots entry.thread) (entry ∷ of_thread entries entry.thread) = subst (IsPlayed (spots entry.thread)) (of_here entry entries) (played entry.thread) in
+    let step_legal = legal_plain regions region_words graph entry.thread entry.command entry.reply (after_entry graph entry) (next_pins_none (spots entry.thread) entry.command own_played.0) legal.0 in
+    let step = stepped graph spots queue entry.thread entry.command entry.reply (after_entry graph entry) state own_played.0 own_played.1 step_legal in
     let ahead : (thread : ℕ) → IsPlayed (spot_moved spots entry thread) (of_thread entries thread) = λ thread. elim (cases_eq thread entry.thread) [
-      | inl same ↦ subst (λ (k : ℕ). IsPlayed (spot_moved spots entry k) (of_thread entries k)) (sym same) (subst (λ (spot : Spot). IsPlayed spot (of_thread entries entry.thread)) (sym (on_here spots entry.thread entry.command entry.reply)) mine.2)
-      | inr other ↦ subst (λ (spot : Spot). IsPlayed spot (of_thread entries thread)) (sym (on_there spots entry.thread entry.command entry.reply thread other)) (subst (IsPlayed (spots thread)) (of_there entry entries thread other) (played thread))
+      | inl same_thread ↦ subst (λ (user : ℕ). IsPlayed (spot_moved spots entry user) (of_thread entries user)) (sym same_thread) (subst (λ (spot : Spot). IsPlayed spot (of_thread entries entry.thread)) (sym (on_here spots entry.thread entry.command entry.reply)) own_played.2)
+      | inr threads_differ ↦ subst (λ (spot : Spot). IsPlayed spot (of_thread entries thread)) (sym (on_there spots entry.thread entry.command entry.reply thread threads_differ)) (subst (IsPlayed (spots thread)) (of_there entry entries thread threads_differ) (played thread))
     ] in
     let later = plays regions region_words entries (after_entry graph entry) (spot_moved spots entry) step.new_queue step.state legal.1 ahead in
     record {
       left = later.left;
       run = leads_join queue step.new_queue later.left (fixed_at (spots entry.thread) entry.reply) (fixed (spot_moved spots entry) entries) step.run later.run;
       replies = λ thread. elim (cases_eq thread entry.thread) [
-        | inl same ↦ subst (λ (k : ℕ). Answers (spots k) (of_thread (entry ∷ entries) k)) (sym same)
+        | inl same_thread ↦ subst (λ (user : ℕ). Answers (spots user) (of_thread (entry ∷ entries) user)) (sym same_thread)
             (subst (Answers (spots entry.thread)) (sym (of_here entry entries))
             (answers_on (spots entry.thread) entry (of_thread entries entry.thread) step.replies
             (subst (λ (spot : Spot). Answers spot (of_thread entries entry.thread)) (on_here spots entry.thread entry.command entry.reply) (later.replies entry.thread))))
-        | inr other ↦ subst (Answers (spots thread)) (sym (of_there entry entries thread other))
-            (subst (λ (spot : Spot). Answers spot (of_thread entries thread)) (on_there spots entry.thread entry.command entry.reply thread other) (later.replies thread))
+        | inr threads_differ ↦ subst (Answers (spots thread)) (sym (of_there entry entries thread threads_differ))
+            (subst (λ (spot : Spot). Answers spot (of_thread entries thread)) (on_there spots entry.thread entry.command entry.reply thread threads_differ) (later.replies thread))
       ];
     }
 
 -- what was put is what was got, and what is left
 leads_order : (queue left : List ℕ) (ops : List Operation) → Leads queue ops left → queue ++ puts_of ops ≡ gots_of ops ++ left
-leads_order queue left [] is = append-nil queue ∙ is
-leads_order queue left (put value ∷ ops) is = sym (append_assoc queue (value ∷ []) (puts_of ops)) ∙ leads_order (queue ++ value ∷ []) left ops is
-leads_order queue left (got value ∷ ops) is = ap (λ q. q ++ puts_of ops) is.1 ∙ ap (λ l. value ∷ l) (leads_order is.0 left ops is.2)
-leads_order queue left (empty ∷ ops) is = leads_order queue left ops is.1
-leads_order queue left (full ∷ ops) is = leads_order queue left ops is
+leads_order queue left [] leads = append-nil queue ∙ leads
+leads_order queue left (put value ∷ ops) leads = sym (append_assoc queue (value ∷ []) (puts_of ops)) ∙ leads_order (queue ++ value ∷ []) left ops leads
+leads_order queue left (got value ∷ ops) leads = ap (λ queue_values. queue_values ++ puts_of ops) leads.1 ∙ ap (λ values. value ∷ values) (leads_order leads.0 left ops leads.2)
+leads_order queue left (empty ∷ ops) leads = leads_order queue left ops leads.1
+leads_order queue left (full ∷ ops) leads = leads_order queue left ops leads
 
 -- no operation is open where a thread begins
-begins_closed : (t : ℕ) → open_at (entry_spot t) ≡ []
-begins_closed t = at (t == 1)
+begins_closed : (thread : ℕ) → open_at (entry_spot thread) ≡ []
+begins_closed thread = at (thread == 1)
   where
     at : (holds : Bool) → open_at (if holds then MakesAnchor else Joins) ≡ []
     at true = refl
     at false = refl
 
 pub every_history : EveryHistory
-every_history regions region_words threads history some legal played =
-    let all = plays regions region_words history (opening threads) entry_spot [] (rising (rising_opening threads some) refl) legal played in
+every_history regions region_words threads history some_thread legal played =
+    let whole_run = plays regions region_words history (opening threads) entry_spot [] (rising (rising_opening threads some_thread) refl) legal played in
     record {
-      left = all.left;
-      run = all.run;
-      order = leads_order [] all.left (fixed entry_spot history) all.run;
-      replies = λ t. ap (λ l. l ++ fixed_in (entry_spot t) (of_thread history t)) (sym (begins_closed t)) ∙ all.replies t;
+      left = whole_run.left;
+      run = whole_run.run;
+      order = leads_order [] whole_run.left (fixed entry_spot history) whole_run.run;
+      replies = λ thread. ap (λ ended_operations. ended_operations ++ fixed_in (entry_spot thread) (of_thread history thread)) (sym (begins_closed thread)) ∙ whole_run.replies thread;
     }

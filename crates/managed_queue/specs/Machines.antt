@@ -24,26 +24,26 @@ number_put choice.Take = 0
 
 -- The command of the table that comes next, where an operation was chosen.
 abbrev pub command_coming : Choice → Spot → Command
-command_coming c MakesAnchor = New 1 2 0
-command_coming c MakesFirst = New 2 1 1
-command_coming c SetsHead = Set 1 0 2
-command_coming c SetsTail = Set 1 1 2
-command_coming c Shows = Set 0 0 1
-command_coming c Joins = Get 1 0 0
-command_coming c Rests = first_command c
-command_coming c Fills = Wr 3 0 (number_put c)
-command_coming c (Looks value) = Get 4 1 1
-command_coming c (Follows value) = Get 5 4 0
-command_coming c (Links value) = Cas 4 0 7 3
-command_coming c (Helps value) = Cas 1 1 4 5
-command_coming c (Swings value) = Cas 1 1 4 3
-command_coming c Turns = Get 4 1 0
-command_coming c TookHead = Get 5 1 1
-command_coming c TookTail = Get 6 4 0
-command_coming c (Compares nothing) = Same 4 5
-command_coming c Pushes = Cas 1 1 5 6
-command_coming c Reads = Rd 6 0
-command_coming c (Unlinks value) = Cas 1 0 4 6
+command_coming chosen MakesAnchor = New 1 2 0
+command_coming chosen MakesFirst = New 2 1 1
+command_coming chosen SetsHead = Set 1 0 2
+command_coming chosen SetsTail = Set 1 1 2
+command_coming chosen Shows = Set 0 0 1
+command_coming chosen Joins = Get 1 0 0
+command_coming chosen Rests = first_command chosen
+command_coming chosen Fills = Wr 3 0 (number_put chosen)
+command_coming chosen (Looks value) = Get 4 1 1
+command_coming chosen (Follows value) = Get 5 4 0
+command_coming chosen (Links value) = Cas 4 0 7 3
+command_coming chosen (Helps value) = Cas 1 1 4 5
+command_coming chosen (Swings value) = Cas 1 1 4 3
+command_coming chosen Turns = Get 4 1 0
+command_coming chosen TookHead = Get 5 1 1
+command_coming chosen TookTail = Get 6 4 0
+command_coming chosen (Compares nothing) = Same 4 5
+command_coming chosen Pushes = Cas 1 1 5 6
+command_coming chosen Reads = Rd 6 0
+command_coming chosen (Unlinks value) = Cas 1 0 4 6
 
 -- what an operation answers
 abbrev pub answered : Operation → QueueReply
@@ -55,15 +55,15 @@ answered full = queue_reply.Full
 -- the answer of the operation that ended, if one did
 abbrev pub answer_told : List Operation → Option QueueReply
 answer_told [] = None
-answer_told (o ∷ os) = Some (answered o)
+answer_told (operation ∷ later_operations) = Some (answered operation)
 
 -- an operation of which nothing was done
 abbrev pub untouched : Choice → Course
-untouched c = record { choice = c; spot = Rests; done = None }
+untouched chosen = record { choice = chosen; spot = Rests; done = None }
 
 -- It goes on by a reply, unless it has answered.
 abbrev pub replied : Course → Reply → Course
 replied course reply = elim (course.done) [
   | None ↦ record { choice = course.choice; spot = next_spot course.spot (command_coming course.choice course.spot) reply; done = answer_told (operation_ended course.spot reply) }
-  | Some a ↦ course
+  | Some answer ↦ course
 ]

@@ -106,8 +106,8 @@ next_spot (Unlinks value) command reply = after_unlink reply
 
 -- one where the reply is Yes
 abbrev pub on_yes : Operation → Reply → List Operation
-on_yes o reply.Yes = o ∷ []
-on_yes o _ = []
+on_yes operation reply.Yes = operation ∷ []
+on_yes operation _ = []
 
 abbrev pub on_full : Reply → List Operation
 on_full reply.Full = full ∷ []

@@ -119,7 +119,7 @@ use_after user (entry ∷ entries) = use_after (used user entry.reply) entries
 
 -- Where no allocation is refused, a user goes by the table.
 abbrev pub UsersPlay : Type 0
-UsersPlay = (u : Use) (es : List Entry) → u.refused ≡ false → IsWithoutFull es → IsDriven u es → IsPlayed u.spot es × (spot_after u.spot es ≡ (use_after u es).spot)
+UsersPlay = (user : Use) (entries : List Entry) → user.refused ≡ false → IsWithoutFull entries → IsDriven user entries → IsPlayed user.spot entries × (spot_after user.spot entries ≡ (use_after user entries).spot)
 
 -- What a user counted is what its takes got, none of its operations is a put, and once it has no next command it got so many.
 pub record TookInAll (count : ℕ) (entries : List Entry) : Type 0 where
@@ -129,7 +129,7 @@ pub record TookInAll (count : ℕ) (entries : List Entry) : Type 0 where
   pub all : next_of (use_after (taker count) entries) ≡ None → length (gots_of (ended_in Joins entries)) ≡ count
 
 abbrev pub TakersTake : Type 0
-TakersTake = (count : ℕ) (es : List Entry) → IsWithoutFull es → IsDriven (taker count) es → TookInAll count es
+TakersTake = (count : ℕ) (entries : List Entry) → IsWithoutFull entries → IsDriven (taker count) entries → TookInAll count entries
 
 -- A putter puts its numbers in a row, and all of them once it has no next command.
 pub record DidPut (sets_up : Bool) (first count : ℕ) (entries : List Entry) : Type 0 where
@@ -138,4 +138,4 @@ pub record DidPut (sets_up : Bool) (first count : ℕ) (entries : List Entry) : 
   pub all : next_of (use_after (putter sets_up first count) entries) ≡ None → rest ≡ []
 
 abbrev pub PuttersPut : Type 0
-PuttersPut = (sets_up : Bool) (first count : ℕ) (es : List Entry) → IsWithoutFull es → IsDriven (putter sets_up first count) es → DidPut sets_up first count es
+PuttersPut = (sets_up : Bool) (first count : ℕ) (entries : List Entry) → IsWithoutFull entries → IsDriven (putter sets_up first count) entries → DidPut sets_up first count entries

@@ -19,89 +19,89 @@ use Rattle.mark_core.specs.Steps.{greyed, marked}
 use Rattle.mark_core.proofs.Colours.{bits_agree, bits_none}
 
 pub or_assoc : (a b d : ℕ) → bit_or (bit_or a b) d ≡ bit_or a (bit_or b d)
-or_assoc a b d = same_from_bits _ _ (λ i. omega (arith, bit_at_or (bit_or a b) d i, bit_at_or a b i, bit_at_or a (bit_or b d) i, bit_at_or b d i))
+or_assoc a b d = same_from_bits _ _ (λ index. omega (arith, bit_at_or (bit_or a b) d index, bit_at_or a b index, bit_at_or a (bit_or b d) index, bit_at_or b d index))
 
 -- an address is grey besides, or black
 abbrev pub grey_besides : Config → ℕ → (Word → ℕ) → Word → ℕ
-grey_besides config a memory = write memory (Grey (mark_word config a)) (bit_or (memory (Grey (mark_word config a))) (mark_mask config a))
+grey_besides config address memory = write memory (Grey (mark_word config address)) (bit_or (memory (Grey (mark_word config address))) (mark_mask config address))
 
 abbrev pub black_besides : Config → ℕ → (Word → ℕ) → Word → ℕ
-black_besides config a memory = write memory (Black (mark_word config a)) (bit_or (memory (Black (mark_word config a))) (mark_mask config a))
+black_besides config address memory = write memory (Black (mark_word config address)) (bit_or (memory (Black (mark_word config address))) (mark_mask config address))
 
-module _ (config : Config) (set more : ℕ → Bool) (a : ℕ) (above : config.region_words ≤ a) (here : more a ≡ true) (others : (q : ℕ) → q ≢ a → more q ≡ set q) where
+module _ (config : Config) (old_set new_set : ℕ → Bool) (address : ℕ) (address_high : config.region_words ≤ address) (new_there : new_set address ≡ true) (others_same : (other_address : ℕ) → other_address ≢ address → new_set other_address ≡ old_set other_address) where
   abbrev first : ℕ
-  first = config.region_words + 64 * mark_word config a
+  first = config.region_words + 64 * mark_word config address
 
   -- the word of its bit
-  bit_here : (i : ℕ) → bit_at (bit_or (mark_bits config set (mark_word config a)) (mark_mask config a)) i ≡ bit_at (mark_bits config more (mark_word config a)) i
-  bit_here i =
-      let word = mark_bits config set (mark_word config a) in
-      let place : mark_bit config a < 64 = omega arith in
+  bit_here : (bit : ℕ) → bit_at (bit_or (mark_bits config old_set (mark_word config address)) (mark_mask config address)) bit ≡ bit_at (mark_bits config new_set (mark_word config address)) bit
+  bit_here bit =
+      let word = mark_bits config old_set (mark_word config address) in
+      let mark_bit_below : mark_bit config address < 64 = omega arith in
       ⊎_elim
-      (λ (same : i ≡ mark_bit config a).
-      let at : first + mark_bit config a ≡ a = omega (arith, above) in
-      ap (bit_at (bit_or word (mark_mask config a))) same ∙ bit_at_set_same w64 word (mark_bit config a) place
-      ∙ sym (ap (bit_at (mark_bits config more (mark_word config a))) same ∙ bits_at more first 64 (mark_bit config a) place ∙ ap (λ q. one (more q)) at ∙ ap one here))
-      (λ (other : i ≢ mark_bit config a).
-      bit_at_set_other w64 word (mark_bit config a) place i other
+      (λ (same_bit : bit ≡ mark_bit config address).
+      let bit_address : first + mark_bit config address ≡ address = omega (arith, address_high) in
+      ap (bit_at (bit_or word (mark_mask config address))) same_bit ∙ bit_at_set_same w64 word (mark_bit config address) mark_bit_below
+      ∙ sym (ap (bit_at (mark_bits config new_set (mark_word config address))) same_bit ∙ bits_at new_set first 64 (mark_bit config address) mark_bit_below ∙ ap (λ other_address. one (new_set other_address)) bit_address ∙ ap one new_there))
+      (λ (other_bit : bit ≢ mark_bit config address).
+      bit_at_set_other w64 word (mark_bit config address) mark_bit_below bit other_bit
       ∙ ⊎_elim
-      (λ (within : i < 64).
-      bits_at set first 64 i within ∙ ap one (sym (others (first + i) (λ is. other (omega (arith, is, above))))) ∙ sym (bits_at more first 64 i within))
-      (λ (past : 64 ≤ i). bit_at_above word 64 i (bits_small set first 64) past ∙ sym (bit_at_above (mark_bits config more (mark_word config a)) 64 i (bits_small more first 64) past))
-      (cases_lt i 64))
-      (cases_eq i (mark_bit config a))
+      (λ (bit_within : bit < 64).
+      bits_at old_set first 64 bit bit_within ∙ ap one (sym (others_same (first + bit) (λ same_address. other_bit (omega (arith, same_address, address_high))))) ∙ sym (bits_at new_set first 64 bit bit_within))
+      (λ (past_word : 64 ≤ bit). bit_at_above word 64 bit (bits_small old_set first 64) past_word ∙ sym (bit_at_above (mark_bits config new_set (mark_word config address)) 64 bit (bits_small new_set first 64) past_word))
+      (cases_lt bit 64))
+      (cases_eq bit (mark_bit config address))
 
-  word_here : (x : ℕ) → bit_or (bit_or x (mark_bits config set (mark_word config a))) (mark_mask config a) ≡ bit_or x (mark_bits config more (mark_word config a))
-  word_here x = or_assoc x (mark_bits config set (mark_word config a)) (mark_mask config a) ∙ ap (bit_or x) (same_from_bits _ _ bit_here)
+  word_here : (old_bits : ℕ) → bit_or (bit_or old_bits (mark_bits config old_set (mark_word config address))) (mark_mask config address) ≡ bit_or old_bits (mark_bits config new_set (mark_word config address))
+  word_here old_bits = or_assoc old_bits (mark_bits config old_set (mark_word config address)) (mark_mask config address) ∙ ap (bit_or old_bits) (same_from_bits _ _ bit_here)
 
   -- and another one
-  word_there : (n : ℕ) → n ≢ mark_word config a → mark_bits config set n ≡ mark_bits config more n
-  word_there n other = bits_agree set more (config.region_words + 64 * n) 64 (λ k few. sym (others (config.region_words + 64 * n + k) (λ is. other (omega (arith, is, few)))))
+  word_there : (number : ℕ) → number ≢ mark_word config address → mark_bits config old_set number ≡ mark_bits config new_set number
+  word_there number other_word = bits_agree old_set new_set (config.region_words + 64 * number) 64 (λ bit few. sym (others_same (config.region_words + 64 * number + bit) (λ same_address. other_word (omega (arith, same_address, few)))))
 
   -- a row of words
-  row_more : (before : ℕ → ℕ) (f g : ℕ → ℕ) (words j : ℕ) → mark_word config a < words → bit_or (f (mark_word config a)) (mark_mask config a) ≡ g (mark_word config a)
-      → ((n : ℕ) → n ≢ mark_word config a → f n ≡ g n)
-      → cond (mark_word config a == j) (bit_or (cond (nat_lt (mark_word config a) words) (f (mark_word config a)) (before (mark_word config a))) (mark_mask config a)) (cond (nat_lt j words) (f j) (before j))
-      ≡ cond (nat_lt j words) (g j) (before j)
-  row_more before f g words j inside is rest =
-      let n = mark_word config a in
+  row_more : (before : ℕ → ℕ) (old_row new_row : ℕ → ℕ) (words asked_word : ℕ) → mark_word config address < words → bit_or (old_row (mark_word config address)) (mark_mask config address) ≡ new_row (mark_word config address)
+      → ((bit_word : ℕ) → bit_word ≢ mark_word config address → old_row bit_word ≡ new_row bit_word)
+      → cond (mark_word config address == asked_word) (bit_or (cond (nat_lt (mark_word config address) words) (old_row (mark_word config address)) (before (mark_word config address))) (mark_mask config address)) (cond (nat_lt asked_word words) (old_row asked_word) (before asked_word))
+      ≡ cond (nat_lt asked_word words) (new_row asked_word) (before asked_word)
+  row_more before old_row new_row words asked_word word_inside with_bit other_rows_same =
+      let bit_word = mark_word config address in
       ⊎_elim
-      (λ (same : n ≡ j).
-      cond-true (n == j) _ _ (eq-eqb n j same)
-      ∙ ap (λ x. bit_or x (mark_mask config a)) (cond-true (nat_lt n words) (f n) (before n) (lt-ltb n words inside)) ∙ is
-      ∙ sym (cond-true (nat_lt n words) (g n) (before n) (lt-ltb n words inside))
-      ∙ ap (λ k. cond (nat_lt k words) (g k) (before k)) same)
-      (λ (other : n ≢ j).
-      cond-false (n == j) _ _ (ne_eqb n j other) ∙ ap (λ x. cond (nat_lt j words) x (before j)) (rest j (λ same_index. other (sym same_index))))
-      (cases_eq n j)
+      (λ (same_word : bit_word ≡ asked_word).
+      cond-true (bit_word == asked_word) _ _ (eq-eqb bit_word asked_word same_word)
+      ∙ ap (λ bits. bit_or bits (mark_mask config address)) (cond-true (nat_lt bit_word words) (old_row bit_word) (before bit_word) (lt-ltb bit_word words word_inside)) ∙ with_bit
+      ∙ sym (cond-true (nat_lt bit_word words) (new_row bit_word) (before bit_word) (lt-ltb bit_word words word_inside))
+      ∙ ap (λ any_word. cond (nat_lt any_word words) (new_row any_word) (before any_word)) same_word)
+      (λ (other_word : bit_word ≢ asked_word).
+      cond-false (bit_word == asked_word) _ _ (ne_eqb bit_word asked_word other_word) ∙ ap (λ bits. cond (nat_lt asked_word words) bits (before asked_word)) (other_rows_same asked_word (λ same_index. other_word (sym same_index))))
+      (cases_eq bit_word asked_word)
 
-  module _ (memory : Word → ℕ) (words : ℕ) (inside : mark_word config a < words) where
-    marked_more_at : (word : Word) → black_besides config a (grey_besides config a (marked config set words memory)) word ≡ marked config more words memory word
+  module _ (memory : Word → ℕ) (words : ℕ) (word_inside : mark_word config address < words) where
+    marked_more_at : (word : Word) → black_besides config address (grey_besides config address (marked config old_set words memory)) word ≡ marked config new_set words memory word
     marked_more_at (Grey number) =
-        row_more (λ number. memory (Grey number)) (λ number. bit_or (memory (Grey number)) (mark_bits config set number)) (λ number. bit_or (memory (Grey number)) (mark_bits config more number)) words number inside
-        (word_here (memory (Grey (mark_word config a)))) (λ number other. ap (bit_or (memory (Grey number))) (word_there number other))
+        row_more (λ number. memory (Grey number)) (λ number. bit_or (memory (Grey number)) (mark_bits config old_set number)) (λ number. bit_or (memory (Grey number)) (mark_bits config new_set number)) words number word_inside
+        (word_here (memory (Grey (mark_word config address)))) (λ number other_word. ap (bit_or (memory (Grey number))) (word_there number other_word))
     marked_more_at (Black number) =
-        row_more (λ number. memory (Black number)) (λ number. bit_or (memory (Black number)) (mark_bits config set number)) (λ number. bit_or (memory (Black number)) (mark_bits config more number)) words number inside
-        (word_here (memory (Black (mark_word config a)))) (λ number other. ap (bit_or (memory (Black number))) (word_there number other))
+        row_more (λ number. memory (Black number)) (λ number. bit_or (memory (Black number)) (mark_bits config old_set number)) (λ number. bit_or (memory (Black number)) (mark_bits config new_set number)) words number word_inside
+        (word_here (memory (Black (mark_word config address)))) (λ number other_word. ap (bit_or (memory (Black number))) (word_there number other_word))
     marked_more_at _ = refl
 
-    pub marked_more : black_besides config a (grey_besides config a (marked config set words memory)) ≡ marked config more words memory
+    pub marked_more : black_besides config address (grey_besides config address (marked config old_set words memory)) ≡ marked config new_set words memory
     marked_more = fun_ext marked_more_at
 
-    greyed_more_at : (word : Word) → grey_besides config a (greyed config set words memory) word ≡ greyed config more words memory word
-    greyed_more_at (Grey number) = row_more (λ number. memory (Grey number)) (mark_bits config set) (mark_bits config more) words number inside (same_from_bits _ _ bit_here) word_there
+    greyed_more_at : (word : Word) → grey_besides config address (greyed config old_set words memory) word ≡ greyed config new_set words memory word
+    greyed_more_at (Grey number) = row_more (λ number. memory (Grey number)) (mark_bits config old_set) (mark_bits config new_set) words number word_inside (same_from_bits _ _ bit_here) word_there
     greyed_more_at _ = refl
 
-    pub greyed_more : grey_besides config a (greyed config set words memory) ≡ greyed config more words memory
+    pub greyed_more : grey_besides config address (greyed config old_set words memory) ≡ greyed config new_set words memory
     greyed_more = fun_ext greyed_more_at
 
 -- without any address
 none_or : (x : ℕ) (holds : Bool) (bits : ℕ) → bits ≡ 0 → x ≡ cond holds (bit_or x bits) x
-none_or x true bits is = sym (ap (bit_or x) is ∙ or_zero_r x)
-none_or x false bits is = refl
+none_or x true bits no_bits = sym (ap (bit_or x) no_bits ∙ or_zero_r x)
+none_or x false bits no_bits = refl
 
-none_in_word : (config : Config) (n : ℕ) → mark_bits config (has []) n ≡ 0
-none_in_word config n = bits_none (has []) (config.region_words + 64 * n) 64 (λ k few. refl)
+none_in_word : (config : Config) (number : ℕ) → mark_bits config (has []) number ≡ 0
+none_in_word config number = bits_none (has []) (config.region_words + 64 * number) 64 (λ k few. refl)
 
 none_marked_at : (config : Config) (words : ℕ) (memory : Word → ℕ) (word : Word) → memory word ≡ marked config (has []) words memory word
 none_marked_at config words memory (Grey number) = none_or (memory (Grey number)) (nat_lt number words) (mark_bits config (has []) number) (none_in_word config number)
@@ -112,15 +112,15 @@ pub none_marked : (config : Config) (words : ℕ) (memory : Word → ℕ) → me
 none_marked config words memory = fun_ext (λ word. none_marked_at config words memory word)
 
 -- the first of a list, and one more of them
-pub next_of : (xs : List ℕ) (index a : ℕ) → slice_get xs index ≡ Some a → take (index + 1) xs ≡ take index xs ++ a ∷ []
-next_of xs index a found = take_more xs index 0 (slice_get_within xs index a found) ∙ ap (λ x. take index xs ++ x ∷ []) (get_or_from_slice_get xs index a 0 found)
+pub next_of : (xs : List ℕ) (index address : ℕ) → slice_get xs index ≡ Some address → take (index + 1) xs ≡ take index xs ++ address ∷ []
+next_of xs index address address_found = take_more xs index 0 (slice_get_within xs index address address_found) ∙ ap (λ x. take index xs ++ x ∷ []) (get_or_from_slice_get xs index address 0 address_found)
 
-pub has_next : (xs : List ℕ) (index a : ℕ) → slice_get xs index ≡ Some a → has (take (index + 1) xs) a ≡ true
-has_next xs index a found = ap (λ ys. has ys a) (next_of xs index a found) ∙ has-push (take index xs) a a ∙ or_right (has (take index xs) a) (nat_eq a a) (eq-eqb a a refl)
+pub has_next : (xs : List ℕ) (index address : ℕ) → slice_get xs index ≡ Some address → has (take (index + 1) xs) address ≡ true
+has_next xs index address address_found = ap (λ address_list. has address_list address) (next_of xs index address address_found) ∙ has-push (take index xs) address address ∙ or_right (has (take index xs) address) (nat_eq address address) (eq-eqb address address refl)
 
-pub has_others : (xs : List ℕ) (index a q : ℕ) → slice_get xs index ≡ Some a → q ≢ a → has (take (index + 1) xs) q ≡ has (take index xs) q
-has_others xs index a q found other =
-    ap (λ ys. has ys q) (next_of xs index a found) ∙ has-push (take index xs) a q ∙ ap (λ holds. has (take index xs) q || holds) (ne_eqb q a other) ∙ plain (has (take index xs) q)
+pub has_others : (xs : List ℕ) (index address other_address : ℕ) → slice_get xs index ≡ Some address → other_address ≢ address → has (take (index + 1) xs) other_address ≡ has (take index xs) other_address
+has_others xs index address other_address address_found addresses_differ =
+    ap (λ address_list. has address_list other_address) (next_of xs index address address_found) ∙ has-push (take index xs) address other_address ∙ ap (λ holds. has (take index xs) other_address || holds) (ne_eqb other_address address addresses_differ) ∙ plain (has (take index xs) other_address)
   where
     plain : (holds : Bool) → (holds || false) ≡ holds
     plain true = refl

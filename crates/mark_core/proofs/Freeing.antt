@@ -32,112 +32,112 @@ freed_by_stores region memory = fun_ext (λ word. freed_by_stores_at region memo
 
 -- one bit more in a word
 
-module _ (out : ℕ → Bool) where
-  bits_next : (k : ℕ) → bits_of out 0 (k + 1) ≡ one (out k) * 2 ^ k + bits_of out 0 k
+module _ (freed_region : ℕ → Bool) where
+  bits_next : (count : ℕ) → bits_of freed_region 0 (count + 1) ≡ one (freed_region count) * 2 ^ count + bits_of freed_region 0 count
   unfolding bits_of
-  bits_next k =
-      let next : k + 1 ≡ suc k = omega arith in
-      let here : 0 + k ≡ k = omega arith in
-      ap (bits_of out 0) next ∙ ap (λ j. one (out j) * 2 ^ k + bits_of out 0 k) here
+  bits_next count =
+      let next_count : count + 1 ≡ suc count = omega arith in
+      let same_count : 0 + count ≡ count = omega arith in
+      ap (bits_of freed_region 0) next_count ∙ ap (λ region. one (freed_region region) * 2 ^ count + bits_of freed_region 0 count) same_count
 
-  bit_set : (x k : ℕ) → k < 64 → out k ≡ true → bit_or (bit_or x (bits_of out 0 k)) (1 * 2 ^ k % 2 ^ 64) ≡ bit_or x (bits_of out 0 (k + 1))
-  bit_set x k below is =
-      let mask : 1 * 2 ^ k % 2 ^ 64 ≡ 1 * 2 ^ k = one_shl k 64 below ∙ once (2 ^ k) in
-      let joined : bit_or (bits_of out 0 k) (1 * 2 ^ k) ≡ 1 * 2 ^ k + bits_of out 0 k =
-      or_comm (bits_of out 0 k) (1 * 2 ^ k) ∙ or_shifted 1 k (bits_of out 0 k) (bits_small out 0 k) in
-      let next : bits_of out 0 (k + 1) ≡ 1 * 2 ^ k + bits_of out 0 k = bits_next k ∙ ap (λ b. one b * 2 ^ k + bits_of out 0 k) is in
-      or_assoc x (bits_of out 0 k) (1 * 2 ^ k % 2 ^ 64) ∙ ap (bit_or x) (ap (bit_or (bits_of out 0 k)) mask ∙ joined ∙ sym next)
+  bit_set : (x count : ℕ) → count < 64 → freed_region count ≡ true → bit_or (bit_or x (bits_of freed_region 0 count)) (1 * 2 ^ count % 2 ^ 64) ≡ bit_or x (bits_of freed_region 0 (count + 1))
+  bit_set x count count_below goes_out =
+      let mask : 1 * 2 ^ count % 2 ^ 64 ≡ 1 * 2 ^ count = one_shl count 64 count_below ∙ once (2 ^ count) in
+      let joined : bit_or (bits_of freed_region 0 count) (1 * 2 ^ count) ≡ 1 * 2 ^ count + bits_of freed_region 0 count =
+      or_comm (bits_of freed_region 0 count) (1 * 2 ^ count) ∙ or_shifted 1 count (bits_of freed_region 0 count) (bits_small freed_region 0 count) in
+      let next_bits : bits_of freed_region 0 (count + 1) ≡ 1 * 2 ^ count + bits_of freed_region 0 count = bits_next count ∙ ap (λ outcome. one outcome * 2 ^ count + bits_of freed_region 0 count) goes_out in
+      or_assoc x (bits_of freed_region 0 count) (1 * 2 ^ count % 2 ^ 64) ∙ ap (bit_or x) (ap (bit_or (bits_of freed_region 0 count)) mask ∙ joined ∙ sym next_bits)
     where
       once : (y : ℕ) → y ≡ 1 * y
       once y = omega arith
 
-  bit_left : (x k : ℕ) → out k ≡ false → bit_or x (bits_of out 0 k) ≡ bit_or x (bits_of out 0 (k + 1))
-  bit_left x k is =
-      ap (bit_or x) (sym (bits_next k ∙ ap (λ b. one b * 2 ^ k + bits_of out 0 k) is ∙ none (2 ^ k) (bits_of out 0 k)))
+  bit_left : (x count : ℕ) → freed_region count ≡ false → bit_or x (bits_of freed_region 0 count) ≡ bit_or x (bits_of freed_region 0 (count + 1))
+  bit_left x count region_stays =
+      ap (bit_or x) (sym (bits_next count ∙ ap (λ outcome. one outcome * 2 ^ count + bits_of freed_region 0 count) region_stays ∙ none (2 ^ count) (bits_of freed_region 0 count)))
     where
       none : (y z : ℕ) → 0 * y + z ≡ z
       none y z = omega arith
 
   -- one region more
 
-  turned_out : (k j x : ℕ) → out k ≡ true → cond (k == j) 0 (cond (nat_lt j k && out j) 0 x) ≡ cond (nat_lt j (k + 1) && out j) 0 x
-  turned_out k j x is = grind (arith, nat_tests)
+  turned_out : (count region value : ℕ) → freed_region count ≡ true → cond (count == region) 0 (cond (nat_lt region count && freed_region region) 0 value) ≡ cond (nat_lt region (count + 1) && freed_region region) 0 value
+  turned_out count region value goes_out = grind (arith, nat_tests)
 
-  turned_left : (k j x : ℕ) → out k ≡ false → cond (nat_lt j k && out j) 0 x ≡ cond (nat_lt j (k + 1) && out j) 0 x
-  turned_left k j x is = grind (arith, nat_tests)
+  turned_left : (count region value : ℕ) → freed_region count ≡ false → cond (nat_lt region count && freed_region region) 0 value ≡ cond (nat_lt region (count + 1) && freed_region region) 0 value
+  turned_left count region value region_stays = grind (arith, nat_tests)
 
-  freed_next_at : (k : ℕ) (memory : Word → ℕ) (word : Word) → k < 64 → out k ≡ true → freed_one k (freed_below out k memory) word ≡ freed_below out (k + 1) memory word
-  freed_next_at k memory Free below is = bit_set (memory Free) k below is
-  freed_next_at k memory (Top region) below is = turned_out k region (memory (Top region)) is
-  freed_next_at k memory (Tams region) below is = turned_out k region (memory (Tams region)) is
-  freed_next_at k memory (Limit region) below is = turned_out k region (memory (Limit region)) is
-  freed_next_at k memory _ below is = refl
+  freed_next_at : (count : ℕ) (memory : Word → ℕ) (word : Word) → count < 64 → freed_region count ≡ true → freed_one count (freed_below freed_region count memory) word ≡ freed_below freed_region (count + 1) memory word
+  freed_next_at count memory Free count_below goes_out = bit_set (memory Free) count count_below goes_out
+  freed_next_at count memory (Top region) count_below goes_out = turned_out count region (memory (Top region)) goes_out
+  freed_next_at count memory (Tams region) count_below goes_out = turned_out count region (memory (Tams region)) goes_out
+  freed_next_at count memory (Limit region) count_below goes_out = turned_out count region (memory (Limit region)) goes_out
+  freed_next_at count memory _ count_below goes_out = refl
 
-  pub freed_next : (k : ℕ) (memory : Word → ℕ) → k < 64 → out k ≡ true → freed_one k (freed_below out k memory) ≡ freed_below out (k + 1) memory
-  freed_next k memory below is = fun_ext (λ word. freed_next_at k memory word below is)
+  pub freed_next : (count : ℕ) (memory : Word → ℕ) → count < 64 → freed_region count ≡ true → freed_one count (freed_below freed_region count memory) ≡ freed_below freed_region (count + 1) memory
+  freed_next count memory count_below goes_out = fun_ext (λ word. freed_next_at count memory word count_below goes_out)
 
-  left_next_at : (k : ℕ) (memory : Word → ℕ) (word : Word) → out k ≡ false → freed_below out k memory word ≡ freed_below out (k + 1) memory word
-  left_next_at k memory Free is = bit_left (memory Free) k is
-  left_next_at k memory (Top region) is = turned_left k region (memory (Top region)) is
-  left_next_at k memory (Tams region) is = turned_left k region (memory (Tams region)) is
-  left_next_at k memory (Limit region) is = turned_left k region (memory (Limit region)) is
-  left_next_at k memory _ is = refl
+  left_next_at : (count : ℕ) (memory : Word → ℕ) (word : Word) → freed_region count ≡ false → freed_below freed_region count memory word ≡ freed_below freed_region (count + 1) memory word
+  left_next_at count memory Free region_stays = bit_left (memory Free) count region_stays
+  left_next_at count memory (Top region) region_stays = turned_left count region (memory (Top region)) region_stays
+  left_next_at count memory (Tams region) region_stays = turned_left count region (memory (Tams region)) region_stays
+  left_next_at count memory (Limit region) region_stays = turned_left count region (memory (Limit region)) region_stays
+  left_next_at count memory _ region_stays = refl
 
-  pub left_next : (k : ℕ) (memory : Word → ℕ) → out k ≡ false → freed_below out k memory ≡ freed_below out (k + 1) memory
-  left_next k memory is = fun_ext (λ word. left_next_at k memory word is)
+  pub left_next : (count : ℕ) (memory : Word → ℕ) → freed_region count ≡ false → freed_below freed_region count memory ≡ freed_below freed_region (count + 1) memory
+  left_next count memory region_stays = fun_ext (λ word. left_next_at count memory word region_stays)
 
   -- none yet
 
-  none_yet : (j x : ℕ) → x ≡ cond (nat_lt j 0 && out j) 0 x
-  none_yet j x = grind (arith, nat_tests)
+  none_yet : (region value : ℕ) → value ≡ cond (nat_lt region 0 && freed_region region) 0 value
+  none_yet region value = grind (arith, nat_tests)
 
-  no_bit : (x : ℕ) → x ≡ bit_or x (bits_of out 0 0)
+  no_bit : (x : ℕ) → x ≡ bit_or x (bits_of freed_region 0 0)
   unfolding bits_of
-  no_bit x = same_from_bits x (bit_or x 0) (λ i. omega (arith, bit_at_or x 0 i, bit_at_above 0 0 i))
+  no_bit x = same_from_bits x (bit_or x 0) (λ index. omega (arith, bit_at_or x 0 index, bit_at_above 0 0 index))
 
-  freed_none_at : (memory : Word → ℕ) (word : Word) → memory word ≡ freed_below out 0 memory word
+  freed_none_at : (memory : Word → ℕ) (word : Word) → memory word ≡ freed_below freed_region 0 memory word
   freed_none_at memory Free = no_bit (memory Free)
   freed_none_at memory (Top region) = none_yet region (memory (Top region))
   freed_none_at memory (Tams region) = none_yet region (memory (Tams region))
   freed_none_at memory (Limit region) = none_yet region (memory (Limit region))
   freed_none_at memory _ = refl
 
-  pub freed_none : (memory : Word → ℕ) → memory ≡ freed_below out 0 memory
+  pub freed_none : (memory : Word → ℕ) → memory ≡ freed_below freed_region 0 memory
   freed_none memory = fun_ext (λ word. freed_none_at memory word)
 
   -- the region whose turn comes is dead exactly if it was at first
 
-  bit_stays : (x k : ℕ) → bit_at (bit_or x (bits_of out 0 k)) k ≡ bit_at x k
-  bit_stays x k = omega (arith, bit_at_or x (bits_of out 0 k) k, bit_at_above (bits_of out 0 k) k k (bits_small out 0 k) (omega arith))
+  bit_stays : (x count : ℕ) → bit_at (bit_or x (bits_of freed_region 0 count)) count ≡ bit_at x count
+  bit_stays x count = omega (arith, bit_at_or x (bits_of freed_region 0 count) count, bit_at_above (bits_of freed_region 0 count) count count (bits_small freed_region 0 count) (omega arith))
 
-  not_turned : (k x : ℕ) → cond (nat_lt k k && out k) 0 x ≡ x
-  not_turned k x = grind (arith, nat_tests)
+  not_turned : (count value : ℕ) → cond (nat_lt count count && freed_region count) 0 value ≡ value
+  not_turned count value = grind (arith, nat_tests)
 
-  pub dead_still : (config : Config) (region : ℕ) (memory : Word → ℕ) → is_dead config (freed_below out region memory) region ≡ is_dead config memory region
+  pub dead_still : (config : Config) (region : ℕ) (memory : Word → ℕ) → is_dead config (freed_below freed_region region memory) region ≡ is_dead config memory region
   dead_still config region memory =
-      ap (λ b. (b == 0) && not (is_pinned config memory region) && not (is_current config memory region) && (freed_below out region memory (Top region) == freed_below out region memory (Tams region)) && not (has_black config memory region)) (bit_stays (memory Free) region)
-      ∙ ap (λ t. (bit_at (memory Free) region == 0) && not (is_pinned config memory region) && not (is_current config memory region) && (t == freed_below out region memory (Tams region)) && not (has_black config memory region)) (not_turned region (memory (Top region)))
-      ∙ ap (λ t. (bit_at (memory Free) region == 0) && not (is_pinned config memory region) && not (is_current config memory region) && (memory (Top region) == t) && not (has_black config memory region)) (not_turned region (memory (Tams region)))
+      ap (λ free_bit. (free_bit == 0) && not (is_pinned config memory region) && not (is_current config memory region) && (freed_below freed_region region memory (Top region) == freed_below freed_region region memory (Tams region)) && not (has_black config memory region)) (bit_stays (memory Free) region)
+      ∙ ap (λ word. (bit_at (memory Free) region == 0) && not (is_pinned config memory region) && not (is_current config memory region) && (word == freed_below freed_region region memory (Tams region)) && not (has_black config memory region)) (not_turned region (memory (Top region)))
+      ∙ ap (λ word. (bit_at (memory Free) region == 0) && not (is_pinned config memory region) && not (is_current config memory region) && (memory (Top region) == word) && not (has_black config memory region)) (not_turned region (memory (Tams region)))
 
 -- all regions
 
-module _ (config : Config) (words : List ℕ) (out : ℕ → Bool) where
+module _ (config : Config) (words : List ℕ) (freed_region : ℕ → Bool) where
   abbrev now : Word → ℕ
   now = view config words
 
-  below_all : (r x : ℕ) → (nat_lt r config.regions ≡ false → x ≡ 0) → cond (nat_lt r config.regions && out r) 0 x ≡ cond (out r) 0 x
-  below_all r x none = by_test (nat_lt r config.regions) (out r) x none
+  below_all : (region x : ℕ) → (nat_lt region config.regions ≡ false → x ≡ 0) → cond (nat_lt region config.regions && freed_region region) 0 x ≡ cond (freed_region region) 0 x
+  below_all region x none_past = by_test (nat_lt region config.regions) (freed_region region) x none_past
     where
-      by_test : (holds other_holds : Bool) (y : ℕ) → (holds ≡ false → y ≡ 0) → cond (holds && other_holds) 0 y ≡ cond other_holds 0 y
-      by_test true other_holds y is_none = refl
-      by_test false true y is_none = is_none refl
-      by_test false false y is_none = refl
+      by_test : (holds other_holds : Bool) (value : ℕ) → (holds ≡ false → value ≡ 0) → cond (holds && other_holds) 0 value ≡ cond other_holds 0 value
+      by_test true other_holds value is_none = refl
+      by_test false true value is_none = is_none refl
+      by_test false false value is_none = refl
 
-  freed_all_at : (word : Word) → freed_below out config.regions now word ≡ freed config out now word
-  freed_all_at (Top region) = below_all region (now (Top region)) (λ no. view_none config words (Top region) no)
-  freed_all_at (Tams region) = below_all region (now (Tams region)) (λ no. view_none config words (Tams region) no)
-  freed_all_at (Limit region) = below_all region (now (Limit region)) (λ no. view_none config words (Limit region) no)
+  freed_all_at : (word : Word) → freed_below freed_region config.regions now word ≡ freed config freed_region now word
+  freed_all_at (Top region) = below_all region (now (Top region)) (λ region_past. view_none config words (Top region) region_past)
+  freed_all_at (Tams region) = below_all region (now (Tams region)) (λ region_past. view_none config words (Tams region) region_past)
+  freed_all_at (Limit region) = below_all region (now (Limit region)) (λ region_past. view_none config words (Limit region) region_past)
   freed_all_at _ = refl
 
-  pub freed_all : freed_below out config.regions now ≡ freed config out now
+  pub freed_all : freed_below freed_region config.regions now ≡ freed config freed_region now
   freed_all = fun_ext freed_all_at

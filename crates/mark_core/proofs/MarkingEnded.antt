@@ -8,11 +8,11 @@ use Rattle.image_graph.specs.State.{config_of, words_of, memory_of}
 use Rattle.mark_core.specs.Steps.{freed_below}
 use Rattle.mark_core.proofs.Freeing.{freed_all}
 
-pub final_words : (old one new : Image) → config_of one ≡ config_of old → memory_of one ≡ closed (config_of old) (memory_of old)
-    → memory_of new ≡ freed_below (is_dead (config_of one) (memory_of one)) (config_of one).regions (memory_of one)
+pub final_words : (old middle_image new : Image) → config_of middle_image ≡ config_of old → memory_of middle_image ≡ closed (config_of old) (memory_of old)
+    → memory_of new ≡ freed_below (is_dead (config_of middle_image) (memory_of middle_image)) (config_of middle_image).regions (memory_of middle_image)
     → memory_of new ≡ final_marked (config_of old) (memory_of old)
-final_words old one new config words freed_is =
+final_words old middle_image new config closed_words freed_is =
     freed_is
-    ∙ freed_all (config_of one) (words_of one) (is_dead (config_of one) (memory_of one))
-    ∙ ap (λ (config : Config). freed config (is_dead config (memory_of one)) (memory_of one)) config
-    ∙ ap (λ n. freed (config_of old) (is_dead (config_of old) n) n) words
+    ∙ freed_all (config_of middle_image) (words_of middle_image) (is_dead (config_of middle_image) (memory_of middle_image))
+    ∙ ap (λ (config : Config). freed config (is_dead config (memory_of middle_image)) (memory_of middle_image)) config
+    ∙ ap (λ memory_then. freed (config_of old) (is_dead (config_of old) memory_then) memory_then) closed_words

@@ -13,10 +13,10 @@ use Rattle.mark_core.specs.Result.{MarksSome, BeginsToMark, MarksThrough, EndsMa
 
 module _ (config : Config) (before after : Word → ℕ) where
   pub marks_after : BeginsToMark config before after → HoldsSome config before → MarksSome config after
-  marks_after begins holds = ∥∥₁_map holds (λ h. (let is = begins h.1.0 h.1.1 h.1.2 h.0 h.1.3 in (h.0, pruned (has (held_in config before)) (settled_block config before h.1.0), h.1.1, h.1.2, is.left, is.marking)))
+  marks_after begins graph_held = ∥∥₁_map graph_held (λ witness. (let marking_begun = begins witness.1.0 witness.1.1 witness.1.2 witness.0 witness.1.3 in (witness.0, pruned (has (held_in config before)) (settled_block config before witness.1.0), witness.1.1, witness.1.2, marking_begun.left, marking_begun.marking)))
 
   pub holds_closed : MarksThrough config before after → MarksSome config before → HoldsSome config after
-  holds_closed through marks = ∥∥₁_map marks (λ h. (h.0, (h.1, h.2, h.3, (through h.1 h.2 h.3 h.0 h.4 h.5).0)))
+  holds_closed through marks = ∥∥₁_map marks (λ witness. (witness.0, (witness.1, witness.2, witness.3, (through witness.1 witness.2 witness.3 witness.0 witness.4 witness.5).0)))
 
-  pub holds_ended : (out : ℕ → Bool) → EndsMarking config out before after → MarksSome config before → HoldsSome config after
-  holds_ended out ends marks = ∥∥₁_map marks (λ h. (h.0, (freed_block config out h.1, freed_owner out h.2, h.3, (ends h.1 h.2 h.3 h.0 h.4 h.5).0)))
+  pub holds_ended : (freed_region : ℕ → Bool) → EndsMarking config freed_region before after → MarksSome config before → HoldsSome config after
+  holds_ended freed_region ends marks = ∥∥₁_map marks (λ witness. (witness.0, (freed_block config freed_region witness.1, freed_owner freed_region witness.2, witness.3, (ends witness.1 witness.2 witness.3 witness.0 witness.4 witness.5).0)))

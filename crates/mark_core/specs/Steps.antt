@@ -39,7 +39,7 @@ freed_below out regions memory word = memory word
 -- one region is freed
 abbrev pub freed_one : ℕ → (Word → ℕ) → Word → ℕ
 freed_one region memory Free = bit_or (memory Free) (1 * 2 ^ region % 2 ^ 64)
-freed_one region memory (Top other_region) = if region == other_region then 0 else memory (Top other_region)
-freed_one region memory (Tams other_region) = if region == other_region then 0 else memory (Tams other_region)
-freed_one region memory (Limit other_region) = if region == other_region then 0 else memory (Limit other_region)
+freed_one region memory (Top asked_region) = if region == asked_region then 0 else memory (Top asked_region)
+freed_one region memory (Tams asked_region) = if region == asked_region then 0 else memory (Tams asked_region)
+freed_one region memory (Limit asked_region) = if region == asked_region then 0 else memory (Limit asked_region)
 freed_one region memory word = memory word

@@ -11,16 +11,16 @@ use Rattle.mutator.specs.Rows.{Mutating, next_at, call_begun, answer_at}
 use Rattle.mutator.specs.Waits.{WaitsAt}
 
 pub begins : (config : Config) (mutator : Mutating) (order : Order) (got : ℕ) (spot : Spot) → takes_commands spot ≡ true → next_at config mutator order got spot ≡ call_begun order mutator
-begins config mutator order got Rest is = refl
-begins config mutator order got (Ended reply) is = refl
-begins config mutator order got _ is = absurd (cc (is))
+begins config mutator order got Rest between_calls = refl
+begins config mutator order got (Ended reply) between_calls = refl
+begins config mutator order got _ between_calls = absurd (cc (between_calls))
 
 pub says_more : (config : Config) (kept : Kept) (spot : Spot) (got : ℕ) → takes_commands spot ≡ true → answer_at config kept spot got ≡ More
-says_more config kept Rest got is = refl
-says_more config kept (Ended reply) got is = refl
-says_more config kept _ got is = absurd (cc (is))
+says_more config kept Rest got between_calls = refl
+says_more config kept (Ended reply) got between_calls = refl
+says_more config kept _ got between_calls = absurd (cc (between_calls))
 
 pub waits_nowhere : (spot : Spot) (got : ℕ) → takes_commands spot ≡ true → WaitsAt spot got → ⊥
-waits_nowhere Rest got is waits = waits
-waits_nowhere (Ended reply) got is waits = waits
-waits_nowhere _ got is waits = cc (is)
+waits_nowhere Rest got between_calls waits = waits
+waits_nowhere (Ended reply) got between_calls waits = waits
+waits_nowhere _ got between_calls waits = cc (between_calls)

@@ -15,17 +15,17 @@ use Rattle.mutator.specs.WaitRows.{call_says}
 
 -- a call says that it has to look again where its part does
 pub says_again : (said : Took) → (call_says said ≡ took.Again) ↔ (said ≡ took.Again)
-says_again took.Again = (λ is. refl, λ is. refl)
-says_again took.More = (λ is. cc, λ is. cc)
-says_again took.Done = (λ is. cc, λ is. cc)
+says_again took.Again = (λ said_again. refl, λ said_again. refl)
+says_again took.More = (λ said_again. cc, λ said_again. cc)
+says_again took.Done = (λ said_again. cc, λ said_again. cc)
 
 -- the resolving can make its next access
 resolving_ready : (config : Config) (seat made : ℕ) (kept : Kept) (address : ℕ) (spot : ResolveSpot) (next : Loaded) → is_ready config seat made kept (Resolving address spot next) ≡ true → resolves.is_ready config seat address spot ≡ true
-resolving_ready config seat made kept address spot next ready = (and_parts _ _ (and_parts _ _ (and_parts _ _ ready).1).1).0
+resolving_ready config seat made kept address spot next call_ready = (and_parts _ _ (and_parts _ _ (and_parts _ _ call_ready).1).1).0
 
-pub part_ready : (config : Config) (seat made : ℕ) (kept : Kept) (spot : Spot) (address : ℕ) (at : ResolveSpot) (next : Loaded) → spot ≡ Resolving address at next → is_ready config seat made kept spot ≡ true → resolves.is_ready config seat address at ≡ true
-part_ready config seat made kept spot address at next is ready = resolving_ready config seat made kept address at next (subst (λ s. is_ready config seat made kept s ≡ true) is ready)
+pub part_ready : (config : Config) (seat made : ℕ) (kept : Kept) (spot : Spot) (address : ℕ) (part_spot : ResolveSpot) (next : Loaded) → spot ≡ Resolving address part_spot next → is_ready config seat made kept spot ≡ true → resolves.is_ready config seat address part_spot ≡ true
+part_ready config seat made kept spot address part_spot next same_spot call_ready = resolving_ready config seat made kept address part_spot next (subst (λ any_spot. is_ready config seat made kept any_spot ≡ true) same_spot call_ready)
 
 -- and goes on with a word that is fit for it
-pub part_goes : (config : Config) (seat : ℕ) (kept : Kept) (spot : Spot) (address : ℕ) (at : ResolveSpot) (next : Loaded) (got : ℕ) → spot ≡ Resolving address at next → PartFit config seat kept spot got → resolves.goes_on config seat address kept.phase at got ≡ true
-part_goes config seat kept spot address at next got is fit = (subst (λ s. PartFit config seat kept s got) is fit).0
+pub part_goes : (config : Config) (seat : ℕ) (kept : Kept) (spot : Spot) (address : ℕ) (part_spot : ResolveSpot) (next : Loaded) (got : ℕ) → spot ≡ Resolving address part_spot next → PartFit config seat kept spot got → resolves.goes_on config seat address kept.phase part_spot got ≡ true
+part_goes config seat kept spot address part_spot next got same_spot fit = (subst (λ any_spot. PartFit config seat kept any_spot got) same_spot fit).0

@@ -11,12 +11,12 @@ use Rattle.mutator.specs.Fit.{IsReady, PartFit}
 
 -- no order stands everywhere
 pub pending : (spot : Spot) (made : ℕ) (order : Order) → order ≡ Nothing → is_pending spot made order ≡ true
-pending spot made order none = subst (λ o. is_pending spot made o ≡ true) (sym none) refl
+pending spot made order no_order = subst (λ any_order. is_pending spot made any_order ≡ true) (sym no_order) refl
 
 -- what a mutator is after a step by the row of its spot, its next access can be made from there
-pub ready_next : (config : Config) (mutator : Mutating) (order : Order) (got : ℕ) (spot : Spot) (other_mutator : Mutating) → mutator.spot ≡ spot → next_at config mutator order got spot ≡ other_mutator → IsReady config (next_of config mutator order got) → IsReady config other_mutator
-ready_next config mutator order got spot other_mutator is row ready = subst (IsReady config) row (subst (λ s. IsReady config (next_at config mutator order got s)) is ready)
+pub ready_next : (config : Config) (mutator : Mutating) (order : Order) (got : ℕ) (spot : Spot) (later_mutator : Mutating) → mutator.spot ≡ spot → next_at config mutator order got spot ≡ later_mutator → IsReady config (next_of config mutator order got) → IsReady config later_mutator
+ready_next config mutator order got spot later_mutator same_spot row mutator_ready = subst (IsReady config) row (subst (λ any_spot. IsReady config (next_at config mutator order got any_spot)) same_spot mutator_ready)
 
 -- a word that is fit for the part of a spot is so for the part by its own name
-pub part_at : (config : Config) (seat : ℕ) (kept : Kept) (spot other_spot : Spot) (got : ℕ) → spot ≡ other_spot → PartFit config seat kept spot got → PartFit config seat kept other_spot got
-part_at config seat kept spot other_spot got is fit = subst (λ s. PartFit config seat kept s got) is fit
+pub part_at : (config : Config) (seat : ℕ) (kept : Kept) (spot own_spot : Spot) (got : ℕ) → spot ≡ own_spot → PartFit config seat kept spot got → PartFit config seat kept own_spot got
+part_at config seat kept spot own_spot got same_spot fit = subst (λ any_spot. PartFit config seat kept any_spot got) same_spot fit

@@ -46,127 +46,127 @@ use Rattle.mutator.proofs.Done.{done_gives}
 
 -- no part of a call stands there
 enters_elsewhere : (spot : EnterSpot) → enter_place spot ≡ LV → ⊥
-enters_elsewhere enter.Raise is = cc
-enters_elsewhere enter.Look is = cc
-enters_elsewhere enter.Lower is = cc
-enters_elsewhere enter.Await is = cc
-enters_elsewhere enter.Inside is = cc
+enters_elsewhere enter.Raise leaving_place = cc
+enters_elsewhere enter.Look leaving_place = cc
+enters_elsewhere enter.Lower leaving_place = cc
+enters_elsewhere enter.Await leaving_place = cc
+enters_elsewhere enter.Inside leaving_place = cc
 
 takes_elsewhere : (spot : TakeSpot) → takes.place_at spot ≡ LV → ⊥
-takes_elsewhere spot is = stands_elsewhere spot LV refl is
+takes_elsewhere spot leaving_place = stands_elsewhere spot LV refl leaving_place
 
 records_elsewhere : (spot : RememberSpot) → satb.place_at spot ≡ LV → ⊥
-records_elsewhere record_spot.LoadCount is = cc
-records_elsewhere (record_spot.LoadEntry entry) is = cc
-records_elsewhere (record_spot.MarkEntry entry found) is = cc
-records_elsewhere record_spot.ClearCount is = cc
-records_elsewhere (record_spot.StoreEntry entry) is = cc
-records_elsewhere (record_spot.StoreCount entry) is = cc
-records_elsewhere record_spot.Recorded is = cc
+records_elsewhere record_spot.LoadCount leaving_place = cc
+records_elsewhere (record_spot.LoadEntry entry) leaving_place = cc
+records_elsewhere (record_spot.MarkEntry entry found) leaving_place = cc
+records_elsewhere record_spot.ClearCount leaving_place = cc
+records_elsewhere (record_spot.StoreEntry entry) leaving_place = cc
+records_elsewhere (record_spot.StoreCount entry) leaving_place = cc
+records_elsewhere record_spot.Recorded leaving_place = cc
 
 asks_elsewhere : (spot : RoomSpot) → rooms.place_at spot ≡ LV → ⊥
-asks_elsewhere room.Outside is = cc
-asks_elsewhere room.Look is = cc
-asks_elsewhere (room.Raise found) is = cc
-asks_elsewhere room.Inside is = cc
-asks_elsewhere room.Lower is = cc
-asks_elsewhere room.Ask is = cc
-asks_elsewhere (room.Mark found) is = cc
-asks_elsewhere room.Wait is = cc
-asks_elsewhere room.Stopped is = cc
+asks_elsewhere room.Outside leaving_place = cc
+asks_elsewhere room.Look leaving_place = cc
+asks_elsewhere (room.Raise found) leaving_place = cc
+asks_elsewhere room.Inside leaving_place = cc
+asks_elsewhere room.Lower leaving_place = cc
+asks_elsewhere room.Ask leaving_place = cc
+asks_elsewhere (room.Mark found) leaving_place = cc
+asks_elsewhere room.Wait leaving_place = cc
+asks_elsewhere room.Stopped leaving_place = cc
 
 copies_elsewhere : (spot : CopySpot) → resolves.copy_place spot ≡ LV → ⊥
-copies_elsewhere (copy.LoadWord words index) is = cc
-copies_elsewhere (copy.StoreWord words index found) is = cc
-copies_elsewhere copy.StoreHeader is = cc
-copies_elsewhere copy.Publish is = cc
-copies_elsewhere (copy.GiveBack answer) is = cc
+copies_elsewhere (copy.LoadWord words index) leaving_place = cc
+copies_elsewhere (copy.StoreWord words index found) leaving_place = cc
+copies_elsewhere copy.StoreHeader leaving_place = cc
+copies_elsewhere copy.Publish leaving_place = cc
+copies_elsewhere (copy.GiveBack answer) leaving_place = cc
 
 resolves_elsewhere : (spot : ResolveSpot) → resolves.place_at spot ≡ LV → ⊥
-resolves_elsewhere (resolve.Entering spot) is = asks_elsewhere spot is
-resolves_elsewhere (resolve.Taking words spot) is = takes_elsewhere spot is
-resolves_elsewhere (resolve.Copying copy end spot) is = copies_elsewhere spot is
-resolves_elsewhere (resolve.Stopping spot) is = asks_elsewhere spot is
-resolves_elsewhere _ is = cc
+resolves_elsewhere (resolve.Entering spot) leaving_place = asks_elsewhere spot leaving_place
+resolves_elsewhere (resolve.Taking words spot) leaving_place = takes_elsewhere spot leaving_place
+resolves_elsewhere (resolve.Copying copy end spot) leaving_place = copies_elsewhere spot leaving_place
+resolves_elsewhere (resolve.Stopping spot) leaving_place = asks_elsewhere spot leaving_place
+resolves_elsewhere _ leaving_place = cc
 
 loads_elsewhere : (spot : LoadSpot) → load_place spot ≡ LV → ⊥
-loads_elsewhere load.First is = cc
-loads_elsewhere (load.Second first) is = cc
-loads_elsewhere (load.Third first second) is = cc
-loads_elsewhere (load.Shape object second third) is = cc
+loads_elsewhere load.First leaving_place = cc
+loads_elsewhere (load.Second first) leaving_place = cc
+loads_elsewhere (load.Third first second) leaving_place = cc
+loads_elsewhere (load.Shape object second third) leaving_place = cc
 
 is_on_field : (spot : FieldSpot) → field_place spot ≡ LV → ⊥
-is_on_field field.Load is = cc
-is_on_field (field.LoadExpected expect value) is = cc
-is_on_field (field.LoadOld value) is = cc
-is_on_field (field.Store value) is = cc
-is_on_field (field.Swap value) is = cc
-is_on_field (field.Exchange found expect value) is = cc
+is_on_field field.Load leaving_place = cc
+is_on_field (field.LoadExpected expect value) leaving_place = cc
+is_on_field (field.LoadOld value) leaving_place = cc
+is_on_field (field.Store value) leaving_place = cc
+is_on_field (field.Swap value) leaving_place = cc
+is_on_field (field.Exchange found expect value) leaving_place = cc
 
 is_on_number : (spot : NumberSpot) → number_place spot ≡ LV → ⊥
-is_on_number number.Load is = cc
-is_on_number number.Store is = cc
+is_on_number number.Load leaving_place = cc
+is_on_number number.Store leaving_place = cc
 
 shows_elsewhere : (spot : ShowSpot) → show_place spot ≡ LV → ⊥
-shows_elsewhere show.LoadName is = cc
-shows_elsewhere (show.StoreRoot reply) is = cc
+shows_elsewhere show.LoadName leaving_place = cc
+shows_elsewhere (show.StoreRoot reply) leaving_place = cc
 
 makes_elsewhere : (spot : MakeSpot) → make_place spot ≡ LV → ⊥
-makes_elsewhere (make.Taking take) is = takes_elsewhere take is
-makes_elsewhere _ is = cc
+makes_elsewhere (make.Taking take_spot) leaving_place = takes_elsewhere take_spot leaving_place
+makes_elsewhere _ leaving_place = cc
 
 pins_elsewhere : (spot : PinSpot) → pin_place spot ≡ LV → ⊥
-pins_elsewhere pin.Look is = cc
-pins_elsewhere pin.Store is = cc
+pins_elsewhere pin.Look leaving_place = cc
+pins_elsewhere pin.Store leaving_place = cc
 
 waits_elsewhere : (spot : WaitSpot) → wait_place spot ≡ LV → ⊥
-waits_elsewhere wait.StoreRequest is = cc
-waits_elsewhere wait.AskRoom is = cc
-waits_elsewhere wait.StepOut is = cc
-waits_elsewhere wait.Poll is = cc
-waits_elsewhere wait.LoadAnswer is = cc
-waits_elsewhere (wait.StoreRoot address) is = cc
-waits_elsewhere (wait.ClearAnswer reply) is = cc
+waits_elsewhere wait.StoreRequest leaving_place = cc
+waits_elsewhere wait.AskRoom leaving_place = cc
+waits_elsewhere wait.StepOut leaving_place = cc
+waits_elsewhere wait.Poll leaving_place = cc
+waits_elsewhere wait.LoadAnswer leaving_place = cc
+waits_elsewhere (wait.StoreRoot address) leaving_place = cc
+waits_elsewhere (wait.ClearAnswer reply) leaving_place = cc
 
 begins_elsewhere : (order : Order) → first_place order ≡ LV → ⊥
-begins_elsewhere End is = cc
-begins_elsewhere _ is = cc
+begins_elsewhere End leaving_place = cc
+begins_elsewhere _ leaving_place = cc
 
 -- so a mutator that stands there leaves with a reply
 leaves : (order : Order) (spot : Spot) → place_at order spot ≡ LV → (reply : Reply) × (spot ≡ Leave reply)
-leaves order (Leave reply) is = (reply, refl)
-leaves order Rest is = absurd (begins_elsewhere order is)
-leaves order (Ended reply) is = absurd (begins_elsewhere order is)
-leaves order (Entering spot next) is = absurd (enters_elsewhere spot is)
-leaves order (Loading spot) is = absurd (loads_elsewhere spot is)
-leaves order (OnField object spot) is = absurd (is_on_field spot is)
-leaves order (Resolving address spot next) is = absurd (resolves_elsewhere spot is)
-leaves order (Recording spot address next) is = absurd (records_elsewhere spot is)
-leaves order (OnNumber object refs spot) is = absurd (is_on_number spot is)
-leaves order (Showing value spot) is = absurd (shows_elsewhere spot is)
-leaves order (Making spot) is = absurd (makes_elsewhere spot is)
-leaves order (Pinning value spot) is = absurd (pins_elsewhere spot is)
-leaves order (Waiting spot) is = absurd (waits_elsewhere spot is)
-leaves order _ is = absurd (cc)
+leaves order (Leave reply) leaving_place = (reply, refl)
+leaves order Rest leaving_place = absurd (begins_elsewhere order leaving_place)
+leaves order (Ended reply) leaving_place = absurd (begins_elsewhere order leaving_place)
+leaves order (Entering spot next) leaving_place = absurd (enters_elsewhere spot leaving_place)
+leaves order (Loading spot) leaving_place = absurd (loads_elsewhere spot leaving_place)
+leaves order (OnField object spot) leaving_place = absurd (is_on_field spot leaving_place)
+leaves order (Resolving address spot next) leaving_place = absurd (resolves_elsewhere spot leaving_place)
+leaves order (Recording spot address next) leaving_place = absurd (records_elsewhere spot leaving_place)
+leaves order (OnNumber object refs spot) leaving_place = absurd (is_on_number spot leaving_place)
+leaves order (Showing value spot) leaving_place = absurd (shows_elsewhere spot leaving_place)
+leaves order (Making spot) leaving_place = absurd (makes_elsewhere spot leaving_place)
+leaves order (Pinning value spot) leaving_place = absurd (pins_elsewhere spot leaving_place)
+leaves order (Waiting spot) leaving_place = absurd (waits_elsewhere spot leaving_place)
+leaves order _ leaving_place = absurd (cc)
 
 -- as one that gives a reply does
 gives : (spot : Spot) (reply : Reply) → given_at spot ≡ Some reply → spot ≡ Leave reply
-gives (Leave reply) other_reply is = cc
-gives _ reply is = absurd (cc)
+gives (Leave reply) other_reply reply_given = cc
+gives _ reply reply_given = absurd (cc)
 
 done_leaves : (config : Config) (kept : Kept) (spot : Spot) (got : ℕ) → answer_at config kept spot got ≡ took.Done → (reply : Reply) × (spot ≡ Leave reply)
-done_leaves config kept spot got is = let given = done_gives config kept spot got is in (given.0, gives spot given.0 given.1)
+done_leaves config kept spot got said_done = let reply_given = done_gives config kept spot got said_done in (reply_given.0, gives spot reply_given.0 reply_given.1)
 
 -- a call ends exactly there
 pub ends : (config : Config) (kept : Kept) (order : Order) (spot : Spot) (got : ℕ) → (answer_at config kept spot got ≡ took.Done) ↔ (place_at order spot ≡ LV)
 ends config kept order spot got = (
-  λ is. ap (place_at order) (done_leaves config kept spot got is).1,
-  λ is. ap (λ s. answer_at config kept s got) (leaves order spot is).1,
+  λ call_ends. ap (place_at order) (done_leaves config kept spot got call_ends).1,
+  λ call_ends. ap (λ any_spot. answer_at config kept any_spot got) (leaves order spot call_ends).1,
 )
 
 -- and then there is a reply
 pub replies : (config : Config) (mutator : Mutating) (order : Order) (got : ℕ) (spot : Spot) → answer_at config mutator.kept spot got ≡ took.Done → reply_at (next_at config mutator order got spot).spot ≡ None → ⊥
-replies config mutator order got spot is none =
-    let left = done_leaves config mutator.kept spot got is in
-    let given : reply_at (next_at config mutator order got spot).spot ≡ Some left.0 = ap (λ s. reply_at (next_at config mutator order got s).spot) left.1 in
+replies config mutator order got spot said_done no_reply =
+    let done_spot = done_leaves config mutator.kept spot got said_done in
+    let reply_given : reply_at (next_at config mutator order got spot).spot ≡ Some done_spot.0 = ap (λ any_spot. reply_at (next_at config mutator order got any_spot).spot) done_spot.1 in
     cc

@@ -15,7 +15,7 @@ command_roots (Xchg dst obj field val) = obj ∷ val ∷ []
 command_roots (Rd obj index) = obj ∷ []
 command_roots (Wr obj index value) = obj ∷ []
 command_roots (Copy dst src) = src ∷ []
-command_roots (Same a b) = a ∷ b ∷ []
+command_roots (Same root other_root) = root ∷ other_root ∷ []
 command_roots (Pin slot obj) = obj ∷ []
 command_roots _ = []
 

@@ -211,7 +211,7 @@ first_spot command = Loading load.First
 abbrev pub after_roots : Command → ℕ → ℕ → ℕ → Spot
 after_roots (Copy dst src) first second third = StoreRoot first
 after_roots (Pin slot obj) first second third = Pinning first pin.Look
-after_roots (Same a b) first second third = Leave (yes_or_no (first == second))
+after_roots (Same root other_root) first second third = Leave (yes_or_no (first == second))
 after_roots command first second third = Loading (load.Shape first second third)
 
 -- where it goes on once one or two of them were loaded

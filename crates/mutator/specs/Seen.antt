@@ -12,24 +12,24 @@ use Rattle.mutator.specs.Rows.{Mutating, touch_of}
 
 -- all but its configuration and the order that it was given
 abbrev pub seen : Mutator → Mutating
-seen m = record { seat = m.mutator; made = m.made; kept = m.kept; spot = m.spot }
+seen mutator = record { seat = mutator.mutator; made = mutator.made; kept = mutator.kept; spot = mutator.spot }
 
 -- the heap that it works on
 abbrev pub config_of : Mutator → Config
-config_of m = m.config
+config_of mutator = mutator.config
 
 -- the order that it was given
 abbrev pub order_of : Mutator → Order
-order_of m = m.order
+order_of mutator = mutator.order
 
 -- neither a call is in progress nor one to begin
 abbrev pub is_idle : Mutator → Bool
-is_idle m = is_between_calls m.spot && is_nothing m.order
+is_idle mutator = is_between_calls mutator.spot && is_nothing mutator.order
 
 -- its next access
 abbrev pub access_of : Mutator → Access
-access_of m = placed (config_of m) (touch_of (config_of m) (seen m) (order_of m))
+access_of mutator = placed (config_of mutator) (touch_of (config_of mutator) (seen mutator) (order_of mutator))
 
 -- the word that this finds in a table
 abbrev pub word_found : Mutator → List ℕ → ℕ
-word_found m words = slice_index words (table_index (access_of m))
+word_found mutator words = slice_index words (table_index (access_of mutator))

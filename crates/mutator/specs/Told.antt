@@ -29,7 +29,7 @@ name_of_object memory address = memory (Heap (address + 2))
 
 -- whether two references name the same: both are null, or both are of objects of one name
 abbrev pub name_the_same : (Word → ℕ) → ℕ → ℕ → Bool
-name_the_same memory a b = if (a == 0) || (b == 0) then a == b else name_of_object memory a == name_of_object memory b
+name_the_same memory reference other_reference = if (reference == 0) || (other_reference == 0) then reference == other_reference else name_of_object memory reference == name_of_object memory other_reference
 
 -- the reply that shows a reference
 abbrev pub shown_word : (Word → ℕ) → ℕ → Reply
@@ -37,7 +37,7 @@ shown_word memory value = if value == 0 then reply.Null else reply.Ref (name_in 
 
 -- at the second root of a Same it is settled whether the two are the same
 abbrev pub told_second : (Word → ℕ) → Command → ℕ → ℕ → Option Reply
-told_second memory (Same a b) first second = Some (yes_or_no (name_the_same memory first second))
+told_second memory (Same root other_root) first second = Some (yes_or_no (name_the_same memory first second))
 told_second memory _ first second = None
 
 -- what each part of a call settles

@@ -21,16 +21,16 @@ use Rattle.program_calls.specs.FindTellings.{status_of, Reports, HasSearched, St
 
 -- which of these is meant by a result of a call: a status, where it did not fail
 pub found : (result : Result Status WriteFault) (test : Test) (text : List ℕ) (said : Verdict) (sink errors : Output)
-    → IsBreak test text usual_steps said → IfOk result (λ s. s ≡ status_of said)
+    → IsBreak test text usual_steps said → IfOk result (λ got_status. got_status ≡ status_of said)
     → OnOk result (Appends sink.before.written sink.after.written text) → OnOk result (Reports said errors.before.written errors.after.written)
-    → IfOk result (λ s. HasSearched s test sink errors)
-found (Err e) test text said sink errors broken status written reports = tt
-found (Ok s) test text said sink errors broken status written reports = subst (λ t. HasSearched t test sink errors) (sym status) (by_verdict said broken reports)
+    → IfOk result (λ got_status. HasSearched got_status test sink errors)
+found (Err error) test text said sink errors broken status written reports = tt
+found (Ok got_status) test text said sink errors broken status written reports = subst (λ any_status. HasSearched any_status test sink errors) (sym status) (by_verdict said broken reports)
   where
-    by_verdict : (v : Verdict) → IsBreak test text usual_steps v → Reports v errors.before.written errors.after.written → HasSearched (status_of v) test sink errors
-    by_verdict verdict.Holds b r = absurd (b.breaks refl)
-    by_verdict (verdict.Fails n) b r = record { text = text; verdict = verdict.Fails n; is_break = b; status = refl; written = written; reports = r }
-    by_verdict (verdict.Stuck n) b r = record { text = text; verdict = verdict.Stuck n; is_break = b; status = refl; written = written; reports = r }
+    by_verdict : (its_verdict : Verdict) → IsBreak test text usual_steps its_verdict → Reports its_verdict errors.before.written errors.after.written → HasSearched (status_of its_verdict) test sink errors
+    by_verdict verdict.Holds is_break reported = absurd (is_break.breaks refl)
+    by_verdict (verdict.Fails count) is_break reported = record { text = text; verdict = verdict.Fails count; is_break = is_break; status = refl; written = written; reports = reported }
+    by_verdict (verdict.Stuck count) is_break reported = record { text = text; verdict = verdict.Stuck count; is_break = is_break; status = refl; written = written; reports = reported }
 
 -- a test came, and how its search has ended fits the status
 fits_searched : (status : Status) (input : Input) (sink errors : Output) (test : Test) → HasRead input (λ bytes. IsTest bytes (test_said test))
@@ -46,9 +46,9 @@ fits_searched ReadFault input sink errors test read has_searched = absurd has_se
 fits_searched Unwritten input sink errors test read has_searched = absurd has_searched
 
 pub searched : (result : Result Status WriteFault) (input : Input) (sink errors : Output) (test : Test) → HasRead input (λ bytes. IsTest bytes (test_said test))
-    → IfOk result (λ s. HasSearched s test sink errors) → IfOk result (λ s. StatusTells s input sink errors)
+    → IfOk result (λ any_status. HasSearched any_status test sink errors) → IfOk result (λ any_status. StatusTells any_status input sink errors)
 searched (Ok status) input sink errors test read if_ok = fits_searched status input sink errors test read if_ok
-searched (Err e) input sink errors test read if_ok = tt
+searched (Err error) input sink errors test read if_ok = tt
 
 -- what is known of a source where no test was read
 abbrev pub IsFaultOf : Input → TestFault → Type 0
@@ -58,25 +58,25 @@ IsFaultOf input fault.ReadFault = Rose input.faults_before input.faults_after
 IsFaultOf input fault.NoMemory = Unit {0}
 
 -- the line of a fault and its status fit
-fits_refused : (f : TestFault) (input : Input) (sink errors : Output) → IsFaultOf input f → SaysLine (refusal_text f) sink errors → StatusTells (refusal_status f) input sink errors
-fits_refused (fault.BadLine line why) input sink errors is says = inl (record { line = line; why = why; read = is; says = says })
-fits_refused (fault.TooLong count) input sink errors is says = inr (record { bytes = is.0; taken = is.1; many = is.2; says = says })
-fits_refused fault.ReadFault input sink errors is says = (is, says)
-fits_refused fault.NoMemory input sink errors is says = says
+fits_refused : (its_fault : TestFault) (input : Input) (sink errors : Output) → IsFaultOf input its_fault → SaysLine (refusal_text its_fault) sink errors → StatusTells (refusal_status its_fault) input sink errors
+fits_refused (fault.BadLine line why) input sink errors known_fault says = inl (record { line = line; why = why; read = known_fault; says = says })
+fits_refused (fault.TooLong count) input sink errors known_fault says = inr (record { bytes = known_fault.0; taken = known_fault.1; many = known_fault.2; says = says })
+fits_refused fault.ReadFault input sink errors known_fault says = (known_fault, says)
+fits_refused fault.NoMemory input sink errors known_fault says = says
 
-pub refused : (result : Result Status WriteFault) (f : TestFault) (input : Input) (sink errors : Output) → IsFaultOf input f → sink.after ≡ sink.before
-    → IfOk result (λ s. s ≡ refusal_status f) → OnOk result (Appends errors.before.written errors.after.written (refusal_text f))
-    → IfOk result (λ s. StatusTells s input sink errors)
-refused (Err e) f input sink errors is kept status text = tt
-refused (Ok s) f input sink errors is kept status text = subst (λ t. StatusTells t input sink errors) (sym status) (fits_refused f input sink errors is (record { kept = kept; written = text }))
+pub refused : (result : Result Status WriteFault) (its_fault : TestFault) (input : Input) (sink errors : Output) → IsFaultOf input its_fault → sink.after ≡ sink.before
+    → IfOk result (λ got_status. got_status ≡ refusal_status its_fault) → OnOk result (Appends errors.before.written errors.after.written (refusal_text its_fault))
+    → IfOk result (λ got_status. StatusTells got_status input sink errors)
+refused (Err error) its_fault input sink errors known_fault nothing_put status text = tt
+refused (Ok got_status) its_fault input sink errors known_fault nothing_put status text = subst (λ any_status. StatusTells any_status input sink errors) (sym status) (fits_refused its_fault input sink errors known_fault (record { kept = nothing_put; written = text }))
 
 -- of a fault of reading, whichever it is, this is known of the source
-pub fault_is : (f : TestFault) (input : Input)
-    → ((n : ℕ) (why : TestWhy) → f ≡ fault.BadLine n why → HasRead input (λ bytes. RefusesTest bytes n why))
-    → ((n : ℕ) → f ≡ fault.TooLong n → (bytes : List ℕ) × Consumes input.before input.after bytes × (length bytes ≡ most_bytes + 1))
-    → (f ≡ fault.ReadFault → Rose input.faults_before input.faults_after)
-    → IsFaultOf input f
-fault_is (fault.BadLine line why) input bad long read = bad line why refl
-fault_is (fault.TooLong count) input bad long read = long count refl
-fault_is fault.ReadFault input bad long read = read refl
-fault_is fault.NoMemory input bad long read = tt
+pub fault_is : (its_fault : TestFault) (input : Input)
+    → ((size : ℕ) (why : TestWhy) → its_fault ≡ fault.BadLine size why → HasRead input (λ bytes. RefusesTest bytes size why))
+    → ((size : ℕ) → its_fault ≡ fault.TooLong size → (bytes : List ℕ) × Consumes input.before input.after bytes × (length bytes ≡ most_bytes + 1))
+    → (its_fault ≡ fault.ReadFault → Rose input.faults_before input.faults_after)
+    → IsFaultOf input its_fault
+fault_is (fault.BadLine line why) input bad long_read read = bad line why refl
+fault_is (fault.TooLong count) input bad long_read read = long_read count refl
+fault_is fault.ReadFault input bad long_read read = read refl
+fault_is fault.NoMemory input bad long_read read = tt

@@ -5,16 +5,16 @@ use Rattle.shen_base.proofs.Stages.{puts_both, puts_same}
 
 -- some text was put
 pub some_text : {a b : SinkStage} {x : List ℕ} → Puts a b x → (text : List ℕ) × Puts a b text
-some_text {a} {b} {x} p = (x, p)
+some_text {a} {b} {x} puts = (x, puts)
 
 -- a text was put behind some other
 pub behind_some : {a b c : SinkStage} {x y : List ℕ} → Puts a b x → Puts b c y → (front : List ℕ) × Puts a c (front ++ y)
-behind_some {a} {b} {c} {x} {y} p q = (x, puts_both p q)
+behind_some {a} {b} {c} {x} {y} first_puts second_puts = (x, puts_both first_puts second_puts)
 
 -- some texts were put, and behind them one behind some other
-pub behind_more : {a b c d : SinkStage} {v : List ℕ} → ((text : List ℕ) × Puts a b text) → ((other_text : List ℕ) × Puts b c other_text) → ((z : List ℕ) × Puts c d (z ++ v))
+pub behind_more : {a b c d : SinkStage} {v : List ℕ} → ((text : List ℕ) × Puts a b text) → ((other_text : List ℕ) × Puts b c other_text) → ((last_text : List ℕ) × Puts c d (last_text ++ v))
     → (front : List ℕ) × Puts a d (front ++ v)
-behind_more {a} {b} {c} {d} {v} s r t = (s.0 ++ (r.0 ++ t.0), puts_same same (puts_both s.1 (puts_both r.1 t.1)))
+behind_more {a} {b} {c} {d} {v} first_part second_part last_part = (first_part.0 ++ (second_part.0 ++ last_part.0), puts_same same (puts_both first_part.1 (puts_both second_part.1 last_part.1)))
   where
-    same : s.0 ++ (r.0 ++ (t.0 ++ v)) ≡ (s.0 ++ (r.0 ++ t.0)) ++ v
-    same = sym (append_assoc s.0 (r.0 ++ t.0) v ∙ ap (λ w. s.0 ++ w) (append_assoc r.0 t.0 v))
+    same : first_part.0 ++ (second_part.0 ++ (last_part.0 ++ v)) ≡ (first_part.0 ++ (second_part.0 ++ last_part.0)) ++ v
+    same = sym (append_assoc first_part.0 (second_part.0 ++ last_part.0) v ∙ ap (λ text. first_part.0 ++ text) (append_assoc second_part.0 last_part.0 v))

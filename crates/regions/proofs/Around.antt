@@ -18,151 +18,151 @@ open_none shut row = refl
 pub open_from : (shut : ℕ → Bool) (rows row : ℕ) → row ≤ next_open shut rows row
 open_from shut zero row = omega (arith, open_none shut row)
 open_from shut (suc rows) row =
-    let found : row ≤ (if shut row then next_open shut rows (row + 1) else row) =
-    cond_both (shut row) (next_open shut rows (row + 1)) row (λ k. row ≤ k) (λ _. omega (arith, open_from shut rows (row + 1))) (λ _. omega arith) in
-    omega (arith, open_next shut rows row, found)
+    let row_found : row ≤ (if shut row then next_open shut rows (row + 1) else row) =
+    cond_both (shut row) (next_open shut rows (row + 1)) row (λ found_row. row ≤ found_row) (λ _. omega (arith, open_from shut rows (row + 1))) (λ _. omega arith) in
+    omega (arith, open_next shut rows row, row_found)
 
 -- nor above an open row
 pub open_to : (shut : ℕ → Bool) (rows row top : ℕ) → row ≤ top → shut top ≡ false → next_open shut rows row ≤ top
-open_to shut zero row top below opened = omega (arith, open_none shut row, below)
-open_to shut (suc rows) row top below opened =
-    let found : (if shut row then next_open shut rows (row + 1) else row) ≤ top =
-    cond_both (shut row) (next_open shut rows (row + 1)) row (λ k. k ≤ top)
-    (λ closed.
-    let differs : row ≢ top = λ same. true≢false (sym closed ∙ ap shut same ∙ opened) in
-    open_to shut rows (row + 1) top (omega (arith, below, differs)) opened)
-    (λ _. below) in
-    omega (arith, open_next shut rows row, found)
+open_to shut zero row top row_below top_open = omega (arith, open_none shut row, row_below)
+open_to shut (suc rows) row top row_below top_open =
+    let row_found : (if shut row then next_open shut rows (row + 1) else row) ≤ top =
+    cond_both (shut row) (next_open shut rows (row + 1)) row (λ found_row. found_row ≤ top)
+    (λ row_closed.
+    let rows_differ : row ≢ top = λ same_row. true≢false (sym row_closed ∙ ap shut same_row ∙ top_open) in
+    open_to shut rows (row + 1) top (omega (arith, row_below, rows_differ)) top_open)
+    (λ _. row_below) in
+    omega (arith, open_next shut rows row, row_found)
 
 -- and it is open, where an open row is among those that are looked at
 pub open_there : (shut : ℕ → Bool) (rows row top : ℕ) → row ≤ top → shut top ≡ false → top < row + rows → shut (next_open shut rows row) ≡ false
-open_there shut zero row top below opened near = absurd (omega (arith, below, near))
-open_there shut (suc rows) row top below opened near =
+open_there shut zero row top row_below top_open top_near = absurd (omega (arith, row_below, top_near))
+open_there shut (suc rows) row top row_below top_open top_near =
     ap shut (open_next shut rows row)
-    ∙ cond_both (shut row) (next_open shut rows (row + 1)) row (λ k. shut k ≡ false)
-    (λ closed.
-    let differs : row ≢ top = λ same. true≢false (sym closed ∙ ap shut same ∙ opened) in
-    open_there shut rows (row + 1) top (omega (arith, below, differs)) opened (omega (arith, near)))
+    ∙ cond_both (shut row) (next_open shut rows (row + 1)) row (λ found_row. shut found_row ≡ false)
+    (λ row_closed.
+    let rows_differ : row ≢ top = λ same_row. true≢false (sym row_closed ∙ ap shut same_row ∙ top_open) in
+    open_there shut rows (row + 1) top (omega (arith, row_below, rows_differ)) top_open (omega (arith, top_near)))
     (λ open_here. open_here)
 
 -- the row of an address is not above that of a higher one
-pub rows_go_up : (w a b : ℕ) → 0 < w → a ≤ b → a / w ≤ b / w
-rows_go_up w a b positive below = ⊎_elim
-    (λ (higher : b / w < a / w).
-    let rows = mul-le (b / w + 1) w (a / w) w (omega (arith, higher)) (omega arith) in
-    absurd (omega (arith, rows, div-add-mod' a w, div-add-mod' b w, mod_below b w positive, below)))
-    (λ (most : a / w ≤ b / w). most)
-    (cases_lt (b / w) (a / w))
+pub rows_go_up : (region_words lower b : ℕ) → 0 < region_words → lower ≤ b → lower / region_words ≤ b / region_words
+rows_go_up region_words lower b some_words in_order = ⊎_elim
+    (λ (higher : b / region_words < lower / region_words).
+    let rows = mul-le (b / region_words + 1) region_words (lower / region_words) region_words (omega (arith, higher)) (omega arith) in
+    absurd (omega (arith, rows, div-add-mod' lower region_words, div-add-mod' b region_words, mod_below b region_words some_words, in_order)))
+    (λ (row_below : lower / region_words ≤ b / region_words). row_below)
+    (cases_lt (b / region_words) (lower / region_words))
 
 -- the first row with room is not below that of the end, and where it is that one, the words fit there
-pub first_from : (region_words at words : ℕ) → at / region_words ≤ first_row region_words at words
-first_from region_words at words = cond_both (nat_le (at % region_words + words) region_words) (at / region_words) (at / region_words + 1) (λ k. at / region_words ≤ k) (λ _. omega arith) (λ _. omega arith)
+pub first_from : (region_words end words : ℕ) → end / region_words ≤ first_row region_words end words
+first_from region_words end words = cond_both (nat_le (end % region_words + words) region_words) (end / region_words) (end / region_words + 1) (λ found_row. end / region_words ≤ found_row) (λ _. omega arith) (λ _. omega arith)
 
-pub first_fits : (region_words at words : ℕ) → first_row region_words at words ≤ at / region_words → at % region_words + words ≤ region_words
-first_fits region_words at words =
-    cond_both (nat_le (at % region_words + words) region_words) (at / region_words) (at / region_words + 1) (λ k. k ≤ at / region_words → at % region_words + words ≤ region_words)
-    (λ fits _. leb-true (at % region_words + words) region_words fits)
+pub first_fits : (region_words end words : ℕ) → first_row region_words end words ≤ end / region_words → end % region_words + words ≤ region_words
+first_fits region_words end words =
+    cond_both (nat_le (end % region_words + words) region_words) (end / region_words) (end / region_words + 1) (λ found_row. found_row ≤ end / region_words → end % region_words + words ≤ region_words)
+    (λ words_fit _. leb-true (end % region_words + words) region_words words_fit)
     (λ _ less. absurd (omega (arith, less)))
 
 -- It is not above that of an address at which the words fit: where they do not fit behind `at` but fit at `a`, `a` is in a
 -- higher region.
-pub first_to : (region_words at a words : ℕ) → 0 < region_words → at ≤ a → a % region_words + words ≤ region_words → first_row region_words at words ≤ a / region_words
-first_to region_words at a words positive below fits =
-    let up = rows_go_up region_words at a positive below in
-    cond_both (nat_le (at % region_words + words) region_words) (at / region_words) (at / region_words + 1) (λ k. k ≤ a / region_words)
-    (λ _. up)
-    (λ full. let long = leb-false (at % region_words + words) region_words full in
+pub first_to : (region_words end address words : ℕ) → 0 < region_words → end ≤ address → address % region_words + words ≤ region_words → first_row region_words end words ≤ address / region_words
+first_to region_words end address words some_words end_below words_fit =
+    let row_below = rows_go_up region_words end address some_words end_below in
+    cond_both (nat_le (end % region_words + words) region_words) (end / region_words) (end / region_words + 1) (λ found_row. found_row ≤ address / region_words)
+    (λ _. row_below)
+    (λ region_full. let too_long = leb-false (end % region_words + words) region_words region_full in
     ⊎_elim
-    (λ (same : at / region_words ≡ a / region_words). let row : at / region_words * region_words ≡ a / region_words * region_words = ap (λ k. k * region_words) same in absurd (omega (arith, row, div-add-mod' a region_words, div-add-mod' at region_words, long, fits, below)))
-    (λ (differs : at / region_words ≢ a / region_words). omega (arith, up, differs))
-    (cases_eq (at / region_words) (a / region_words)))
+    (λ (same_row : end / region_words ≡ address / region_words). let row : end / region_words * region_words ≡ address / region_words * region_words = ap (λ found_row. found_row * region_words) same_row in absurd (omega (arith, row, div-add-mod' address region_words, div-add-mod' end region_words, too_long, words_fit, end_below)))
+    (λ (rows_differ : end / region_words ≢ address / region_words). omega (arith, row_below, rows_differ))
+    (cases_eq (end / region_words) (address / region_words)))
 
 -- some words go right behind, or to the base of the open row
-pub around_cases : (region_words : ℕ) (shut : ℕ → Bool) (at words : ℕ) → 0 < words → (P : ℕ → Type 0) → (open_row region_words shut at words ≡ at / region_words → P at) → (open_row region_words shut at words ≢ at / region_words → P (open_row region_words shut at words * region_words))
-    → P (place_around region_words shut at words)
-around_cases region_words shut at words positive P here there =
-    cond_both (words == 0) at (if open_row region_words shut at words == at / region_words then at else open_row region_words shut at words * region_words) P
-    (λ none. absurd (omega (arith, positive, eqb-true words 0 none)))
-    (λ _. cond_both (open_row region_words shut at words == at / region_words) at (open_row region_words shut at words * region_words) P (λ same. here (eqb-true _ _ same)) (λ other. there (eqb-false _ _ other)))
+pub around_cases : (region_words : ℕ) (shut : ℕ → Bool) (end words : ℕ) → 0 < words → (P : ℕ → Type 0) → (open_row region_words shut end words ≡ end / region_words → P end) → (open_row region_words shut end words ≢ end / region_words → P (open_row region_words shut end words * region_words))
+    → P (place_around region_words shut end words)
+around_cases region_words shut end words some_words P at_end at_base =
+    cond_both (words == 0) end (if open_row region_words shut end words == end / region_words then end else open_row region_words shut end words * region_words) P
+    (λ no_words. absurd (omega (arith, some_words, eqb-true words 0 no_words)))
+    (λ _. cond_both (open_row region_words shut end words == end / region_words) end (open_row region_words shut end words * region_words) P (λ same_row. at_end (eqb-true _ _ same_row)) (λ row_differs. at_base (eqb-false _ _ row_differs)))
 
 -- the open row is not below that of the end
-pub row_from : (region_words : ℕ) (shut : ℕ → Bool) (at words : ℕ) → at / region_words ≤ open_row region_words shut at words
-row_from region_words shut at words = omega (arith, first_from region_words at words, open_from shut 64 (first_row region_words at words))
+pub row_from : (region_words : ℕ) (shut : ℕ → Bool) (end words : ℕ) → end / region_words ≤ open_row region_words shut end words
+row_from region_words shut end words = omega (arith, first_from region_words end words, open_from shut 64 (first_row region_words end words))
 
 -- a place is not below what it is placed behind
-pub around_not_below : (region_words : ℕ) (shut : ℕ → Bool) (at words : ℕ) → 0 < region_words → at ≤ place_around region_words shut at words
-around_not_below region_words shut at words positive = ⊎_elim
-    (λ (none : words ≡ 0). let there : place_around region_words shut at words ≡ at = ap (place_around region_words shut at) none in omega (arith, there))
-    (λ (differs : words ≢ 0).
-    around_cases region_words shut at words (omega (arith, differs)) (λ p. at ≤ p)
+pub around_not_below : (region_words : ℕ) (shut : ℕ → Bool) (end words : ℕ) → 0 < region_words → end ≤ place_around region_words shut end words
+around_not_below region_words shut end words some_region_words = ⊎_elim
+    (λ (no_words : words ≡ 0). let placed_at_end : place_around region_words shut end words ≡ end = ap (place_around region_words shut end) no_words in omega (arith, placed_at_end))
+    (λ (some_words : words ≢ 0).
+    around_cases region_words shut end words (omega (arith, some_words)) (λ any_place. end ≤ any_place)
     (λ _. omega arith)
-    (λ other.
-    let row = open_row region_words shut at words in
-    let rows = mul-le (at / region_words + 1) region_words row region_words (omega (arith, row_from region_words shut at words, other)) (omega arith) in
-    omega (arith, rows, div-add-mod' at region_words, mod_below at region_words positive)))
+    (λ row_differs.
+    let row = open_row region_words shut end words in
+    let rows = mul-le (end / region_words + 1) region_words row region_words (omega (arith, row_from region_words shut end words, row_differs)) (omega arith) in
+    omega (arith, rows, div-add-mod' end region_words, mod_below end region_words some_region_words)))
     (cases_eq words 0)
 
 -- what is placed fits into the region of its place
-pub around_within : (region_words : ℕ) (shut : ℕ → Bool) (at words : ℕ) → 0 < region_words → 0 < words → words ≤ region_words → place_around region_words shut at words % region_words + words ≤ region_words
-around_within region_words shut at words region positive short =
-    around_cases region_words shut at words positive (λ p. p % region_words + words ≤ region_words)
-    (λ same. first_fits region_words at words (omega (arith, same, open_from shut 64 (first_row region_words at words))))
+pub around_within : (region_words : ℕ) (shut : ℕ → Bool) (end words : ℕ) → 0 < region_words → 0 < words → words ≤ region_words → place_around region_words shut end words % region_words + words ≤ region_words
+around_within region_words shut end words some_region_words some_words short_words =
+    around_cases region_words shut end words some_words (λ any_place. any_place % region_words + words ≤ region_words)
+    (λ same_row. first_fits region_words end words (omega (arith, same_row, open_from shut 64 (first_row region_words end words))))
     (λ _.
-    let row = open_row region_words shut at words in
-    let base : (row * region_words + 0) % region_words ≡ 0 = mod-mul-add row region_words 0 region in
-    let plain : row * region_words + 0 ≡ row * region_words = omega arith in
-    omega (arith, base, ap (λ k. k % region_words) plain, short))
+    let row = open_row region_words shut end words in
+    let base : (row * region_words + 0) % region_words ≡ 0 = mod-mul-add row region_words 0 some_region_words in
+    let same_start : row * region_words + 0 ≡ row * region_words = omega arith in
+    omega (arith, base, ap (λ number. number % region_words) same_start, short_words))
 
 -- it lies in the open row
-pub around_row : (region_words : ℕ) (shut : ℕ → Bool) (at words : ℕ) → 0 < region_words → 0 < words → place_around region_words shut at words / region_words ≡ open_row region_words shut at words
-around_row region_words shut at words region positive =
-    around_cases region_words shut at words positive (λ p. p / region_words ≡ open_row region_words shut at words)
-    (λ same. sym same)
+pub around_row : (region_words : ℕ) (shut : ℕ → Bool) (end words : ℕ) → 0 < region_words → 0 < words → place_around region_words shut end words / region_words ≡ open_row region_words shut end words
+around_row region_words shut end words some_region_words some_words =
+    around_cases region_words shut end words some_words (λ any_place. any_place / region_words ≡ open_row region_words shut end words)
+    (λ same_row. sym same_row)
     (λ _.
-    let row = open_row region_words shut at words in
-    let plain : row * region_words + 0 ≡ row * region_words = omega arith in
-    ap (λ k. k / region_words) (sym plain) ∙ div-mul-add row region_words 0 region)
+    let row = open_row region_words shut end words in
+    let same_start : row * region_words + 0 ≡ row * region_words = omega arith in
+    ap (λ number. number / region_words) (sym same_start) ∙ div-mul-add row region_words 0 some_region_words)
 
 -- The place is not above an address in an open row at which the words fit, and in an open row itself, where the search gets
 -- that far.
-pub around_not_above : (region_words : ℕ) (shut : ℕ → Bool) (at a words : ℕ) → 0 < region_words → 0 < words → at ≤ a → a % region_words + words ≤ region_words → shut (a / region_words) ≡ false → place_around region_words shut at words ≤ a
-around_not_above region_words shut at a words region positive below fits opened =
-    around_cases region_words shut at words positive (λ p. p ≤ a)
-    (λ _. below)
+pub around_not_above : (region_words : ℕ) (shut : ℕ → Bool) (end address words : ℕ) → 0 < region_words → 0 < words → end ≤ address → address % region_words + words ≤ region_words → shut (address / region_words) ≡ false → place_around region_words shut end words ≤ address
+around_not_above region_words shut end address words some_region_words some_words end_below words_fit row_open =
+    around_cases region_words shut end words some_words (λ any_place. any_place ≤ address)
+    (λ _. end_below)
     (λ _.
-    let row = open_row region_words shut at words in
-    let up = open_to shut 64 (first_row region_words at words) (a / region_words) (first_to region_words at a words region below fits) opened in
-    let rows = mul-le row region_words (a / region_words) region_words up (omega arith) in
-    omega (arith, rows, div-add-mod' a region_words))
+    let row = open_row region_words shut end words in
+    let row_below = open_to shut 64 (first_row region_words end words) (address / region_words) (first_to region_words end address words some_region_words end_below words_fit) row_open in
+    let rows = mul-le row region_words (address / region_words) region_words row_below (omega arith) in
+    omega (arith, rows, div-add-mod' address region_words))
 
-pub around_open : (region_words : ℕ) (shut : ℕ → Bool) (at a words : ℕ) → 0 < region_words → 0 < words → at ≤ a → a % region_words + words ≤ region_words → shut (a / region_words) ≡ false → a / region_words < at / region_words + 64
-    → shut (place_around region_words shut at words / region_words) ≡ false
-around_open region_words shut at a words region positive below fits opened near =
-    ap shut (around_row region_words shut at words region positive)
-    ∙ open_there shut 64 (first_row region_words at words) (a / region_words) (first_to region_words at a words region below fits) opened (omega (arith, near, first_from region_words at words))
+pub around_open : (region_words : ℕ) (shut : ℕ → Bool) (end address words : ℕ) → 0 < region_words → 0 < words → end ≤ address → address % region_words + words ≤ region_words → shut (address / region_words) ≡ false → address / region_words < end / region_words + 64
+    → shut (place_around region_words shut end words / region_words) ≡ false
+around_open region_words shut end address words some_region_words some_words end_below words_fit row_open row_near =
+    ap shut (around_row region_words shut end words some_region_words some_words)
+    ∙ open_there shut 64 (first_row region_words end words) (address / region_words) (first_to region_words end address words some_region_words end_below words_fit) row_open (omega (arith, row_near, first_from region_words end words))
 
 -- the search so far: so many rows from the first one on are shut
 pub open_step : (shut : ℕ → Bool) (step row : ℕ) → step < 64 → shut (row + step) ≡ true → next_open shut 64 row ≡ next_open shut (64 - step) (row + step)
     → next_open shut 64 row ≡ next_open shut (64 - (step + 1)) (row + (step + 1))
-open_step shut step row below closed before =
-    let rows : 64 - step ≡ suc (64 - (step + 1)) = omega (arith, below) in
-    let next : row + step + 1 ≡ row + (step + 1) = omega arith in
-    before ∙ ap (λ rows. next_open shut rows (row + step)) rows ∙ open_next shut (64 - (step + 1)) (row + step)
-    ∙ cond-true (shut (row + step)) (next_open shut (64 - (step + 1)) (row + step + 1)) (row + step) closed
-    ∙ ap (next_open shut (64 - (step + 1))) next
+open_step shut step row step_below row_closed same_before =
+    let rows : 64 - step ≡ suc (64 - (step + 1)) = omega (arith, step_below) in
+    let next_row : row + step + 1 ≡ row + (step + 1) = omega arith in
+    same_before ∙ ap (λ rows. next_open shut rows (row + step)) rows ∙ open_next shut (64 - (step + 1)) (row + step)
+    ∙ cond-true (shut (row + step)) (next_open shut (64 - (step + 1)) (row + step + 1)) (row + step) row_closed
+    ∙ ap (next_open shut (64 - (step + 1))) next_row
 
 -- and here is an open one
 pub open_found : (shut : ℕ → Bool) (step row : ℕ) → step < 64 → shut (row + step) ≡ false → next_open shut 64 row ≡ next_open shut (64 - step) (row + step)
     → row + step ≡ next_open shut 64 row
-open_found shut step row below opened before =
-    let rows : 64 - step ≡ suc (64 - (step + 1)) = omega (arith, below) in
-    sym (before ∙ ap (λ rows. next_open shut rows (row + step)) rows ∙ open_next shut (64 - (step + 1)) (row + step)
-    ∙ cond-false (shut (row + step)) (next_open shut (64 - (step + 1)) (row + step + 1)) (row + step) opened)
+open_found shut step row step_below row_open same_before =
+    let rows : 64 - step ≡ suc (64 - (step + 1)) = omega (arith, step_below) in
+    sym (same_before ∙ ap (λ rows. next_open shut rows (row + step)) rows ∙ open_next shut (64 - (step + 1)) (row + step)
+    ∙ cond-false (shut (row + step)) (next_open shut (64 - (step + 1)) (row + step + 1)) (row + step) row_open)
 
 -- what is found is near
 pub open_near : (shut : ℕ → Bool) (rows row : ℕ) → next_open shut rows row ≤ row + rows
 open_near shut zero row = omega (arith, open_none shut row)
 open_near shut (suc rows) row =
-    let found : (if shut row then next_open shut rows (row + 1) else row) ≤ row + suc rows =
-    cond_both (shut row) (next_open shut rows (row + 1)) row (λ k. k ≤ row + suc rows) (λ _. omega (arith, open_near shut rows (row + 1))) (λ _. omega arith) in
-    omega (arith, open_next shut rows row, found)
+    let row_found : (if shut row then next_open shut rows (row + 1) else row) ≤ row + suc rows =
+    cond_both (shut row) (next_open shut rows (row + 1)) row (λ found_row. found_row ≤ row + suc rows) (λ _. omega (arith, open_near shut rows (row + 1))) (λ _. omega arith) in
+    omega (arith, open_next shut rows row, row_found)

@@ -10,20 +10,20 @@ use Rattle.regions.specs.Place.{region_with, IsOf, RegionsTile}
 of_one : (config : Config) (address : ℕ) → IsWord config (Heap address) → IsOf config (region_with config address) address
 of_one config address heap =
     let words = config.region_words in
-    let some : 0 < words = omega (arith, config.in_range.least_words) in
-    let at_least : 1 ≤ address / words = le-div 1 address words some (omega (arith, heap.0)) in
-    let back : (address / words - 1 + 1) * words ≡ address / words * words = ap (λ (k : ℕ). k * words) (omega arith) in
-    record { from = omega (arith, back, div-mul-le_self address words); before = omega (arith, back, lt-div-mul-add {a = address} {b = words} some) }
+    let some_words : 0 < words = omega (arith, config.in_range.least_words) in
+    let at_least : 1 ≤ address / words = le-div 1 address words some_words (omega (arith, heap.0)) in
+    let same_row : (address / words - 1 + 1) * words ≡ address / words * words = ap (λ (number : ℕ). number * words) (omega arith) in
+    record { from = omega (arith, same_row, div-mul-le_self address words); before = omega (arith, same_row, lt-div-mul-add {a = address} {b = words} some_words) }
 
 pub regions_tile : RegionsTile
 regions_tile = record {
   of_one = of_one;
   in_range = λ config address heap.
-      let some : 0 < config.region_words = omega (arith, config.in_range.least_words) in
-      let below : address / config.region_words < config.regions + 1 = div_below address config.region_words (config.regions + 1) some heap.1 in
-      omega (arith, below, config.in_range.least_regions);
-  of_no_other = λ config region address of.
+      let some_words : 0 < config.region_words = omega (arith, config.in_range.least_words) in
+      let region_below : address / config.region_words < config.regions + 1 = div_below address config.region_words (config.regions + 1) some_words heap.1 in
+      omega (arith, region_below, config.in_range.least_regions);
+  of_no_other = λ config region address is_of.
       let row : address / config.region_words ≡ region + 1 = search (arith, div-eq_of_lt-le) in
       omega (arith, row);
-  in_heap = λ config region address below of. grind arith;
+  in_heap = λ config region address region_below is_of. grind arith;
 }

@@ -15,105 +15,105 @@ unfolding sum_below
 sum_none f = refl
 
 -- functions that agree below a number have one sum
-pub sum_same : (f g : ℕ → ℕ) (n : ℕ) → ((k : ℕ) → k < n → f k ≡ g k) → sum_below f n ≡ sum_below g n
-sum_same f g zero same = sum_none f ∙ sym (sum_none g)
-sum_same f g (suc n) same =
-    let rest = sum_same f g n (λ k below. same k (omega (arith, below))) in
-    omega (arith, rest, same n (omega arith), sum_next f n, sum_next g n)
+pub sum_same : (f g : ℕ → ℕ) (n : ℕ) → ((index : ℕ) → index < n → f index ≡ g index) → sum_below f n ≡ sum_below g n
+sum_same f g zero same_terms = sum_none f ∙ sym (sum_none g)
+sum_same f g (suc n) same_terms =
+    let same_rest = sum_same f g n (λ index index_below. same_terms index (omega (arith, index_below))) in
+    omega (arith, same_rest, same_terms n (omega arith), sum_next f n, sum_next g n)
 
 -- the sum of a sum
-pub sum_both : (f g : ℕ → ℕ) (n : ℕ) → sum_below (λ k. f k + g k) n ≡ sum_below f n + sum_below g n
-sum_both f g zero = omega (arith, sum_none f, sum_none g, sum_none (λ k. f k + g k))
-sum_both f g (suc n) = omega (arith, sum_both f g n, sum_next f n, sum_next g n, sum_next (λ k. f k + g k) n)
+pub sum_both : (f g : ℕ → ℕ) (n : ℕ) → sum_below (λ index. f index + g index) n ≡ sum_below f n + sum_below g n
+sum_both f g zero = omega (arith, sum_none f, sum_none g, sum_none (λ index. f index + g index))
+sum_both f g (suc n) = omega (arith, sum_both f g n, sum_next f n, sum_next g n, sum_next (λ index. f index + g index) n)
 
 -- a function that is 0 everywhere
-pub sum_of_none : (f : ℕ → ℕ) (n : ℕ) → ((k : ℕ) → k < n → f k ≡ 0) → sum_below f n ≡ 0
-sum_of_none f zero none = sum_none f
-sum_of_none f (suc n) none =
-    omega (arith, sum_of_none f n (λ k below. none k (omega (arith, below))), none n (omega arith), sum_next f n)
+pub sum_of_none : (f : ℕ → ℕ) (n : ℕ) → ((index : ℕ) → index < n → f index ≡ 0) → sum_below f n ≡ 0
+sum_of_none f zero no_terms = sum_none f
+sum_of_none f (suc n) no_terms =
+    omega (arith, sum_of_none f n (λ index index_below. no_terms index (omega (arith, index_below))), no_terms n (omega arith), sum_next f n)
 
 -- a function that is 0 everywhere but at one number
-pub sum_of_one : (f : ℕ → ℕ) (n q : ℕ) → q < n → ((k : ℕ) → k < n → k ≢ q → f k ≡ 0) → sum_below f n ≡ f q
-sum_of_one f zero q below none = absurd (omega (arith, below))
-sum_of_one f (suc n) q below none = ⊎_elim
-    (λ (last : n ≡ q).
-    let rest = sum_of_none f n (λ k less. none k (omega (arith, less)) (λ same. omega (arith, same, less, last))) in
-    let there : f n ≡ f q = ap f last in
-    omega (arith, rest, there, sum_next f n))
-    (λ (other : n ≢ q).
-    let rest = sum_of_one f n q (omega (arith, below, other)) (λ k less differs. none k (omega (arith, less)) differs) in
-    omega (arith, rest, none n (omega arith) other, sum_next f n))
-    (cases_eq n q)
+pub sum_of_one : (f : ℕ → ℕ) (n place : ℕ) → place < n → ((index : ℕ) → index < n → index ≢ place → f index ≡ 0) → sum_below f n ≡ f place
+sum_of_one f zero place place_below no_others = absurd (omega (arith, place_below))
+sum_of_one f (suc n) place place_below no_others = ⊎_elim
+    (λ (last_place : n ≡ place).
+    let rest_sum = sum_of_none f n (λ index index_less. no_others index (omega (arith, index_less)) (λ same_index. omega (arith, same_index, index_less, last_place))) in
+    let same_term : f n ≡ f place = ap f last_place in
+    omega (arith, rest_sum, same_term, sum_next f n))
+    (λ (earlier_place : n ≢ place).
+    let rest_sum = sum_of_one f n place (omega (arith, place_below, earlier_place)) (λ index index_less differs. no_others index (omega (arith, index_less)) differs) in
+    omega (arith, rest_sum, no_others n (omega arith) earlier_place, sum_next f n))
+    (cases_eq n place)
 
 -- a sum grows with the number of its terms
-pub sum_grows : (f : ℕ → ℕ) (m n : ℕ) → m ≤ n → sum_below f m ≤ sum_below f n
-sum_grows f m zero below = let same : m ≡ 0 = omega (arith, below) in subst (λ k. sum_below f m ≤ sum_below f k) same (omega arith)
-sum_grows f m (suc n) below = ⊎_elim
-    (λ (same : m ≡ suc n). subst (λ k. sum_below f m ≤ sum_below f k) same (omega arith))
-    (λ (differs : m ≢ suc n). omega (arith, sum_grows f m n (omega (arith, below, differs)), sum_next f n))
-    (cases_eq m (suc n))
+pub sum_grows : (f : ℕ → ℕ) (most_terms n : ℕ) → most_terms ≤ n → sum_below f most_terms ≤ sum_below f n
+sum_grows f most_terms zero fewer_terms = let same_bound : most_terms ≡ 0 = omega (arith, fewer_terms) in subst (λ bound. sum_below f most_terms ≤ sum_below f bound) same_bound (omega arith)
+sum_grows f most_terms (suc n) fewer_terms = ⊎_elim
+    (λ (same_bound : most_terms ≡ suc n). subst (λ bound. sum_below f most_terms ≤ sum_below f bound) same_bound (omega arith))
+    (λ (terms_differ : most_terms ≢ suc n). omega (arith, sum_grows f most_terms n (omega (arith, fewer_terms, terms_differ)), sum_next f n))
+    (cases_eq most_terms (suc n))
 
 -- A sum over numbers is at most one over things, where each number that gives something has a thing of its own that gives
 -- as much.
-pub sum_of_things : (f g : ℕ → ℕ) (n m : ℕ) (pick : (a : ℕ) → a < n → 0 < f a → (k : ℕ) × (k < m) × (f a ≤ g k))
-    → ((a b : ℕ) (less_a : a < n) (some_a : 0 < f a) (less_b : b < n) (some_b : 0 < f b) → (pick a less_a some_a).0 ≡ (pick b less_b some_b).0 → a ≡ b)
-    → sum_below f n ≤ sum_below g m
-sum_of_things f g zero m pick once = let none = sum_none f in omega (arith, none)
-sum_of_things f g (suc n) m pick once =
-    let later : (a : ℕ) → a < n → a < suc n = λ a less. omega (arith, less) in
+pub sum_of_things : (f g : ℕ → ℕ) (n other_count : ℕ) (pick : (thing : ℕ) → thing < n → 0 < f thing → (place : ℕ) × (place < other_count) × (f thing ≤ g place))
+    → ((thing other_thing : ℕ) (less_a : thing < n) (first_some : 0 < f thing) (less_b : other_thing < n) (second_some : 0 < f other_thing) → (pick thing less_a first_some).0 ≡ (pick other_thing less_b second_some).0 → thing ≡ other_thing)
+    → sum_below f n ≤ sum_below g other_count
+sum_of_things f g zero other_count pick picked_once = let no_term = sum_none f in omega (arith, no_term)
+sum_of_things f g (suc n) other_count pick picked_once =
+    let later : (thing : ℕ) → thing < n → thing < suc n = λ thing thing_less. omega (arith, thing_less) in
     ⊎_elim
-    (λ (none : f n ≡ 0).
-    let rest = sum_of_things f g n m (λ a less some. pick a (later a less) some) (λ a b less_a some_a less_b some_b same. once a b (later a less_a) some_a (later b less_b) some_b same) in
-    omega (arith, rest, none, sum_next f n))
-    (λ (differs : f n ≢ 0).
-    let last : n < suc n = omega arith in
-    let begins : 0 < f n = omega (arith, differs) in
-    let mine = pick n last begins in
-    let q = mine.0 in
-    let others : ℕ → ℕ = λ k. if k == q then 0 else g k in
-    let one : ℕ → ℕ = λ k. if k == q then g k else 0 in
-    let split : sum_below g m ≡ sum_below (λ k. others k + one k) m = sum_same g (λ k. others k + one k) m (λ k _. ⊎_elim
-    (λ (here : k ≡ q). let left = cond-true (k == q) 0 (g k) (eq-eqb k q here) in let right = cond-true (k == q) (g k) 0 (eq-eqb k q here) in omega (arith, left, right))
-    (λ (other : k ≢ q). let left = cond-false (k == q) 0 (g k) (ne_eqb k q other) in let right = cond-false (k == q) (g k) 0 (ne_eqb k q other) in omega (arith, left, right))
-    (cases_eq k q)) in
-    let alone : sum_below one m ≡ one q = sum_of_one one m q mine.1 (λ k _ other. cond-false (k == q) (g k) 0 (ne_eqb k q other)) in
-    let there : one q ≡ g q = cond-true (q == q) (g q) 0 (eq-eqb q q refl) in
-    let Picked : ℕ → Type 0 = λ a. (k : ℕ) × (k < m) × (f a ≤ others k) in
-    let again : (a : ℕ) → a < n → 0 < f a → Picked a = λ a less some.
-    let at = pick a (later a less) some in (
-      at.0,
-      at.1,
-      (let apart : at.0 ≢ q = λ same. (let one_place = once a n (later a less) some last begins same in omega (arith, one_place, less)) in
-          let kept : others at.0 ≡ g at.0 = cond-false (at.0 == q) 0 (g at.0) (ne_eqb at.0 q apart) in
-          omega (arith, at.2, kept)),
+    (λ (no_term : f n ≡ 0).
+    let rest_sum = sum_of_things f g n other_count (λ thing thing_less some_thing. pick thing (later thing thing_less) some_thing) (λ thing other_thing less_a first_some less_b second_some same_pick. picked_once thing other_thing (later thing less_a) first_some (later other_thing less_b) second_some same_pick) in
+    omega (arith, rest_sum, no_term, sum_next f n))
+    (λ (term_differs : f n ≢ 0).
+    let last_less : n < suc n = omega arith in
+    let begins : 0 < f n = omega (arith, term_differs) in
+    let own_pick = pick n last_less begins in
+    let own_place = own_pick.0 in
+    let others : ℕ → ℕ = λ place. if place == own_place then 0 else g place in
+    let own_term : ℕ → ℕ = λ place. if place == own_place then g place else 0 in
+    let split : sum_below g other_count ≡ sum_below (λ place. others place + own_term place) other_count = sum_same g (λ place. others place + own_term place) other_count (λ place _. ⊎_elim
+    (λ (same_place : place ≡ own_place). let term_known = cond-true (place == own_place) 0 (g place) (eq-eqb place own_place same_place) in let right = cond-true (place == own_place) (g place) 0 (eq-eqb place own_place same_place) in omega (arith, term_known, right))
+    (λ (other_place : place ≢ own_place). let term_known = cond-false (place == own_place) 0 (g place) (ne_eqb place own_place other_place) in let right = cond-false (place == own_place) (g place) 0 (ne_eqb place own_place other_place) in omega (arith, term_known, right))
+    (cases_eq place own_place)) in
+    let alone : sum_below own_term other_count ≡ own_term own_place = sum_of_one own_term other_count own_place own_pick.1 (λ place _ other_place. cond-false (place == own_place) (g place) 0 (ne_eqb place own_place other_place)) in
+    let own_amount : own_term own_place ≡ g own_place = cond-true (own_place == own_place) (g own_place) 0 (eq-eqb own_place own_place refl) in
+    let Picked : ℕ → Type 0 = λ thing. (place : ℕ) × (place < other_count) × (f thing ≤ others place) in
+    let picked_again : (thing : ℕ) → thing < n → 0 < f thing → Picked thing = λ thing thing_less some_thing.
+    let picked = pick thing (later thing thing_less) some_thing in (
+      picked.0,
+      picked.1,
+      (let place_apart : picked.0 ≢ own_place = λ same_pick. (let one_place = picked_once thing n (later thing thing_less) some_thing last_less begins same_pick in omega (arith, one_place, thing_less)) in
+          let kept_term : others picked.0 ≡ g picked.0 = cond-false (picked.0 == own_place) 0 (g picked.0) (ne_eqb picked.0 own_place place_apart) in
+          omega (arith, picked.2, kept_term)),
     )
     in
-    let rest = sum_of_things f others n m again (λ a b less_a some_a less_b some_b same. once a b (later a less_a) some_a (later b less_b) some_b same) in
-    omega (arith, rest, split, sum_both others one m, alone, there, mine.2, sum_next f n))
+    let rest_sum = sum_of_things f others n other_count picked_again (λ thing other_thing less_a first_some less_b second_some same_pick. picked_once thing other_thing (later thing less_a) first_some (later other_thing less_b) second_some same_pick) in
+    omega (arith, rest_sum, split, sum_both others own_term other_count, alone, own_amount, own_pick.2, sum_next f n))
     (cases_eq (f n) 0)
 
 -- the first term of a sum by itself
-pub sum_front : (f : ℕ → ℕ) (n : ℕ) → sum_below f (suc n) ≡ f 0 + sum_below (λ k. f (suc k)) n
-sum_front f zero = omega (arith, sum_next f 0, sum_none f, sum_none (λ k. f (suc k)))
-sum_front f (suc n) = omega (arith, sum_front f n, sum_next f (suc n), sum_next (λ k. f (suc k)) n)
+pub sum_front : (f : ℕ → ℕ) (n : ℕ) → sum_below f (suc n) ≡ f 0 + sum_below (λ index. f (suc index)) n
+sum_front f zero = omega (arith, sum_next f 0, sum_none f, sum_none (λ index. f (suc index)))
+sum_front f (suc n) = omega (arith, sum_front f n, sum_next f (suc n), sum_next (λ index. f (suc index)) n)
 
 -- the sum over a list by its indexes
-pub sum_by_index : {X : Type 0} (size : X → ℕ) (xs : List X) (d : X) → sum_by size xs ≡ sum_below (λ index. size (get_or xs index d)) (length xs)
-sum_by_index size [] d = sym (sum_none (λ k. size (get_or [] k d)))
-sum_by_index size (x ∷ xs) d =
-    sum_by-cons size x xs ∙ ap (λ rest. size x + rest) (sum_by_index size xs d) ∙ sym (sum_front (λ index. size (get_or (x ∷ xs) index d)) (length xs))
+pub sum_by_index : {X : Type 0} (size : X → ℕ) (xs : List X) (default : X) → sum_by size xs ≡ sum_below (λ index. size (get_or xs index default)) (length xs)
+sum_by_index size [] default = sym (sum_none (λ number. size (get_or [] number default)))
+sum_by_index size (x ∷ xs) default =
+    sum_by-cons size x xs ∙ ap (λ rest. size x + rest) (sum_by_index size xs default) ∙ sym (sum_front (λ index. size (get_or (x ∷ xs) index default)) (length xs))
 
 -- the sum over two rows of numbers, one behind the other
-pub sum_of_two_rows : (f g : ℕ → ℕ) (n m : ℕ) → sum_below (λ k. if nat_lt k n then f k else g (k - n)) (n + m) ≡ sum_below f n + sum_below g m
+pub sum_of_two_rows : (f g : ℕ → ℕ) (n other_count : ℕ) → sum_below (λ index. if nat_lt index n then f index else g (index - n)) (n + other_count) ≡ sum_below f n + sum_below g other_count
 sum_of_two_rows f g n zero =
-    let both : ℕ → ℕ = λ k. if nat_lt k n then f k else g (k - n) in
-    let same = sum_same both f n (λ k below. cond-true (nat_lt k n) (f k) (g (k - n)) (lt-ltb k n below)) in
-    let plain : sum_below both (n + 0) ≡ sum_below both n = (let e : n + 0 ≡ n = omega arith in ap (sum_below both) e) in
-    omega (arith, same, plain, sum_none g)
-sum_of_two_rows f g n (suc m) =
-    let both : ℕ → ℕ = λ k. if nat_lt k n then f k else g (k - n) in
-    let next : suc (n + m) ≡ n + suc m = omega arith in
-    let step : sum_below both (n + suc m) ≡ sum_below both (n + m) + both (n + m) = ap (sum_below both) (sym next) ∙ sum_next both (n + m) in
-    let back : n + m - n ≡ m = omega arith in
-    let last : both (n + m) ≡ g m = cond-false (nat_lt (n + m) n) (f (n + m)) (g (n + m - n)) (le-ltb (n + m) n (omega arith)) ∙ ap g back in
-    omega (arith, sum_of_two_rows f g n m, step, last, sum_next g m)
+    let joined_terms : ℕ → ℕ = λ index. if nat_lt index n then f index else g (index - n) in
+    let front_sum = sum_same joined_terms f n (λ index index_below. cond-true (nat_lt index n) (f index) (g (index - n)) (lt-ltb index n index_below)) in
+    let plain_sum : sum_below joined_terms (n + 0) ≡ sum_below joined_terms n = (let no_more : n + 0 ≡ n = omega arith in ap (sum_below joined_terms) no_more) in
+    omega (arith, front_sum, plain_sum, sum_none g)
+sum_of_two_rows f g n (suc other_count) =
+    let joined_terms : ℕ → ℕ = λ index. if nat_lt index n then f index else g (index - n) in
+    let next_number : suc (n + other_count) ≡ n + suc other_count = omega arith in
+    let step : sum_below joined_terms (n + suc other_count) ≡ sum_below joined_terms (n + other_count) + joined_terms (n + other_count) = ap (sum_below joined_terms) (sym next_number) ∙ sum_next joined_terms (n + other_count) in
+    let back_index : n + other_count - n ≡ other_count = omega arith in
+    let last_term : joined_terms (n + other_count) ≡ g other_count = cond-false (nat_lt (n + other_count) n) (f (n + other_count)) (g (n + other_count - n)) (le-ltb (n + other_count) n (omega arith)) ∙ ap g back_index in
+    omega (arith, sum_of_two_rows f g n other_count, step, last_term, sum_next g other_count)

@@ -9,116 +9,116 @@ use Rattle.regions.specs.Place.{base_of}
 use Rattle.regions.specs.Walk.{stride_at, Walks, met_within, met_from, IsParsableStretch, MeetsExactly, WalksMeetEach, WalkGoesOn, WalkStaysInRegion}
 
 -- an element of a list with a head is the head or a later one
-head_or_later_at : (index a : ℕ) (later : List ℕ) (x : ℕ) → index < length (a ∷ later) → get_or (a ∷ later) index x ≡ x → (a ≡ x) ⊎ Contains later x
-head_or_later_at zero a later x below same = inl same
-head_or_later_at (suc index) a later x below same = inr (index, omega arith, same)
+head_or_later_at : (index head : ℕ) (later : List ℕ) (address : ℕ) → index < length (head ∷ later) → get_or (head ∷ later) index address ≡ address → (head ≡ address) ⊎ Contains later address
+head_or_later_at zero head later address index_below found_there = inl found_there
+head_or_later_at (suc index) head later address index_below found_there = inr (index, omega arith, found_there)
 
-head_or_later : (a : ℕ) (later : List ℕ) (x : ℕ) → Contains (a ∷ later) x → (a ≡ x) ⊎ Contains later x
-head_or_later a later x contains = head_or_later_at contains.0 a later x contains.1 contains.2
+head_or_later : (head : ℕ) (later : List ℕ) (address : ℕ) → Contains (head ∷ later) address → (head ≡ address) ⊎ Contains later address
+head_or_later head later address contains = head_or_later_at contains.0 head later address contains.1 contains.2
 
-contains_head : (a : ℕ) (later : List ℕ) (x : ℕ) → a ≡ x → Contains (a ∷ later) x
-contains_head a later x same = (0, omega arith, same)
+contains_head : (head : ℕ) (later : List ℕ) (address : ℕ) → head ≡ address → Contains (head ∷ later) address
+contains_head head later address is_head = (0, omega arith, is_head)
 
-contains_later : (a : ℕ) (later : List ℕ) (x : ℕ) → Contains later x → Contains (a ∷ later) x
-contains_later a later x contains = Contains-append_right (a ∷ []) later x contains
+contains_later : (head : ℕ) (later : List ℕ) (address : ℕ) → Contains later address → Contains (head ∷ later) address
+contains_later head later address contains = Contains-append_right (head ∷ []) later address contains
 
 -- a walk never comes to an address below the one from which it set out
 pub walks_up : (words : ℕ → ℕ) (from end : ℕ) (addresses : List ℕ) → Walks words from end addresses → from ≤ end
 walks_up words from end [] walk = omega arith
-walks_up words from end (a ∷ later) walk = omega (arith, walk.0, walks_up words (a + words a) end later walk.2)
+walks_up words from end (head ∷ later) walk = omega (arith, walk.0, walks_up words (head + words head) end later walk.2)
 
 -- an address that is met lies between the two, with all of its words
 pub met_inside : (words : ℕ → ℕ) (from end : ℕ) (addresses : List ℕ) → Walks words from end addresses
-    → (x : ℕ) → Contains addresses x → (from ≤ x) × (x < x + words x) × (x + words x ≤ end)
-met_inside words from end [] walk x contains = absurd (omega (arith, contains.1))
-met_inside words from end (a ∷ later) walk x contains =
-    let Inside : ℕ → Type 0 = λ y. (from ≤ y) × (y < y + words y) × (y + words y ≤ end) in
-    let up : a + words a ≤ end = walks_up words (a + words a) end later walk.2 in
-    let first : Inside a = (omega (arith, walk.0), omega (arith, walk.1), up) in
+    → (address : ℕ) → Contains addresses address → (from ≤ address) × (address < address + words address) × (address + words address ≤ end)
+met_inside words from end [] walk address contains = absurd (omega (arith, contains.1))
+met_inside words from end (head ∷ later) walk address contains =
+    let Inside : ℕ → Type 0 = λ met_address. (from ≤ met_address) × (met_address < met_address + words met_address) × (met_address + words met_address ≤ end) in
+    let head_ends : head + words head ≤ end = walks_up words (head + words head) end later walk.2 in
+    let head_inside : Inside head = (omega (arith, walk.0), omega (arith, walk.1), head_ends) in
     ⊎_elim
-    (λ (e : a ≡ x). subst Inside e first)
-    (λ (in_later : Contains later x).
-    let rest = met_inside words (a + words a) end later walk.2 x in_later in
+    (λ (is_head : head ≡ address). subst Inside is_head head_inside)
+    (λ (in_later : Contains later address).
+    let rest = met_inside words (head + words head) end later walk.2 address in_later in
     (omega (arith, walk.0, rest.0), rest.1, rest.2))
-    (head_or_later a later x contains)
+    (head_or_later head later address contains)
 
 -- what comes later than the first is above it, with all words of the first between
-later_above : (words : ℕ → ℕ) (a end : ℕ) (later : List ℕ) → Walks words (a + words a) end later → (x : ℕ) → Contains later x → a + words a ≤ x
-later_above words a end later walk x contains = (met_inside words (a + words a) end later walk x contains).0
+later_above : (words : ℕ → ℕ) (head end : ℕ) (later : List ℕ) → Walks words (head + words head) end later → (address : ℕ) → Contains later address → head + words head ≤ address
+later_above words head end later walk address contains = (met_inside words (head + words head) end later walk address contains).0
 
 met_pairs : (words : ℕ → ℕ) (from end : ℕ) (addresses : List ℕ) → Walks words from end addresses → AllPairs (λ x y. x < y) addresses
-met_pairs words from end [] walk = λ i j d below last. absurd (omega (arith, last))
-met_pairs words from end (a ∷ later) walk =
-    AllPairs-cons (λ x y. x < y) a later
-    (λ index d below. let above = later_above words a end later walk.2 (get_or later index d) (Contains-get_or later index d below) in omega (arith, above, walk.1))
-    (met_pairs words (a + words a) end later walk.2)
+met_pairs words from end [] walk = λ earlier later_index otherwise index_below last_below. absurd (omega (arith, last_below))
+met_pairs words from end (head ∷ later) walk =
+    AllPairs-cons (λ x y. x < y) head later
+    (λ index otherwise index_below. let above_head = later_above words head end later walk.2 (get_or later index otherwise) (Contains-get_or later index otherwise index_below) in omega (arith, above_head, walk.1))
+    (met_pairs words (head + words head) end later walk.2)
 
 -- the addresses go up
 pub met_increasing : (words : ℕ → ℕ) (from end : ℕ) (addresses : List ℕ) → Walks words from end addresses → IsStrictlyIncreasing addresses
-met_increasing words from end addresses walk = λ k below. met_pairs words from end addresses walk k (k + 1) 0 (omega arith) below
+met_increasing words from end addresses walk = λ index index_below. met_pairs words from end addresses walk index (index + 1) 0 (omega arith) index_below
 
 -- no two things that are met share a word
 pub met_apart : (words : ℕ → ℕ) (from end : ℕ) (addresses : List ℕ) → Walks words from end addresses
-    → (x y : ℕ) → Contains addresses x → Contains addresses y → x < y → x + words x ≤ y
-met_apart words from end [] walk x y hx hy below = absurd (omega (arith, hx.1))
-met_apart words from end (a ∷ later) walk x y hx hy below =
-    let Apart : ℕ → Type 0 = λ z. z < y → z + words z ≤ y in
+    → (lower_address upper_address : ℕ) → Contains addresses lower_address → Contains addresses upper_address → lower_address < upper_address → lower_address + words lower_address ≤ upper_address
+met_apart words from end [] walk lower_address upper_address lower_met upper_met in_order = absurd (omega (arith, lower_met.1))
+met_apart words from end (head ∷ later) walk lower_address upper_address lower_met upper_met in_order =
+    let Apart : ℕ → Type 0 = λ met_address. met_address < upper_address → met_address + words met_address ≤ upper_address in
     ⊎_elim
-    (λ (x_first : a ≡ x). subst Apart x_first
+    (λ (x_first : head ≡ lower_address). subst Apart x_first
     (⊎_elim
-    (λ (y_first : a ≡ y). λ (lower : a < y). absurd (omega arith))
-    (λ (y_later : Contains later y). λ (lower : a < y). later_above words a end later walk.2 y y_later)
-    (head_or_later a later y hy)) below)
-    (λ (x_later : Contains later x).
-    let above = later_above words a end later walk.2 x x_later in
+    (λ (y_first : head ≡ upper_address). λ (lower : head < upper_address). absurd (omega arith))
+    (λ (y_later : Contains later upper_address). λ (lower : head < upper_address). later_above words head end later walk.2 upper_address y_later)
+    (head_or_later head later upper_address upper_met)) in_order)
+    (λ (x_later : Contains later lower_address).
+    let above_head = later_above words head end later walk.2 lower_address x_later in
     ⊎_elim
-    (λ (y_first : a ≡ y). absurd (omega (arith, above, walk.1)))
-    (λ (y_later : Contains later y). met_apart words (a + words a) end later walk.2 x y x_later y_later below)
-    (head_or_later a later y hy))
-    (head_or_later a later x hx)
+    (λ (y_first : head ≡ upper_address). absurd (omega (arith, above_head, walk.1)))
+    (λ (y_later : Contains later upper_address). met_apart words (head + words head) end later walk.2 lower_address upper_address x_later y_later in_order)
+    (head_or_later head later upper_address upper_met))
+    (head_or_later head later lower_address lower_met)
 
 -- each word from the one to before the other is one of a thing that is met
 pub met_covered : (words : ℕ → ℕ) (from end : ℕ) (addresses : List ℕ) → Walks words from end addresses
-    → (word : ℕ) → from ≤ word → word < end → (a : ℕ) × Contains addresses a × (a ≤ word) × (word < a + words a)
-met_covered words from end [] walk word above below = absurd (omega arith)
-met_covered words from end (a ∷ later) walk word above below =
+    → (word : ℕ) → from ≤ word → word < end → (address : ℕ) × Contains addresses address × (address ≤ word) × (word < address + words address)
+met_covered words from end [] walk word word_above word_below = absurd (omega arith)
+met_covered words from end (address ∷ later) walk word word_above word_below =
     ⊎_elim
-    (λ (here : word < a + words a). (a, contains_head a later a refl, omega (arith, walk.0), here))
-    (λ (there : a + words a ≤ word).
-    let found = met_covered words (a + words a) end later walk.2 word there below in
-    (found.0, contains_later a later found.0 found.1, found.2, found.3))
-    (cases_lt word (a + words a))
+    (λ (in_first : word < address + words address). (address, contains_head address later address refl, omega (arith, walk.0), in_first))
+    (λ (past_first : address + words address ≤ word).
+    let found = met_covered words (address + words address) end later walk.2 word past_first word_below in
+    (found.0, contains_later address later found.0 found.1, found.2, found.3))
+    (cases_lt word (address + words address))
 
 -- an address to which one comes from the same start is met
 pub met_reached : (words : ℕ → ℕ) (from end : ℕ) (addresses : List ℕ) → Walks words from end addresses
     → (other_end : ℕ) (before : List ℕ) → Walks words from other_end before → other_end < end → Contains addresses other_end
-met_reached words from end [] walk other_end before to_x below = absurd (omega (arith, walk, walks_up words from other_end before to_x))
-met_reached words from end (a ∷ later) walk x [] to_x below = contains_head a later x (walk.0 ∙ to_x)
-met_reached words from end (a ∷ later) walk x (b ∷ before) to_x below =
-    let From : ℕ → Type 0 = λ y. Walks words (y + words y) x before in
-    contains_later a later x
-    (met_reached words (a + words a) end later walk.2 x before (subst From (to_x.0 ∙ sym walk.0) to_x.2) below)
+met_reached words from end [] walk other_end before to_x end_below = absurd (omega (arith, walk, walks_up words from other_end before to_x))
+met_reached words from end (head ∷ later) walk reached_end [] to_x end_below = contains_head head later reached_end (walk.0 ∙ to_x)
+met_reached words from end (head ∷ later) walk reached_end (other_head ∷ before) to_x end_below =
+    let From : ℕ → Type 0 = λ met_address. Walks words (met_address + words met_address) reached_end before in
+    contains_later head later reached_end
+    (met_reached words (head + words head) end later walk.2 reached_end before (subst From (to_x.0 ∙ sym walk.0) to_x.2) end_below)
 
 -- the words of all together
 pub met_whole : (words : ℕ → ℕ) (from end : ℕ) (addresses : List ℕ) → Walks words from end addresses → from + sum_by words addresses ≡ end
 met_whole words from end [] walk = omega arith
-met_whole words from end (a ∷ later) walk =
-    omega (arith, walk.0, sum_by-cons words a later, met_whole words (a + words a) end later walk.2)
+met_whole words from end (head ∷ later) walk =
+    omega (arith, walk.0, sum_by-cons words head later, met_whole words (head + words head) end later walk.2)
 
 -- with enough steps the walk is found
 pub met_found : (steps : ℕ) (words : ℕ → ℕ) (from end : ℕ) (addresses : List ℕ) → Walks words from end addresses
     → end ≤ from + steps → met_within steps words from end ≡ addresses
 met_found zero words from end [] walk enough = refl
 met_found (suc steps) words from end [] walk enough = cond-false (nat_lt from end) _ _ (le-ltb from end (omega arith))
-met_found zero words from end (a ∷ later) walk enough =
-    absurd (omega (arith, walk.0, walk.1, walks_up words (a + words a) end later walk.2))
-met_found (suc steps) words from end (a ∷ later) walk enough =
-    let up = walks_up words (a + words a) end later walk.2 in
-    let Found : ℕ → Type 0 = λ y. y ∷ met_within steps words (y + words y) end ≡ a ∷ later in
-    cond-true (nat_lt from end) _ _ (lt-ltb from end (omega (arith, up, walk.0, walk.1)))
+met_found zero words from end (head ∷ later) walk enough =
+    absurd (omega (arith, walk.0, walk.1, walks_up words (head + words head) end later walk.2))
+met_found (suc steps) words from end (head ∷ later) walk enough =
+    let later_up = walks_up words (head + words head) end later walk.2 in
+    let Found : ℕ → Type 0 = λ met_address. met_address ∷ met_within steps words (met_address + words met_address) end ≡ head ∷ later in
+    cond-true (nat_lt from end) _ _ (lt-ltb from end (omega (arith, later_up, walk.0, walk.1)))
     ∙ subst Found walk.0
-    (ap (λ (rest : List ℕ). a ∷ rest)
-    (met_found steps words (a + words a) end later walk.2 (omega (arith, walk.0, walk.1))))
+    (ap (λ (rest : List ℕ). head ∷ rest)
+    (met_found steps words (head + words head) end later walk.2 (omega (arith, walk.0, walk.1))))
 
 pub walks_meet_each : WalksMeetEach
 walks_meet_each words from end addresses walk = record {
@@ -134,13 +134,13 @@ walks_meet_each words from end addresses walk = record {
 -- what stands behind the first thing is parsable too
 parsable_later : (Begins : ℕ → Type 0) (words : ℕ → ℕ) (from end : ℕ) → IsParsableStretch Begins words from end → from < end
     → IsParsableStretch Begins words (from + words from) end
-parsable_later Begins words from end parsable below = record {
-  order = parsable.inside from (parsable.first below) (omega arith) below;
-  first = λ on. parsable.next from (parsable.first below) (omega arith) on;
-  next = λ a begins above. parsable.next a begins (omega arith);
-  some = λ a begins above. parsable.some a begins (omega arith);
-  inside = λ a begins above. parsable.inside a begins (omega arith);
-  apart = λ a b begins_a begins_b above. parsable.apart a b begins_a begins_b (omega arith);
+parsable_later Begins words from end parsable from_below = record {
+  order = parsable.inside from (parsable.first from_below) (omega arith) from_below;
+  first = λ words_left. parsable.next from (parsable.first from_below) (omega arith) words_left;
+  next = λ address begins address_above. parsable.next address begins (omega arith);
+  some = λ address begins address_above. parsable.some address begins (omega arith);
+  inside = λ address begins address_above. parsable.inside address begins (omega arith);
+  apart = λ address later_address begins_a begins_b address_above. parsable.apart address later_address begins_a begins_b (omega arith);
 }
 
 parsable_walks : (steps : ℕ) (Begins : ℕ → Type 0) (words : ℕ → ℕ) (from end : ℕ) → IsParsableStretch Begins words from end
@@ -150,29 +150,29 @@ parsable_walks (suc steps) Begins words from end parsable enough =
     cond_both (nat_lt from end) (from ∷ met_within steps words (from + words from) end) []
     (λ (met : List ℕ). Walks words from end met)
     (λ test.
-    let below : from < end = ltb-true from end test in
-    let some : 0 < words from = parsable.some from (parsable.first below) (omega arith) below in (
+    let from_below : from < end = ltb-true from end test in
+    let some_words : 0 < words from = parsable.some from (parsable.first from_below) (omega arith) from_below in (
       refl,
-      some,
-      parsable_walks steps Begins words (from + words from) end (parsable_later Begins words from end parsable below)
+      some_words,
+      parsable_walks steps Begins words (from + words from) end (parsable_later Begins words from end parsable from_below)
           (omega arith),
     ))
-    (λ test. let past : end ≤ from = ltb-false from end test in omega (arith, parsable.order))
+    (λ test. let past_end : end ≤ from = ltb-false from end test in omega (arith, parsable.order))
 
 -- at each address that is met a thing begins
 parsable_begins : (Begins : ℕ → Type 0) (words : ℕ → ℕ) (from end : ℕ) (addresses : List ℕ) → IsParsableStretch Begins words from end
-    → Walks words from end addresses → (x : ℕ) → Contains addresses x → Begins x
-parsable_begins Begins words from end [] parsable walk x contains = absurd (omega (arith, contains.1))
-parsable_begins Begins words from end (a ∷ later) parsable walk x contains =
-    let up = walks_up words (a + words a) end later walk.2 in
-    let below : from < end = omega (arith, up, walk.0, walk.1) in
-    let Later : ℕ → Type 0 = λ y. Walks words (y + words y) end later in
+    → Walks words from end addresses → (address : ℕ) → Contains addresses address → Begins address
+parsable_begins Begins words from end [] parsable walk address contains = absurd (omega (arith, contains.1))
+parsable_begins Begins words from end (head ∷ later) parsable walk address contains =
+    let later_up = walks_up words (head + words head) end later walk.2 in
+    let from_below : from < end = omega (arith, later_up, walk.0, walk.1) in
+    let Later : ℕ → Type 0 = λ met_address. Walks words (met_address + words met_address) end later in
     ⊎_elim
-    (λ (e : a ≡ x). subst Begins (sym walk.0 ∙ e) (parsable.first below))
-    (λ (in_later : Contains later x).
-    parsable_begins Begins words (from + words from) end later (parsable_later Begins words from end parsable below)
-    (subst Later walk.0 walk.2) x in_later)
-    (head_or_later a later x contains)
+    (λ (is_head : head ≡ address). subst Begins (sym walk.0 ∙ is_head) (parsable.first from_below))
+    (λ (in_later : Contains later address).
+    parsable_begins Begins words (from + words from) end later (parsable_later Begins words from end parsable from_below)
+    (subst Later walk.0 walk.2) address in_later)
+    (head_or_later head later address contains)
 
 -- where the heap is parsable, a walk meets exactly what begins there
 pub parsable_is_walked : (Begins : ℕ → Type 0) (words : ℕ → ℕ) (from end : ℕ) → IsParsableStretch Begins words from end
@@ -183,37 +183,37 @@ parsable_is_walked Begins words from end parsable =
     record {
       walks = walk;
       begins = begin;
-      all = λ a begins above below.
-          let found = met_covered words from end (met_from words from end) walk a above below in
+      all = λ address begins address_above address_below.
+          let found = met_covered words from end (met_from words from end) walk address address_above address_below in
           let begins_found = begin found.0 found.1 in
           let inside = met_inside words from end (met_from words from end) walk found.0 found.1 in
           ⊎_elim
-          (λ (lower : found.0 < a).
-          absurd (omega (arith, found.3, parsable.apart found.0 a begins_found begins inside.0 lower below)))
-          (λ (same : a ≤ found.0).
-          let In : ℕ → Type 0 = λ y. Contains (met_from words from end) y in
-          subst In (omega (arith, found.2, same)) found.1)
-          (cases_lt found.0 a);
+          (λ (lower : found.0 < address).
+          absurd (omega (arith, found.3, parsable.apart found.0 address begins_found begins inside.0 lower address_below)))
+          (λ (not_below : address ≤ found.0).
+          let In : ℕ → Type 0 = λ met_address. Contains (met_from words from end) met_address in
+          subst In (omega (arith, found.2, not_below)) found.1)
+          (cases_lt found.0 address);
     }
 
 -- a walk with one more step
-walk_push : (words : ℕ → ℕ) (from at : ℕ) (before : List ℕ) → Walks words from at before → 0 < words at
-    → Walks words from (at + words at) (before ++ at ∷ [])
-walk_push words from at [] walk positive = (sym walk, positive, refl)
-walk_push words from at (a ∷ later) walk positive =
-    (walk.0, walk.1, walk_push words (a + words a) at later walk.2 positive)
+walk_push : (words : ℕ → ℕ) (from address : ℕ) (before : List ℕ) → Walks words from address before → 0 < words address
+    → Walks words from (address + words address) (before ++ address ∷ [])
+walk_push words from address [] walk positive = (sym walk, positive, refl)
+walk_push words from address (head ∷ later) walk positive =
+    (walk.0, walk.1, walk_push words (head + words head) address later walk.2 positive)
 
 -- a walk that has come so far goes on to the address behind, which is not past the end
 pub walk_goes_on : WalkGoesOn
-walk_goes_on words from at end addresses before whole walk below =
-    let reached = met_reached words from end addresses whole at before walk below in
-    let inside = met_inside words from end addresses whole at reached in
-    (inside.1, inside.2, walk_push words from at before walk (omega (arith, inside.1)))
+walk_goes_on words from address end addresses before whole_walk walk address_below =
+    let reached = met_reached words from end addresses whole_walk address before walk address_below in
+    let inside = met_inside words from end addresses whole_walk address reached in
+    (inside.1, inside.2, walk_push words from address before walk (omega (arith, inside.1)))
 
 -- what a walk meets from a region's base to its top is of that region
 pub walk_stays_in_region : WalkStaysInRegion
-walk_stays_in_region config heap region top addresses within walk a met =
-    let inside = met_inside (stride_at heap) (base_of config region) (base_of config region + top) addresses walk a met in (
+walk_stays_in_region config heap region top addresses within walk met_address met =
+    let inside = met_inside (stride_at heap) (base_of config region) (base_of config region + top) addresses walk met_address met in (
       record { from = inside.0; before = omega (arith, inside.1, inside.2) },
       record { from = omega (arith, inside.0, inside.1); before = omega (arith, inside.1, inside.2) },
     )

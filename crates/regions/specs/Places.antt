@@ -24,36 +24,36 @@ next_open shut zero row = row
 next_open shut (suc rows) row = if shut row then next_open shut rows (row + 1) else row
 
 -- the first row that has room for so many words behind what ends at an address, be it shut or not
-abbrev pub first_row : (region_words : ℕ) → (at words : ℕ) → ℕ
-first_row region_words at words = if nat_le (at % region_words + words) region_words then at / region_words else at / region_words + 1
+abbrev pub first_row : (region_words : ℕ) → (end words : ℕ) → ℕ
+first_row region_words end words = if nat_le (end % region_words + words) region_words then end / region_words else end / region_words + 1
 
 -- the first of these that is open: a heap has at most 64 rows
-abbrev pub open_row : (region_words : ℕ) (shut : ℕ → Bool) → (at words : ℕ) → ℕ
-open_row region_words shut at words = next_open shut 64 (first_row region_words at words)
+abbrev pub open_row : (region_words : ℕ) (shut : ℕ → Bool) → (end words : ℕ) → ℕ
+open_row region_words shut end words = next_open shut 64 (first_row region_words end words)
 
 -- Where so many words go that are placed behind what ends at an address: there, or, where they do not fit into its region or
 -- that is shut, at the base of the next one that is open. No words go nowhere.
-abbrev pub place_around : (region_words : ℕ) (shut : ℕ → Bool) → (at words : ℕ) → ℕ
-place_around region_words shut at words =
-    if words == 0 then at else (if open_row region_words shut at words == at / region_words then at else open_row region_words shut at words * region_words)
+abbrev pub place_around : (region_words : ℕ) (shut : ℕ → Bool) → (end words : ℕ) → ℕ
+place_around region_words shut end words =
+    if words == 0 then end else (if open_row region_words shut end words == end / region_words then end else open_row region_words shut end words * region_words)
 
 -- where so many words go where nothing is shut
-abbrev pub place_behind : (region_words : ℕ) → (at words : ℕ) → ℕ
-place_behind region_words at words = if nat_le (at % region_words + words) region_words then at else (at / region_words + 1) * region_words
+abbrev pub place_behind : (region_words : ℕ) → (end words : ℕ) → ℕ
+place_behind region_words end words = if nat_le (end % region_words + words) region_words then end else (end / region_words + 1) * region_words
 
 -- the words of the kept objects in open regions: those in shut ones count for nothing in packing
 abbrev pub open_kept : (region_words : ℕ) (shut : ℕ → Bool) (kept : ℕ → ℕ) → ℕ → ℕ
-open_kept region_words shut kept a = if shut (a / region_words) then 0 else kept a
+open_kept region_words shut kept address = if shut (address / region_words) then 0 else kept address
 
 -- where the last one ends of the kept objects that begin below an address in open regions, once each is placed behind the one before
 unfoldable pub end_before : (region_words : ℕ) (shut : ℕ → Bool) (kept : ℕ → ℕ) → ℕ → ℕ
 end_before region_words shut kept zero = region_words
-end_before region_words shut kept (suc a) =
-    place_around region_words shut (end_before region_words shut kept a) (open_kept region_words shut kept a) + open_kept region_words shut kept a
+end_before region_words shut kept (suc address) =
+    place_around region_words shut (end_before region_words shut kept address) (open_kept region_words shut kept address) + open_kept region_words shut kept address
 
 -- the place of the kept object that begins at an address: in a shut region it stays
 abbrev pub new_place : (region_words : ℕ) (shut : ℕ → Bool) (kept : ℕ → ℕ) → ℕ → ℕ
-new_place region_words shut kept a = if shut (a / region_words) then a else place_around region_words shut (end_before region_words shut kept a) (kept a)
+new_place region_words shut kept address = if shut (address / region_words) then address else place_around region_words shut (end_before region_words shut kept address) (kept address)
 
 -- kept objects lie apart, and each within one region
 pub record LieApart (region_words : ℕ) (kept : ℕ → ℕ) : Type 0 where

@@ -14,8 +14,8 @@ pub record AreTops (config : Config) (tops : List ℕ) : Type 0 where
 
 -- each region below a number is in the set, or has less room than so many words
 abbrev pub EachHasLess : Config → List ℕ → ℕ → ℕ → ℕ → Type 0
-EachHasLess config tops not_in words below =
-    (region : ℕ) → region < below → IsOutside not_in region → room_above config (slice_index tops region) < words
+EachHasLess config tops not_in words bound =
+    (region : ℕ) → region < bound → IsOutside not_in region → room_above config (slice_index tops region) < words
 
 -- the lowest region outside the set that has room for so many words
 pub record IsFirstWithRoom (config : Config) (tops : List ℕ) (not_in words region : ℕ) : Type 0 where

@@ -23,18 +23,18 @@ pub record IsSlidTo (end first : ℕ) (place kept renew before after : ℕ → �
   pub others : (x : ℕ) → first ≤ x → ((a i : ℕ) → a < end → i < kept a → x ≢ place a + i) → after x ≡ before x
 
 -- whether the new place of an object covers an address
-abbrev pub is_covered : (place kept : ℕ → ℕ) (a x : ℕ) → Bool
-is_covered place kept a x = nat_le (place a) x && nat_lt x (place a + kept a)
+abbrev pub is_covered : (place kept : ℕ → ℕ) (object address : ℕ) → Bool
+is_covered place kept object address = nat_le (place object) address && nat_lt address (place object + kept object)
 
 -- the same as a function: the word of the last of them whose new place covers an address, and where none does the old word
 unfoldable pub slid : (place kept renew before : ℕ → ℕ) → ℕ → ℕ → ℕ
-slid place kept renew before zero x = before x
-slid place kept renew before (suc address) x =
-    if is_covered place kept address x then slid_word renew before address (x - place address) else slid place kept renew before address x
+slid place kept renew before zero asked_address = before asked_address
+slid place kept renew before (suc address) asked_address =
+    if is_covered place kept address asked_address then slid_word renew before address (asked_address - place address) else slid place kept renew before address asked_address
 
 -- the places of kept objects lie apart, in whatever order
 abbrev pub PlacesApart : (place kept : ℕ → ℕ) → Type 0
-PlacesApart place kept = (a b x : ℕ) → is_covered place kept a x ≡ true → is_covered place kept b x ≡ true → a ≡ b
+PlacesApart place kept = (object other_object address : ℕ) → is_covered place kept object address ≡ true → is_covered place kept other_object address ≡ true → object ≡ other_object
 
 -- Where the places of kept objects lie apart, the function gives a heap after sliding, and over the heap's addresses it is the only one.
 pub record IsOneHeap : Type 0 where

@@ -17,7 +17,7 @@ pub record EachFits (region_words : ℕ) (shut : ℕ → Bool) (kept : ℕ → �
 -- kept objects that lie apart fit where they are packed, in a heap of at most 64 regions
 abbrev pub PackingFits : Type 0
 PackingFits = (region_words : ℕ) (shut : ℕ → Bool) (kept : ℕ → ℕ) → LieApart region_words kept
-    → ((a : ℕ) → 0 < kept a → a < 65 * region_words) → EachFits region_words shut kept
+    → ((address : ℕ) → 0 < kept address → address < 65 * region_words) → EachFits region_words shut kept
 
 -- Each kept object of an open region is placed at the top that its region has by then, no top is above the region's words, no word is
 -- placed in a shut region, and the tops of all regions are together the words of the kept objects of open regions.
@@ -31,7 +31,7 @@ pub record TopsAreFilled (region_words : ℕ) (shut : ℕ → Bool) (kept : ℕ 
 -- where all kept objects lie within so many regions, this holds of the tops after packing
 abbrev pub PackingFills : Type 0
 PackingFills = (region_words : ℕ) (shut : ℕ → Bool) (kept : ℕ → ℕ) (regions : ℕ) → LieApart region_words kept → regions ≤ 64
-    → ((a : ℕ) → 0 < kept a → a < (regions + 1) * region_words) → TopsAreFilled region_words shut kept regions
+    → ((address : ℕ) → 0 < kept address → address < (regions + 1) * region_words) → TopsAreFilled region_words shut kept regions
 
 -- how many of so many regions pass a test, and the sum of their tops
 abbrev pub count_where : (test : ℕ → Bool) → ℕ → ℕ

@@ -6,11 +6,11 @@ use Rattle.regions.specs.Slide.{slid_word, renewed, PlacesApart}
 
 -- the word at an address
 abbrev pub word_of : (first : ℕ) (heap : List ℕ) → ℕ → ℕ
-word_of first heap a = slice_index heap (a - first)
+word_of first heap address = slice_index heap (address - first)
 
 -- the words of the object that begins at an address, if it is marked
 abbrev pub kept_of : (first : ℕ) (heap : List ℕ) (marks : List Bool) → ℕ → ℕ
-kept_of first heap marks a = if nat_le first a && slice_index_or marks (a - first) false then object_words (slice_index heap (a - first + 1)) else 0
+kept_of first heap marks address = if nat_le first address && slice_index_or marks (address - first) false then object_words (slice_index heap (address - first + 1)) else 0
 
 -- marked objects lie apart, each within one region and within the heap, which is small enough for sums of addresses
 pub record IsMarkedHeap (first : ℕ) (heap : List ℕ) (marks : List Bool) : Type 0 where
@@ -21,7 +21,7 @@ pub record IsMarkedHeap (first : ℕ) (heap : List ℕ) (marks : List Bool) : Ty
 
 -- the table has the new place of each kept object
 abbrev pub HavePlaces : (first : ℕ) (shut : ℕ → Bool) (kept : ℕ → ℕ) (places : List ℕ) → Type 0
-HavePlaces first shut kept places = (a : ℕ) → 0 < kept a → word_of first places a ≡ new_place first shut kept a
+HavePlaces first shut kept places = (address : ℕ) → 0 < kept address → word_of first places address ≡ new_place first shut kept address
 
 -- The table places kept objects apart, in the heap, and none above where it lies: so they can be moved one after the other, in the
 -- order of addresses.
@@ -40,7 +40,7 @@ from_table first places word = if word == 0 then 0 else word_of first places wor
 
 -- each reference of a kept object is null, or the table has an entry for its address
 abbrev pub AreInTable : (first : ℕ) (kept heap : ℕ → ℕ) (places : List ℕ) → Type 0
-AreInTable first kept heap places = (address i : ℕ) → 0 < kept address → i < refs_in (heap (address + 1)) → IsInTable first places (heap (address + (3 + i)))
+AreInTable first kept heap places = (address field : ℕ) → 0 < kept address → field < refs_in (heap (address + 1)) → IsInTable first places (heap (address + (3 + field)))
 
 -- An object was moved from one index to another, and no other word was changed.
 pub record IsMovedTo (renew : ℕ → ℕ) (from to : ℕ) (before after : List ℕ) : Type 0 where
@@ -57,11 +57,11 @@ current_index first heap index =
 
 -- what begins at an index is its own current copy
 abbrev pub IsOwnCopy : (first : ℕ) (heap : List ℕ) → ℕ → Type 0
-IsOwnCopy first heap k = current_index first heap k ≡ k
+IsOwnCopy first heap index = current_index first heap index ≡ index
 
 -- the address of the current copy of what begins at an address, by its header
 abbrev pub now_of : (first : ℕ) (heap : List ℕ) → ℕ → ℕ
-now_of first heap a = if is_forwarded (word_of first heap a) then forwardee_in (word_of first heap a) else a
+now_of first heap address = if is_forwarded (word_of first heap address) then forwardee_in (word_of first heap address) else address
 
 -- a word is null, or the address of an old or current copy in the heap whose current copy is kept
 abbrev pub LeadsToKept : (first : ℕ) (heap : List ℕ) (marks : List Bool) → ℕ → Type 0

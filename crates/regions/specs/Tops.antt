@@ -9,7 +9,7 @@ sum_below f (suc n) = sum_below f n + f n
 
 -- the words of the kept object that begins at an address, if it lies in an open region and is placed in the region
 abbrev pub words_in : (region_words : ℕ) (shut : ℕ → Bool) (kept : ℕ → ℕ) (region : ℕ) → ℕ → ℕ
-words_in region_words shut kept region a = if new_place region_words shut kept a / region_words == region + 1 then open_kept region_words shut kept a else 0
+words_in region_words shut kept region address = if new_place region_words shut kept address / region_words == region + 1 then open_kept region_words shut kept address else 0
 
 -- the words that are placed in a region, of the kept objects that begin below an address
 abbrev pub top_before : (region_words : ℕ) (shut : ℕ → Bool) (kept : ℕ → ℕ) (region : ℕ) → ℕ → ℕ

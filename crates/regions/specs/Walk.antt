@@ -22,8 +22,8 @@ stride_at heap address = stride (heap address) (heap (address + 1))
 -- distance.
 unfoldable pub start_of : (heap : ℕ → ℕ) (base : ℕ) → ℕ → ℕ
 start_of heap base zero = 0
-start_of heap base (suc k) =
-    if start_of heap base k + stride_at heap (base + start_of heap base k) == suc k then suc k else start_of heap base k
+start_of heap base (suc distance) =
+    if start_of heap base distance + stride_at heap (base + start_of heap base distance) == suc distance then suc distance else start_of heap base distance
 
 -- From one address one comes to the end, and the list has the addresses met, in order. Each step goes on.
 abbrev pub Walks : (ℕ → ℕ) → ℕ → ℕ → List ℕ → Type 0
@@ -85,9 +85,9 @@ ParsableIsWalked =
 -- a walk that has come so far goes on to the address behind, which is not past the end
 abbrev pub WalkGoesOn : Type 0
 WalkGoesOn =
-    (words : ℕ → ℕ) (from at end : ℕ) (addresses before : List ℕ) → Walks words from end addresses
-    → Walks words from at before → at < end
-    → (at < at + words at) × (at + words at ≤ end) × Walks words from (at + words at) (before ++ at ∷ [])
+    (words : ℕ → ℕ) (from reached end : ℕ) (addresses before : List ℕ) → Walks words from end addresses
+    → Walks words from reached before → reached < end
+    → (reached < reached + words reached) × (reached + words reached ≤ end) × Walks words from (reached + words reached) (before ++ reached ∷ [])
 
 -- the objects that a walk meets from a region's base to its top are that region's, each with its last word too
 abbrev pub WalkStaysInRegion : Type 0

@@ -11,41 +11,41 @@ use Rattle.satb_barrier.proofs.Remembering.{recorded_stays, can_remember_stays, 
 module _ (config : Config) (mutator address : ℕ) (heap : IsWord config (Heap address)) where
   -- what holds in between
   abbrev Can : Recording → Type 0
-  Can s = CanRemember config s.memory mutator address s.spot
+  Can recording = CanRemember config recording.memory mutator address recording.spot
 
-  move_keeps : (s : Recording) (move : Move) → IsMove config mutator address s move → Can s → Can (after_move config mutator address s move)
-  move_keeps s own going can = (each_remembers config s.memory mutator address s.spot going heap can).next
-  move_keeps s (others after) left can = can_remember_stays config mutator s.memory after left address s.spot can
+  move_keeps : (recording : Recording) (move : Move) → IsMove config mutator address recording move → Can recording → Can (after_move config mutator address recording move)
+  move_keeps recording own going can_remember = (each_remembers config recording.memory mutator address recording.spot going heap can_remember).next
+  move_keeps recording (others after) others_leave can_remember = can_remember_stays config mutator recording.memory after others_leave address recording.spot can_remember
 
-  move_recorded : (s : Recording) (move : Move) → IsMove config mutator address s move → Can s → KeepsRecorded config mutator s (after_move config mutator address s move)
-  move_recorded s own going can = (each_remembers config s.memory mutator address s.spot going heap can).keeps
-  move_recorded s (others after) left can = recorded_stays config mutator s.memory after left can.buffer.few
+  move_recorded : (recording : Recording) (move : Move) → IsMove config mutator address recording move → Can recording → KeepsRecorded config mutator recording (after_move config mutator address recording move)
+  move_recorded recording own going can_remember = (each_remembers config recording.memory mutator address recording.spot going heap can_remember).keeps
+  move_recorded recording (others after) others_leave can_remember = recorded_stays config mutator recording.memory after others_leave can_remember.buffer.few
 
-  moves_keep : (s : Recording) (moves : List Move) → AreMoves config mutator address s moves → Can s → Can (after_moves config mutator address s moves)
+  moves_keep : (recording : Recording) (moves : List Move) → AreMoves config mutator address recording moves → Can recording → Can (after_moves config mutator address recording moves)
   unfolding after_moves AreMoves
-  moves_keep s [] are can = can
-  moves_keep s (move ∷ moves) are can = moves_keep (after_move config mutator address s move) moves are.1 (move_keeps s move are.0 can)
+  moves_keep recording [] are_moves can_remember = can_remember
+  moves_keep recording (move ∷ moves) are_moves can_remember = moves_keep (after_move config mutator address recording move) moves are_moves.1 (move_keeps recording move are_moves.0 can_remember)
 
-  moves_recorded : (s : Recording) (moves : List Move) → AreMoves config mutator address s moves → Can s → KeepsRecorded config mutator s (after_moves config mutator address s moves)
+  moves_recorded : (recording : Recording) (moves : List Move) → AreMoves config mutator address recording moves → Can recording → KeepsRecorded config mutator recording (after_moves config mutator address recording moves)
   unfolding after_moves AreMoves
-  moves_recorded s [] are can x is = is
-  moves_recorded s (move ∷ moves) are can x is =
-      moves_recorded (after_move config mutator address s move) moves are.1 (move_keeps s move are.0 can) x (move_recorded s move are.0 can x is)
+  moves_recorded recording [] are_moves can_remember recorded_address was_recorded = was_recorded
+  moves_recorded recording (move ∷ moves) are_moves can_remember recorded_address was_recorded =
+      moves_recorded (after_move config mutator address recording move) moves are_moves.1 (move_keeps recording move are_moves.0 can_remember) recorded_address (move_recorded recording move are_moves.0 can_remember recorded_address was_recorded)
 
   -- what was recorded after some of the moves is recorded after all of them
-  more_recorded : (s : Recording) (moves more : List Move) → AreMoves config mutator address s (moves ++ more) → Can s
-      → KeepsRecorded config mutator (after_moves config mutator address s moves) (after_moves config mutator address s (moves ++ more))
+  more_recorded : (recording : Recording) (moves later_moves : List Move) → AreMoves config mutator address recording (moves ++ later_moves) → Can recording
+      → KeepsRecorded config mutator (after_moves config mutator address recording moves) (after_moves config mutator address recording (moves ++ later_moves))
   unfolding after_moves AreMoves
-  more_recorded s [] more are can = moves_recorded s more are can
-  more_recorded s (move ∷ moves) more are can = more_recorded (after_move config mutator address s move) moves more are.1 (move_keeps s move are.0 can)
+  more_recorded recording [] later_moves are_moves can_remember = moves_recorded recording later_moves are_moves can_remember
+  more_recorded recording (move ∷ moves) later_moves are_moves can_remember = more_recorded (after_move config mutator address recording move) moves later_moves are_moves.1 (move_keeps recording move are_moves.0 can_remember)
 
   -- in between what the law says holds
-  kept_of : (s : Recording) → Can s → RecordingHolds config mutator address s
-  kept_of s can = record {
-    buffer = can.buffer;
-    ready = can.ready;
-    fits = λ going. found_is_fit config s.memory mutator address s.spot can;
-    recorded = λ is. subst (λ spot. RememberFacts config s.memory mutator address spot) is can.facts;
+  kept_of : (recording : Recording) → Can recording → RecordingHolds config mutator address recording
+  kept_of recording can_remember = record {
+    buffer = can_remember.buffer;
+    ready = can_remember.ready;
+    fits = λ going. found_is_fit config recording.memory mutator address recording.spot can_remember;
+    recorded = λ spot_recorded. subst (λ spot. RememberFacts config recording.memory mutator address spot) spot_recorded can_remember.facts;
   }
 
 -- it begins so
@@ -54,9 +54,9 @@ begins config mutator address memory buffer = record { buffer = buffer; ready = 
 
 pub recording_kept : RecordingIsKept
 recording_kept = record {
-  each = λ c mutator address memory moves heap buffer are.
-      kept_of c mutator address heap (after_moves c mutator address (recording_from memory) moves)
-      (moves_keep c mutator address heap (recording_from memory) moves are (begins c mutator address memory buffer));
-  keeps = λ c mutator address memory moves more heap buffer are.
-      more_recorded c mutator address heap (recording_from memory) moves more are (begins c mutator address memory buffer);
+  each = λ config mutator address memory moves heap buffer are_moves.
+      kept_of config mutator address heap (after_moves config mutator address (recording_from memory) moves)
+      (moves_keep config mutator address heap (recording_from memory) moves are_moves (begins config mutator address memory buffer));
+  keeps = λ config mutator address memory moves later_moves heap buffer are_moves.
+      more_recorded config mutator address heap (recording_from memory) moves later_moves are_moves (begins config mutator address memory buffer);
 }

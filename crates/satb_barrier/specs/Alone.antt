@@ -24,42 +24,42 @@ recording_from memory = record { memory = memory; spot = LoadCount }
 
 -- what was recorded in one is recorded in the other
 abbrev pub KeepsRecorded : Config → ℕ → Recording → Recording → Type 0
-KeepsRecorded config mutator one other = (x : ℕ) → IsRecorded config one.memory mutator x → IsRecorded config other.memory mutator x
+KeepsRecorded config mutator one other = (address : ℕ) → IsRecorded config one.memory mutator address → IsRecorded config other.memory mutator address
 
 module _ (config : Config) (mutator address : ℕ) where
   -- the word that the mutator finds
   abbrev pub word_found : Recording → ℕ
-  word_found s = s.memory (touch_at config mutator address s.spot).word
+  word_found recording = recording.memory (touch_at config mutator address recording.spot).word
 
   -- what a move makes of it
   abbrev pub after_move : Recording → Move → Recording
-  after_move s own = record { memory = touched s.memory (touch_at config mutator address s.spot); spot = next_at s.spot (word_found s) }
-  after_move s (others after) = record { memory = after; spot = s.spot }
+  after_move recording own = record { memory = touched recording.memory (touch_at config mutator address recording.spot); spot = next_at recording.spot (word_found recording) }
+  after_move recording (others after) = record { memory = after; spot = recording.spot }
 
   -- what moves make of it, one after the other
   unfoldable pub after_moves : Recording → List Move → Recording
-  after_moves s [] = s
-  after_moves s (move ∷ moves) = after_moves (after_move s move) moves
+  after_moves recording [] = recording
+  after_moves recording (move ∷ moves) = after_moves (after_move recording move) moves
 
   -- a move may be made: the mutator makes a step until the address is recorded, and others leave its buffer
   abbrev pub IsMove : Recording → Move → Type 0
-  IsMove s own = is_ended s.spot ≡ false
-  IsMove s (others after) = LeaveBuffer mutator s.memory after
+  IsMove recording own = is_ended recording.spot ≡ false
+  IsMove recording (others after) = LeaveBuffer mutator recording.memory after
 
   -- each of these moves may be made, one after the other
   unfoldable pub AreMoves : Recording → List Move → Type 0
-  AreMoves s [] = ⊤
-  AreMoves s (move ∷ moves) = IsMove s move × AreMoves (after_move s move) moves
+  AreMoves recording [] = ⊤
+  AreMoves recording (move ∷ moves) = IsMove recording move × AreMoves (after_move recording move) moves
 
   -- what holds after each list of moves from the words in which it began
-  pub record RecordingHolds (s : Recording) : Type 0 where
+  pub record RecordingHolds (recording : Recording) : Type 0 where
     -- the mutator's buffer is one
-    pub buffer : IsSatbBuffer config s.memory mutator
+    pub buffer : IsSatbBuffer config recording.memory mutator
     -- its next access can be made, and the word that it finds is fit
-    pub ready : is_ready config s.spot ≡ true
-    pub fits : is_ended s.spot ≡ false → IsFit config s.spot (word_found s)
+    pub ready : is_ready config recording.spot ≡ true
+    pub fits : is_ended recording.spot ≡ false → IsFit config recording.spot (word_found recording)
     -- at the end the address is recorded
-    pub recorded : s.spot ≡ Recorded → IsRecorded config s.memory mutator address
+    pub recorded : recording.spot ≡ Recorded → IsRecorded config recording.memory mutator address
 
 -- The recording of an address of the heap, from words in which the mutator's buffer is one, whatever others do.
 pub record RecordingIsKept : Type 0 where

@@ -10,7 +10,7 @@ use Rattle.satb_barrier.specs.Recorded.{greys_in, IsRecorded, IsSatbBuffer}
 
 -- so many entries of a buffer are grey, from the first on
 abbrev pub AreGrey : Config → (Word → ℕ) → ℕ → ℕ → Type 0
-AreGrey config memory mutator n = (index : ℕ) → index < n → HasMark config (greys_in memory) (memory (Buffer mutator index))
+AreGrey config memory mutator count = (index : ℕ) → index < count → HasMark config (greys_in memory) (memory (Buffer mutator index))
 
 -- what holds of the words at each spot
 abbrev pub RememberFacts : Config → (Word → ℕ) → ℕ → ℕ → RememberSpot → Type 0

@@ -11,8 +11,8 @@ pub record Recorder : Type 0 where
   pub address : ℕ
 
 abbrev pub recorder_of : Remember → Recorder
-recorder_of r = record { config = r.config; mutator = r.mutator; address = r.address }
+recorder_of remember = record { config = remember.config; mutator = remember.mutator; address = remember.address }
 
 -- where it stands
 abbrev pub spot_of : Remember → RememberSpot
-spot_of r = r.spot
+spot_of remember = remember.spot

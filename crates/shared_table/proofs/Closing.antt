@@ -12,25 +12,25 @@ use Rattle.shared_table.proofs.Dealt.{machine-is}
 
 module _ {R O : Type 0} (kind : MachineKind R O) (start : Stage R) where
   pub length-go : (events : List (Event O)) → length (go kind start events).machines ≡ length start.machines
-  length-go events = go-keeps kind (λ s. length s.machines ≡ length start.machines) (λ s e long. length-machines kind s e ∙ long) start events refl
+  length-go events = go-keeps kind (λ stage. length stage.machines ≡ length start.machines) (λ stage event same_length. length-machines kind stage event ∙ same_length) start events refl
 
   pub length-go_words : (events : List (Event O)) → length (go kind start events).words ≡ length start.words
-  length-go_words events = go-keeps kind (λ s. length s.words ≡ length start.words) (λ s e long. length-words kind s e ∙ long) start events refl
+  length-go_words events = go-keeps kind (λ stage. length stage.words ≡ length start.words) (λ stage event same_length. length-words kind stage event ∙ same_length) start events refl
 
 module _ {R : Type 0} where
   pub length-whole : (machines : List R) → length (whole machines) ≡ length machines
   length-whole [] = refl
-  length-whole (r ∷ rs) = ap suc (length-whole rs)
+  length-whole (machine ∷ rest) = ap suc (length-whole rest)
 
   pub machines_of-whole : (machines : List R) → machines_of (whole machines) ≡ machines
   machines_of-whole [] = refl
-  machines_of-whole (r ∷ rs) = let e = machines_of-whole rs in cc
+  machines_of-whole (machine ∷ rest) = let rest_same = machines_of-whole rest in cc
 
   pub whole-is : (machines : List R) → HasAllMachines (length machines) (whole machines)
   whole-is machines = record { all = ap whole (sym (machines_of-whole machines)); counts = length-whole machines }
 
   pub whole_has_all : (machines : List R) (views : List (View R)) → IsDealt machines views → (id : ℕ) (view : View R) → get_elem? views id ≡ some view → HasAllMachines (length machines) view → machines_of view ≡ machines
-  whole_has_all machines views dealt id view at all =
+  whole_has_all machines views dealt id view view_at has_all =
       sym (same_elements machines (machines_of view)
-      (sym all.counts ∙ ap length all.all ∙ length-whole (machines_of view))
-      (λ k r here. machine-is machines views dealt id view at k r (ap (λ x. machine_of x k) all.all ∙ machine_of-whole (machines_of view) k ∙ here)))
+      (sym has_all.counts ∙ ap length has_all.all ∙ length-whole (machines_of view))
+      (λ number machine has_machine. machine-is machines views dealt id view view_at number machine (ap (λ x. machine_of x number) has_all.all ∙ machine_of-whole (machines_of view) number ∙ has_machine)))

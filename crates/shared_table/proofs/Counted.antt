@@ -18,10 +18,10 @@ use Rattle.shared_table.proofs.Numbers.{all_here, whole_here}
 module _ {R : Type 0} where
   machines_back : (machines : List R) → map uncounted_machine (map at_start machines) ≡ machines
   machines_back [] = refl
-  machines_back (r ∷ rs) = ap (λ (xs : List R). r ∷ xs) (machines_back rs)
+  machines_back (machine ∷ rest) = ap (λ (tail : List R). machine ∷ tail) (machines_back rest)
 
   stage_back : (start : Stage R) → uncounted_stage (counted_from start) ≡ start
-  stage_back start = ap (λ (rs : List R). record { words = start.words; machines = rs }) (machines_back start.machines)
+  stage_back start = ap (λ (machines : List R). record { words = start.words; machines = machines }) (machines_back start.machines)
 
   -- the view of the opening
   pub first_view : (start : Stage R) → uncounted_view (whole (counted_from start).machines) ≡ whole start.machines
@@ -29,42 +29,42 @@ module _ {R : Type 0} where
 
   machines_uncounted : (view : View (Counted R)) → machines_of (uncounted_view view) ≡ map uncounted_machine (machines_of view)
   machines_uncounted [] = refl
-  machines_uncounted (None ∷ xs) = machines_uncounted xs
-  machines_uncounted (Some x ∷ xs) = ap (λ (rs : List R). x.machine ∷ rs) (machines_uncounted xs)
+  machines_uncounted (None ∷ rest) = machines_uncounted rest
+  machines_uncounted (Some counted_machine ∷ rest) = ap (λ (machines : List R). counted_machine.machine ∷ machines) (machines_uncounted rest)
 
   -- a view has all machines where it has them without the numbers
   pub all_counted : (count : ℕ) (view : View (Counted R)) → HasAllMachines count (uncounted_view view) → HasAllMachines count view
-  all_counted count view all = record {
+  all_counted count view has_all = record {
     all = all_here view (λ index below.
-        sym (kept_some uncounted_machine view index) ∙ ap (λ (view : View R). is_some (machine_of view index)) all.all
+        sym (kept_some uncounted_machine view index) ∙ ap (λ (view : View R). is_some (machine_of view index)) has_all.all
         ∙ whole_here (machines_of (uncounted_view view)) index (within index below));
-    counts = sym long ∙ all.counts;
+    counts = sym long ∙ has_all.counts;
   }
     where
       long : length (uncounted_view view) ≡ length view
       long = length-kept uncounted_machine view
 
       within : (index : ℕ) → index < length view → index < length (machines_of (uncounted_view view))
-      within index below = let whole_long : length (uncounted_view view) ≡ length (machines_of (uncounted_view view)) = ap length all.all ∙ length-whole (machines_of (uncounted_view view)) in omega (arith, below, long, whole_long)
+      within index index_below = let whole_long : length (uncounted_view view) ≡ length (machines_of (uncounted_view view)) = ap length has_all.all ∙ length-whole (machines_of (uncounted_view view)) in omega (arith, index_below, long, whole_long)
 
 module _ {R O : Type 0} (kind : MachineKind R O) where
-  act-uncounted : (s : Stage (Counted R)) (event : Event O) → uncounted_stage (act (counting kind) s event) ≡ act kind (uncounted_stage s) event
+  act-uncounted : (stage : Stage (Counted R)) (event : Event O) → uncounted_stage (act (counting kind) stage event) ≡ act kind (uncounted_stage stage) event
   unfolding act
-  act-uncounted s event = by_machine (slice_get s.machines event.number) ∙ ap (act_of kind (uncounted_stage s) event) (sym (slice_get-map uncounted_machine s.machines event.number))
+  act-uncounted stage event = by_machine (slice_get stage.machines event.number) ∙ ap (act_of kind (uncounted_stage stage) event) (sym (slice_get-map uncounted_machine stage.machines event.number))
     where
-      by_order : (x : Counted R) (holds : Bool)
-          → uncounted_stage (if holds then moved (counting kind) s event.number x event.order else s) ≡ (if holds then moved kind (uncounted_stage s) event.number x.machine event.order else uncounted_stage s)
-      by_order x true = ap (λ (rs : List R). record { words = accessed (kind.plan x.machine event.order) s.words; machines = rs }) (map-set uncounted_machine s.machines event.number _)
-      by_order x false = refl
+      by_order : (counted_machine : Counted R) (holds : Bool)
+          → uncounted_stage (if holds then moved (counting kind) stage event.number counted_machine event.order else stage) ≡ (if holds then moved kind (uncounted_stage stage) event.number counted_machine.machine event.order else uncounted_stage stage)
+      by_order counted_machine true = ap (λ (machines : List R). record { words = accessed (kind.plan counted_machine.machine event.order) stage.words; machines = machines }) (map-set uncounted_machine stage.machines event.number _)
+      by_order counted_machine false = refl
 
-      by_machine : (found : Option (Counted R)) → uncounted_stage (act_of (counting kind) s event found) ≡ act_of kind (uncounted_stage s) event (option_map uncounted_machine found)
+      by_machine : (found : Option (Counted R)) → uncounted_stage (act_of (counting kind) stage event found) ≡ act_of kind (uncounted_stage stage) event (option_map uncounted_machine found)
       by_machine None = refl
-      by_machine (Some x) = by_order x (kind.takes x.machine event.order)
+      by_machine (Some counted_machine) = by_order counted_machine (kind.takes counted_machine.machine event.order)
 
-  go-uncounted : (s : Stage (Counted R)) (events : List (Event O)) → uncounted_stage (go (counting kind) s events) ≡ go kind (uncounted_stage s) events
+  go-uncounted : (stage : Stage (Counted R)) (events : List (Event O)) → uncounted_stage (go (counting kind) stage events) ≡ go kind (uncounted_stage stage) events
   unfolding go
-  go-uncounted s [] = refl
-  go-uncounted s (event ∷ rest) = go-uncounted (act (counting kind) s event) rest ∙ ap (λ x. go kind x rest) (act-uncounted s event)
+  go-uncounted stage [] = refl
+  go-uncounted stage (event ∷ rest) = go-uncounted (act (counting kind) stage event) rest ∙ ap (λ x. go kind x rest) (act-uncounted stage event)
 
   module _ (start : Stage R) where
     runs : (events : List (Event O)) → uncounted_stage (go (counting kind) (counted_from start) events) ≡ go kind start events
@@ -76,7 +76,7 @@ module _ {R O : Type 0} (kind : MachineKind R O) where
     pub view_reached : (words : List ℕ) (view : View (Counted R)) → IsReached (counting kind) (counted_from start) (record { words = words; machines = machines_of view })
         → IsReached kind start (record { words = words; machines = machines_of (uncounted_view view) })
     view_reached words view reached =
-        subst (λ (rs : List R). IsReached kind start (record { words = words; machines = rs })) (sym (machines_uncounted view))
+        subst (λ (machines : List R). IsReached kind start (record { words = words; machines = machines })) (sym (machines_uncounted view))
         (reached_uncounted (record { words = words; machines = machines_of view }) reached)
 
     module _ {S : Type 0} (number : ℕ) (order : O) (before after : Me S (View (Counted R))) (got : ℕ) (took : Took (counting kind) (counted_from start) number order before got after) where
@@ -98,7 +98,7 @@ module _ {R O : Type 0} (kind : MachineKind R O) where
         slots = took.slots;
       }
 
-      pub took_counts : (n : ℕ) × (machine_of (steps_in_view before.0) number ≡ Some n) × (steps_in_view after.0 ≡ slice_set (steps_in_view before.0) number (Some (n + 1)))
+      pub took_counts : (step_count : ℕ) × (machine_of (steps_in_view before.0) number ≡ Some step_count) × (steps_in_view after.0 ≡ slice_set (steps_in_view before.0) number (Some (step_count + 1)))
       took_counts = (
         took.machine.steps,
         machine_of-kept steps_made before.0 number ∙ ap (kept_one steps_made) took.here,
@@ -110,8 +110,8 @@ module _ {R O : Type 0} (kind : MachineKind R O) where
 
   -- a machine that can make its access can do so where it counts its steps
   pub can_counted : (view : View (Counted R)) (number : ℕ) (order : O) (access : Access)
-      → (r : R) × (machine_of (uncounted_view view) number ≡ Some r) × (kind.takes r order ≡ true) × (kind.plan r order ≡ access)
+      → (machine : R) × (machine_of (uncounted_view view) number ≡ Some machine) × (kind.takes machine order ≡ true) × (kind.plan machine order ≡ access)
       → (counted : Counted R) × (machine_of view number ≡ Some counted) × ((counting kind).takes counted order ≡ true) × ((counting kind).plan counted order ≡ access)
-  can_counted view number order access can =
-      let m = kept_here uncounted_machine view number can.0 can.1 in
-      (m.0, m.1, ap (λ r. kind.takes r order) m.2 ∙ can.2, ap (λ r. kind.plan r order) m.2 ∙ can.3)
+  can_counted view number order access can_access =
+      let kept_machine = kept_here uncounted_machine view number can_access.0 can_access.1 in
+      (kept_machine.0, kept_machine.1, ap (λ machine. kind.takes machine order) kept_machine.2 ∙ can_access.2, ap (λ machine. kind.plan machine order) kept_machine.2 ∙ can_access.3)

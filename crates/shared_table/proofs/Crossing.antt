@@ -14,20 +14,20 @@ abbrev pub which : {A B X : Type 0} → A ⊎ B → X → X → X
 which (inl a) x y = x
 which (inr b) x y = y
 
-module _ {M : Type 1} {𝓤 : Ura M} (𝓛 : Logic 𝓤) (R : RattleType) {V : Type 0} (c : V → Gv) (z : TableId) (one other : ℕ × Me R.Denot V) where
+module _ {M : Type 1} {𝓤 : Ura M} (𝓛 : Logic 𝓤) (R : RattleType) {V : Type 0} (c : V → Gv) (table : TableId) (first_holder second_holder : ℕ × Me R.Denot V) where
   abbrev Owned : TableId → ℕ × Me R.Denot V → SProp 𝓤
-  Owned at held = sem 𝓛 (mine R c at held.0 held.1)
+  Owned given_table held = sem 𝓛 (mine R c given_table held.0 held.1)
 
-  exchanged : ent 𝓤 (sep 𝓤 (Owned z one) (Owned z other)) (sep 𝓤 (Owned z other) (Owned z one))
-  exchanged = qed 𝓛 (‵ (mine R c z one.0 one.1) ∷ ‵ (mine R c z other.0 other.1) ∷ []) ∵ move ! (1 ∷ 0 ∷ []) $ join ! $ done !
+  exchanged : ent 𝓤 (sep 𝓤 (Owned table first_holder) (Owned table second_holder)) (sep 𝓤 (Owned table second_holder) (Owned table first_holder))
+  exchanged = qed 𝓛 (‵ (mine R c table first_holder.0 first_holder.1) ∷ ‵ (mine R c table second_holder.0 second_holder.1) ∷ []) ∵ move ! (1 ∷ 0 ∷ []) $ join ! $ done !
 
-  pub crossed : (w : TableId) (d : (z ≡ w) ⊎ (z ≢ w)) → ent 𝓤 (sep 𝓤 (Owned z one) (Owned w other)) (sep 𝓤 (Owned z (which d other one)) (Owned w (which d one other)))
-  crossed w (inl e) = subst (λ at. ent 𝓤 (sep 𝓤 (Owned z one) (Owned at other)) (sep 𝓤 (Owned z other) (Owned at one))) e exchanged
-  crossed w (inr apart) = id⊢ 𝓤 (sep 𝓤 (Owned z one) (Owned w other))
+  pub crossed : (other_table : TableId) (same_or_apart : (table ≡ other_table) ⊎ (table ≢ other_table)) → ent 𝓤 (sep 𝓤 (Owned table first_holder) (Owned other_table second_holder)) (sep 𝓤 (Owned table (which same_or_apart second_holder first_holder)) (Owned other_table (which same_or_apart first_holder second_holder)))
+  crossed other_table (inl same_table) = subst (λ given_table. ent 𝓤 (sep 𝓤 (Owned table first_holder) (Owned given_table second_holder)) (sep 𝓤 (Owned table second_holder) (Owned given_table first_holder))) same_table exchanged
+  crossed other_table (inr tables_apart) = id⊢ 𝓤 (sep 𝓤 (Owned table first_holder) (Owned other_table second_holder))
 
-pub which_same : {A X : Type 0} (d : A ⊎ (A → ⊥)) (x y : X) → A → which d x y ≡ x
-which_same (inl a) x y h = refl
-which_same (inr none) x y h = absurd (none h)
+pub which_same : {A X : Type 0} (decided : A ⊎ (A → ⊥)) (x y : X) → A → which decided x y ≡ x
+which_same (inl yes_case) x y holds = refl
+which_same (inr no_case) x y holds = absurd (no_case holds)
 
 pub which_one : {A B X : Type 0} (d : A ⊎ B) (x y : X) → (which d x y ≡ x) ⊎ (which d x y ≡ y)
 which_one (inl a) x y = inl refl

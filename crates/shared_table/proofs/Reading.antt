@@ -12,40 +12,40 @@ use Rattle.shared_table.specs.Gathered.{StandInSomeRun, TellsOfRun}
 
 same_words : (words : List ℕ) (index : ℕ) → slice_set words index (slice_index words index) ≡ words
 same_words [] index = refl
-same_words (n ∷ ns) zero = refl
-same_words (n ∷ ns) (suc at) = λ i. n ∷ same_words ns at i
+same_words (word ∷ rest) zero = refl
+same_words (word ∷ rest) (suc later_index) = λ i. word ∷ same_words rest later_index i
 
 same_some : {A : Type 0} (x y : A) → some x ≡ some y → x ≡ y
-same_some x y is = cc
+same_some x y somes_same = cc
 
-same_views : {V : Type 0} (views : List V) (id : ℕ) (v : V) → get_elem? views id ≡ some v → slice_set views id v ≡ views
-same_views [] id v here = refl
-same_views (w ∷ ws) zero v here = λ i. sym (same_some w v here) i ∷ ws
-same_views (w ∷ ws) (suc id) v here = λ i. w ∷ same_views ws id v here i
+same_views : {V : Type 0} (views : List V) (id : ℕ) (view : V) → get_elem? views id ≡ some view → slice_set views id view ≡ views
+same_views [] id view has_view = refl
+same_views (first ∷ rest) zero view has_view = λ i. sym (same_some first view has_view) i ∷ rest
+same_views (first ∷ rest) (suc id) view has_view = λ i. first ∷ same_views rest id view has_view i
 
 module _ {R O : Type 0} (kind : MachineKind R O) (start : Stage R) {S : Type 0} where
   run_of_all : (state : State S (View R)) → Rule kind start state → (id : ℕ) (view : View R) → get_elem? state.views id ≡ some view → HasAllMachines (length start.machines) view → StandInSomeRun kind start view
-  run_of_all state kept id view at all =
-      let stage : Stage R = go kind start kept.events in
-      let long : length stage.machines ≡ length start.machines = length-go kind start kept.events in
-      let same : machines_of view ≡ stage.machines = whole_has_all stage.machines state.views kept.dealt id view at (subst (λ (count : ℕ). HasAllMachines count view) (sym long) all) in
-      record { words = stage.words; reached = record { events = kept.events; ends = λ i. record { words = stage.words; machines = sym same i } } }
+  run_of_all state kept_rule id view view_at has_all =
+      let stage : Stage R = go kind start kept_rule.events in
+      let same_length : length stage.machines ≡ length start.machines = length-go kind start kept_rule.events in
+      let same_machines : machines_of view ≡ stage.machines = whole_has_all stage.machines state.views kept_rule.dealt id view view_at (subst (λ (count : ℕ). HasAllMachines count view) (sym same_length) has_all) in
+      record { words = stage.words; reached = record { events = kept_rule.events; ends = λ i. record { words = stage.words; machines = sym same_machines i } } }
 
 module _ {R O K S : Type 0} (kinds : K → MachineKind R O) (starts : K → Stage R) (key : K) where
-  pub reads : (named : Option K) → named ≡ Some key → (slots id : ℕ) (me : Me S (View R)) → Allows (Rule (kinds key) (starts key)) slots id me 0 (λ n. n) (λ found. TellsOfRun kinds starts named me)
-  reads named is slots id me s kept long at bound = (
+  pub reads : (named : Option K) → named ≡ Some key → (slots id : ℕ) (me : Me S (View R)) → Allows (Rule (kinds key) (starts key)) slots id me 0 (λ value. value) (λ found. TellsOfRun kinds starts named me)
+  reads named name_is slots id me state kept_rule long view_at bound = (
     me.0,
     keeps,
     tt,
     record {
-      events = kept.events;
-      words_are = same_words s.words 0 ∙ kept.words_are;
-      dealt = subst (λ views. IsDealt (go (kinds key) (starts key) kept.events).machines views) (sym (same_views s.views id me.0 at)) kept.dealt;
+      events = kept_rule.events;
+      words_are = same_words state.words 0 ∙ kept_rule.words_are;
+      dealt = subst (λ views. IsDealt (go (kinds key) (starts key) kept_rule.events).machines views) (sym (same_views state.views id me.0 view_at)) kept_rule.dealt;
     },
     (
       refl,
-      λ named_key is_key all.
-          let same : key ≡ named_key = cc (is, is_key) in
-          subst (λ k. HasAllMachines (length (starts k).machines) me.0 → StandInSomeRun (kinds k) (starts k) me.0) same (run_of_all (kinds key) (starts key) s kept id me.0 at) all,
+      λ named_key is_key has_all.
+          let same_key : key ≡ named_key = cc (name_is, is_key) in
+          subst (λ any_key. HasAllMachines (length (starts any_key).machines) me.0 → StandInSomeRun (kinds any_key) (starts any_key) me.0) same_key (run_of_all (kinds key) (starts key) state kept_rule id me.0 view_at) has_all,
     ),
   )

@@ -4,4 +4,4 @@ use Rattle.shared_table.specs.Views.{View, machines_left}
 
 pub left_all : {R : Type 0} (view : View R) → machines_left (λ _. false) view ≡ view
 left_all [] = refl
-left_all (x ∷ xs) = λ i. x ∷ left_all xs i
+left_all (machine ∷ later_machines) = λ i. machine ∷ left_all later_machines i

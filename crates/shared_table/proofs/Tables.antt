@@ -7,48 +7,48 @@ use Rattle.atomic_table.specs.Seated.{TableId}
 abbrev Decided : {X : Type 0} → (x y : X) → Type 0
 Decided x y = (x ≡ y) ⊎ (x ≢ y)
 
-number_decided : (m n : ℕ) → Decided m n
-number_decided m n = dite (ℕ_discrete m n) (λ e. inl e) (λ apart. inr apart)
+number_decided : (number other_number : ℕ) → Decided number other_number
+number_decided number other_number = dite (ℕ_discrete number other_number) (λ equal. inl equal) (λ unequal. inr unequal)
 
 -- two are decided where each is
 both_decided : {X Y Z : Type 0} {x other_x : X} {y other_y : Y} {z other_z : Z} → (z ≡ other_z → x ≡ other_x) → (z ≡ other_z → y ≡ other_y) → (x ≡ other_x → y ≡ other_y → z ≡ other_z) → Decided x other_x → Decided y other_y → Decided z other_z
-both_decided left right whole (inl e) (inl d) = inl (whole e d)
-both_decided left right whole (inl e) (inr apart) = inr (λ s. apart (right s))
-both_decided left right whole (inr apart) decided = inr (λ s. apart (left s))
+both_decided left_follows right both_follow (inl left_same) (inl right_same) = inl (both_follow left_same right_same)
+both_decided left_follows right both_follow (inl left_same) (inr unequal) = inr (λ same_whole. unequal (right same_whole))
+both_decided left_follows right both_follow (inr unequal) decided = inr (λ same_whole. unequal (left_follows same_whole))
 
 head_or : List ℕ → ℕ
 head_or [] = 0
-head_or (x ∷ xs) = x
+head_or (head ∷ tail) = head
 
 tail_of : List ℕ → List ℕ
 tail_of [] = []
-tail_of (x ∷ xs) = xs
+tail_of (head ∷ tail) = tail
 
 numbers_decided : (xs ys : List ℕ) → Decided xs ys
 unfolding head_or tail_of
 numbers_decided [] [] = inl refl
-numbers_decided [] (y ∷ ys) = inr (λ e. let n : 0 ≡ length (y ∷ ys) = ap length e in absurd (omega arith))
-numbers_decided (x ∷ xs) [] = inr (λ e. let n : length (x ∷ xs) ≡ 0 = ap length e in absurd (omega arith))
-numbers_decided (x ∷ xs) (y ∷ ys) = both_decided {z = x ∷ xs} {other_z = y ∷ ys} (λ s. ap head_or s) (λ s. ap tail_of s) (λ e d i. e i ∷ d i) (number_decided x y) (numbers_decided xs ys)
+numbers_decided [] (y ∷ ys) = inr (λ equal. let same_length : 0 ≡ length (y ∷ ys) = ap length equal in absurd (omega arith))
+numbers_decided (x ∷ xs) [] = inr (λ equal. let same_length : length (x ∷ xs) ≡ 0 = ap length equal in absurd (omega arith))
+numbers_decided (x ∷ xs) (y ∷ ys) = both_decided {z = x ∷ xs} {other_z = y ∷ ys} (λ same_list. ap head_or same_list) (λ same_list. ap tail_of same_list) (λ equal equal_tails i. equal i ∷ equal_tails i) (number_decided x y) (numbers_decided xs ys)
 
 -- what tells tables apart, as pairs
 abbrev told : TableId → ℕ × (ℕ × (ℕ × (ℕ × (ℕ × (ℕ × List ℕ)))))
-told z = (z.words, (z.slots, (z.views_name, (z.atom, (z.block, (z.offset, z.slot_names))))))
+told table = (table.words, (table.slots, (table.views_name, (table.atom, (table.block, (table.offset, table.slot_names))))))
 
-pair_decided : {X Y : Type 0} (p q : X × Y) → Decided p.0 q.0 → Decided p.1 q.1 → Decided p q
-pair_decided p q decided e = both_decided {z = p} {other_z = q} (λ s. ap (λ r. r.0) s) (λ s. ap (λ r. r.1) s) (λ a b i. (a i, b i)) decided e
+pair_decided : {X Y : Type 0} (left_pair right_pair : X × Y) → Decided left_pair.0 right_pair.0 → Decided left_pair.1 right_pair.1 → Decided left_pair right_pair
+pair_decided left_pair right_pair decided second_decided = both_decided {z = left_pair} {other_z = right_pair} (λ same_pair. ap (λ pair. pair.0) same_pair) (λ same_pair. ap (λ pair. pair.1) same_pair) (λ same_left same_right i. (same_left i, same_right i)) decided second_decided
 
-told_decided : (x y : TableId) → Decided (told x) (told y)
-told_decided x y =
-    pair_decided (told x) (told y) (number_decided x.words y.words)
-    (pair_decided (told x).1 (told y).1 (number_decided x.slots y.slots)
-    (pair_decided (told x).1.1 (told y).1.1 (number_decided x.views_name y.views_name)
-    (pair_decided (told x).1.1.1 (told y).1.1.1 (number_decided x.atom y.atom)
-    (pair_decided (told x).1.1.1.1 (told y).1.1.1.1 (number_decided x.block y.block)
-    (pair_decided (told x).1.1.1.1.1 (told y).1.1.1.1.1 (number_decided x.offset y.offset)
-    (numbers_decided x.slot_names y.slot_names))))))
+told_decided : (table second_table : TableId) → Decided (told table) (told second_table)
+told_decided table second_table =
+    pair_decided (told table) (told second_table) (number_decided table.words second_table.words)
+    (pair_decided (told table).1 (told second_table).1 (number_decided table.slots second_table.slots)
+    (pair_decided (told table).1.1 (told second_table).1.1 (number_decided table.views_name second_table.views_name)
+    (pair_decided (told table).1.1.1 (told second_table).1.1.1 (number_decided table.atom second_table.atom)
+    (pair_decided (told table).1.1.1.1 (told second_table).1.1.1.1 (number_decided table.block second_table.block)
+    (pair_decided (told table).1.1.1.1.1 (told second_table).1.1.1.1.1 (number_decided table.offset second_table.offset)
+    (numbers_decided table.slot_names second_table.slot_names))))))
 
-pub table_decided : (x y : TableId) → Decided x y
-table_decided x y = both_decided {Y = ℕ} {x = told x} {other_x = told y} {y = 0} {other_y = 0} {z = x} {other_z = y} (λ s. ap told s) (λ s. refl)
-    (λ e d i. record { words = (e i).0; slots = (e i).1.0; views_name = (e i).1.1.0; atom = (e i).1.1.1.0; block = (e i).1.1.1.1.0; offset = (e i).1.1.1.1.1.0; slot_names = (e i).1.1.1.1.1.1 })
-    (told_decided x y) (inl refl)
+pub table_decided : (table second_table : TableId) → Decided table second_table
+table_decided table second_table = both_decided {Y = ℕ} {x = told table} {other_x = told second_table} {y = 0} {other_y = 0} {z = table} {other_z = second_table} (λ same_table. ap told same_table) (λ same_table. refl)
+    (λ same_told same_zero i. record { words = (same_told i).0; slots = (same_told i).1.0; views_name = (same_told i).1.1.0; atom = (same_told i).1.1.1.0; block = (same_told i).1.1.1.1.0; offset = (same_told i).1.1.1.1.1.0; slot_names = (same_told i).1.1.1.1.1.1 })
+    (told_decided table second_table) (inl refl)

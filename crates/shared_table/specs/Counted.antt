@@ -20,14 +20,14 @@ steps_made counted = counted.steps
 
 -- a machine that has made none
 abbrev pub at_start : {R : Type 0} → R → Counted R
-at_start r = record { machine = r; steps = 0 }
+at_start machine = record { machine = machine; steps = 0 }
 
 -- machines of a kind that count their steps: an event is one of the machine, and one step more
 abbrev pub counting : {R O : Type 0} → MachineKind R O → MachineKind (Counted R) O
 counting kind = record {
-  takes = λ x order. kind.takes x.machine order;
-  plan = λ x order. kind.plan x.machine order;
-  took = λ x order got. record { machine = kind.took x.machine order got; steps = x.steps + 1 };
+  takes = λ counted order. kind.takes counted.machine order;
+  plan = λ counted order. kind.plan counted.machine order;
+  took = λ counted order got. record { machine = kind.took counted.machine order got; steps = counted.steps + 1 };
 }
 
 -- a stage whose machines have made no step
@@ -36,7 +36,7 @@ counted_from stage = record { words = stage.words; machines = map at_start stage
 
 -- a stage without the numbers
 abbrev pub uncounted_stage : {R : Type 0} → Stage (Counted R) → Stage R
-uncounted_stage s = record { words = s.words; machines = map uncounted_machine s.machines }
+uncounted_stage stage = record { words = stage.words; machines = map uncounted_machine stage.machines }
 
 -- the machines of a view without the numbers
 abbrev pub uncounted_view : {R : Type 0} → View (Counted R) → View R

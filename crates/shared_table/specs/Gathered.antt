@@ -12,4 +12,4 @@ pub record StandInSomeRun {R O : Type 0} (kind : MachineKind R O) (start : Stage
 -- a load has told so, of a table with this key, and changed nothing
 abbrev pub TellsOfRun : {R O K S : Type 0} → (K → MachineKind R O) → (K → Stage R) → Option K → Me S (View R) → Me S (View R) → Type 0
 TellsOfRun kinds starts key before after =
-    (after ≡ before) × ((at : _) → key ≡ Some at → HasAllMachines (length (starts at).machines) before.0 → StandInSomeRun (kinds at) (starts at) before.0)
+    (after ≡ before) × ((named_key : _) → key ≡ Some named_key → HasAllMachines (length (starts named_key).machines) before.0 → StandInSomeRun (kinds named_key) (starts named_key) before.0)

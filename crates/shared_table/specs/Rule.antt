@@ -31,9 +31,9 @@ module _ {R O : Type 0} (kind : MachineKind R O) (start : Stage R) where
 
   -- each machine of the view stands as it does in some run
   abbrev pub AreReached : View R → Type 0
-  AreReached view = (number : ℕ) (r : R) → machine_of view number ≡ Some r → ∥ HasReached kind start number r ∥₁
+  AreReached view = (number : ℕ) (machine : R) → machine_of view number ≡ Some machine → ∥ HasReached kind start number machine ∥₁
 
 -- the same, of a table whose key says which kind and which opening, where key and order are named
 abbrev pub TookAs : {R O K S : Type 0} → (K → MachineKind R O) → (K → Stage R) → Option K → ℕ → Option O → Me S (View R) → ℕ → Me S (View R) → Type 0
 TookAs {R} {O} {K} {S} kinds starts key number order before got after =
-    (at : K) (named : O) → key ≡ Some at → order ≡ Some named → Took (kinds at) (starts at) number named before got after
+    (named_key : K) (named_order : O) → key ≡ Some named_key → order ≡ Some named_order → Took (kinds named_key) (starts named_key) number named_order before got after

@@ -26,7 +26,7 @@ whole machines = map Some machines
 abbrev pub machines_of : {R : Type 0} → View R → List R
 machines_of [] = []
 machines_of (None ∷ xs) = machines_of xs
-machines_of (Some r ∷ xs) = r ∷ machines_of xs
+machines_of (Some machine ∷ xs) = machine ∷ machines_of xs
 
 -- the view has all machines, of so many
 pub record HasAllMachines {R : Type 0} (count : ℕ) (view : View R) : Type 0 where
@@ -45,7 +45,7 @@ machines_left test view = machines_picked (λ number. not (test number)) view
 -- the one that is there
 abbrev pub whichever_is_there : {R : Type 0} → Option R → Option R → Option R
 whichever_is_there None other = other
-whichever_is_there (Some r) other = Some r
+whichever_is_there (Some machine) other = Some machine
 
 -- the machines of two bundles
 abbrev pub merged : {R : Type 0} → View R → View R → View R
@@ -72,7 +72,7 @@ dealt_below bundles bundle view = machines_picked (is_dealt_below bundles bundle
 -- what is kept in memory of a machine, where there is one
 abbrev pub kept_one : {R T : Type 0} → (R → T) → Option R → Option T
 kept_one kept None = None
-kept_one kept (Some r) = Some (kept r)
+kept_one kept (Some machine) = Some (kept machine)
 
 -- what is kept in memory of the machines of a view
 abbrev pub kept_in_view : {R T : Type 0} → (R → T) → View R → View T

@@ -14,39 +14,39 @@ use Rattle.shen_graph.specs.Work.{Progress}
 use Rattle.shen_check.specs.JudgeState.{MayAnswer}
 
 -- what pins no object leaves its outcome, and what pins one has it pinned
-unpinned_leaves : (graph : Graph) (t : ℕ) (command : Command) (answer : Reply) → pinned_by graph t command ≡ None → after_reply graph t command answer ≡ (outcome graph t command).graph
-unpinned_leaves graph t (Pin slot obj) (reply.At place) none = ap (λ (reference : Reference). with_pinned graph t slot reference place) none
-unpinned_leaves graph t command answer none = refl
+unpinned_leaves : (graph : Graph) (thread : ℕ) (command : Command) (answer : Reply) → pinned_by graph thread command ≡ None → after_reply graph thread command answer ≡ (outcome graph thread command).graph
+unpinned_leaves graph thread (Pin slot obj) (reply.At place) nothing_pinned = ap (λ (reference : Reference). with_pinned graph thread slot reference place) nothing_pinned
+unpinned_leaves graph thread command answer nothing_pinned = refl
 
-pinned_leaves : (graph : Graph) (t : ℕ) (command : Command) (place : ℕ) (name : Name) → pinned_by graph t command ≡ Some name → after_reply graph t command (reply.At place) ≡ with_pinned graph t (slot_of command) (Some name) place
-pinned_leaves graph t (Pin slot obj) place name is = ap (λ (reference : Reference). with_pinned graph t slot reference place) is
-pinned_leaves graph t _ place name is = absurd cc
+pinned_leaves : (graph : Graph) (thread : ℕ) (command : Command) (place : ℕ) (name : Name) → pinned_by graph thread command ≡ Some name → after_reply graph thread command (reply.At place) ≡ with_pinned graph thread (slot_of command) (Some name) place
+pinned_leaves graph thread (Pin slot obj) place name pinned_name = ap (λ (reference : Reference). with_pinned graph thread slot reference place) pinned_name
+pinned_leaves graph thread _ place name pinned_name = absurd cc
 
-legal_leaves : (regions region_words : ℕ) (graph : Graph) (t : ℕ) (command : Command) (answer : Reply) (other_graph : Graph) → (answer ≡ reply.Full → ⊥) → IsLegal regions region_words graph t command answer other_graph → other_graph ≡ after_reply graph t command answer
-legal_leaves regions region_words graph t command answer other_graph never (inl told) = ap (λ (o : Outcome). o.graph) told.1 ∙ sym (unpinned_leaves graph t command answer told.0)
-legal_leaves regions region_words graph t command answer other_graph never (inr (inl full)) = absurd (never full.1)
-legal_leaves regions region_words graph t command answer other_graph never (inr (inr pinning)) =
-    pinning.graph ∙ sym (pinned_leaves graph t command pinning.place pinning.name pinning.pins) ∙ ap (after_reply graph t command) (sym pinning.reply)
+legal_leaves : (regions region_words : ℕ) (graph : Graph) (thread : ℕ) (command : Command) (answer : Reply) (next_graph : Graph) → (answer ≡ reply.Full → ⊥) → IsLegal regions region_words graph thread command answer next_graph → next_graph ≡ after_reply graph thread command answer
+legal_leaves regions region_words graph thread command answer next_graph never (inl plain_answer) = ap (λ (given_outcome : Outcome). given_outcome.graph) plain_answer.1 ∙ sym (unpinned_leaves graph thread command answer plain_answer.0)
+legal_leaves regions region_words graph thread command answer next_graph never (inr (inl full_answer)) = absurd (never full_answer.1)
+legal_leaves regions region_words graph thread command answer next_graph never (inr (inr pinning)) =
+    pinning.graph ∙ sym (pinned_leaves graph thread command pinning.place pinning.name pinning.pins) ∙ ap (after_reply graph thread command) (sym pinning.reply)
 
 not_full : (answer : Reply) → (answer ≡ reply.Full → ⊥) → is_full answer ≡ false
 not_full reply.Full never = absurd (never refl)
 not_full _ never = refl
 
 -- what is accepted may be answered, and what is not may not
-accepted : (config : Config) (graph other_graph : Graph) (work : List (Option Progress)) (entry : Entry) → (entry.reply ≡ reply.Full → ⊥) → IsLegal config.regions config.region_words graph entry.thread entry.command entry.reply other_graph
-    → MayAnswer config graph work entry × (other_graph ≡ after_entry graph entry)
-accepted config graph other_graph work entry never legal =
-    let last : after_entry graph entry ≡ after_reply graph entry.thread entry.command entry.reply = ap (λ (holds : Bool). if holds then graph else after_reply graph entry.thread entry.command entry.reply) (not_full entry.reply never) in
-    let same : other_graph ≡ after_entry graph entry = legal_leaves config.regions config.region_words graph entry.thread entry.command entry.reply other_graph never legal ∙ sym last in
-    (record { legal = subst (IsLegal config.regions config.region_words graph entry.thread entry.command entry.reply) same legal; full = λ is. absurd (never is) }, same)
+accepted : (config : Config) (graph next_graph : Graph) (work : List (Option Progress)) (entry : Entry) → (entry.reply ≡ reply.Full → ⊥) → IsLegal config.regions config.region_words graph entry.thread entry.command entry.reply next_graph
+    → MayAnswer config graph work entry × (next_graph ≡ after_entry graph entry)
+accepted config graph next_graph work entry never legal =
+    let same_after : after_entry graph entry ≡ after_reply graph entry.thread entry.command entry.reply = ap (λ (holds : Bool). if holds then graph else after_reply graph entry.thread entry.command entry.reply) (not_full entry.reply never) in
+    let same_graph : next_graph ≡ after_entry graph entry = legal_leaves config.regions config.region_words graph entry.thread entry.command entry.reply next_graph never legal ∙ sym same_after in
+    (record { legal = subst (IsLegal config.regions config.region_words graph entry.thread entry.command entry.reply) same_graph legal; full = λ reply_full. absurd (never reply_full) }, same_graph)
 
-pub answered : {E : Type 0} (config : Config) (g h : Graph) (work : List (Option Progress)) (entry : Entry) (regions region_words : ℕ) (r : Result Bool E) (Same : Type 0) → regions ≡ config.regions → region_words ≡ config.region_words
+pub answered : {E : Type 0} (config : Config) (old_graph next_graph : Graph) (work : List (Option Progress)) (entry : Entry) (regions region_words : ℕ) (result : Result Bool E) (Same : Type 0) → regions ≡ config.regions → region_words ≡ config.region_words
     → (entry.reply ≡ reply.Full → ⊥)
-    → IfOk r (λ may. MatchBool may (IsLegal regions region_words g entry.thread entry.command entry.reply h × (entry.reply ≡ reply.Full → ⊥)) (((k : Graph) → IsLegal regions region_words g entry.thread entry.command entry.reply k → entry.reply ≡ reply.Full) × Same))
-    → IfOk r (λ may. MatchBool may (MayAnswer config g work entry × (h ≡ after_entry g entry)) (MayAnswer config g work entry → ⊥))
-answered config graph other_graph work entry regions region_words (Ok true) Same same b never told =
-    accepted config graph other_graph work entry never (subst (λ (region_words : ℕ). IsLegal config.regions region_words graph entry.thread entry.command entry.reply other_graph) b (subst (λ (regions : ℕ). IsLegal regions region_words graph entry.thread entry.command entry.reply other_graph) same told.0))
-answered config graph other_graph work entry regions region_words (Ok false) Same same b never told = λ may.
-    never (told.0 (after_entry graph entry) (subst (λ (regions : ℕ). IsLegal regions region_words graph entry.thread entry.command entry.reply (after_entry graph entry)) (sym same)
-    (subst (λ (region_words : ℕ). IsLegal config.regions region_words graph entry.thread entry.command entry.reply (after_entry graph entry)) (sym b) may.legal)))
-answered config graph other_graph work entry regions region_words (Err f) Same same b never told = tt
+    → IfOk result (λ allowed. MatchBool allowed (IsLegal regions region_words old_graph entry.thread entry.command entry.reply next_graph × (entry.reply ≡ reply.Full → ⊥)) (((some_graph : Graph) → IsLegal regions region_words old_graph entry.thread entry.command entry.reply some_graph → entry.reply ≡ reply.Full) × Same))
+    → IfOk result (λ allowed. MatchBool allowed (MayAnswer config old_graph work entry × (next_graph ≡ after_entry old_graph entry)) (MayAnswer config old_graph work entry → ⊥))
+answered config graph later_graph work entry regions region_words (Ok true) Same same_regions same_words never told =
+    accepted config graph later_graph work entry never (subst (λ (region_words : ℕ). IsLegal config.regions region_words graph entry.thread entry.command entry.reply later_graph) same_words (subst (λ (regions : ℕ). IsLegal regions region_words graph entry.thread entry.command entry.reply later_graph) same_regions told.0))
+answered config graph later_graph work entry regions region_words (Ok false) Same same_regions same_words never told = λ allowed.
+    never (told.0 (after_entry graph entry) (subst (λ (regions : ℕ). IsLegal regions region_words graph entry.thread entry.command entry.reply (after_entry graph entry)) (sym same_regions)
+    (subst (λ (region_words : ℕ). IsLegal config.regions region_words graph entry.thread entry.command entry.reply (after_entry graph entry)) (sym same_words) allowed.legal)))
+answered config graph later_graph work entry regions region_words (Err fault) Same same_regions same_words never told = tt

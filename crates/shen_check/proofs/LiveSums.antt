@@ -5,14 +5,14 @@ use Rattle.std.proofs.lemmas.List.{map-id}
 use Rattle.std.proofs.lemmas.List.Concat.{flat_map-append}
 use Rattle.std.proofs.lemmas.List.FromFn.{map-range_with_len_more, sum_by-map-range_with_len_more}
 
-pub sum_more : (f : ℕ → ℕ) (a n j : ℕ) → a + n ≡ j → sum_by f (range_with_len a (n + 1)) ≡ sum_by f (range_with_len a n) + f j
-sum_more f a n j same =
-    ap (sum_by f) (sym (map-id (range_with_len a (n + 1))))
-    ∙ sum_by-map-range_with_len_more f (λ (x : ℕ). x) a n j same
-    ∙ ap (λ (l : List ℕ). sum_by f l + f j) (map-id (range_with_len a n))
+pub sum_more : (f : ℕ → ℕ) (start count last_number : ℕ) → start + count ≡ last_number → sum_by f (range_with_len start (count + 1)) ≡ sum_by f (range_with_len start count) + f last_number
+sum_more f start count last_number same_number =
+    ap (sum_by f) (sym (map-id (range_with_len start (count + 1))))
+    ∙ sum_by-map-range_with_len_more f (λ (x : ℕ). x) start count last_number same_number
+    ∙ ap (λ (numbers : List ℕ). sum_by f numbers + f last_number) (map-id (range_with_len start count))
 
-pub flat_more : {A : Type 0} (f : ℕ → List A) (a n j : ℕ) → a + n ≡ j → flat_map f (range_with_len a (n + 1)) ≡ flat_map f (range_with_len a n) ++ f j
-flat_more {A} f a n same e =
-    let longer : range_with_len a (n + 1) ≡ range_with_len a n ++ same ∷ [] =
-    sym (map-id (range_with_len a (n + 1))) ∙ map-range_with_len_more (λ (x : ℕ). x) a n same e ∙ ap (λ (l : List ℕ). l ++ same ∷ []) (map-id (range_with_len a n)) in
-    ap (flat_map f) longer ∙ flat_map-append f (range_with_len a n) (same ∷ []) ∙ ap (λ (l : List A). flat_map f (range_with_len a n) ++ l) (append-nil (f same))
+pub flat_more : {A : Type 0} (f : ℕ → List A) (start count last_number : ℕ) → start + count ≡ last_number → flat_map f (range_with_len start (count + 1)) ≡ flat_map f (range_with_len start count) ++ f last_number
+flat_more {A} f start count same_number e =
+    let longer : range_with_len start (count + 1) ≡ range_with_len start count ++ same_number ∷ [] =
+    sym (map-id (range_with_len start (count + 1))) ∙ map-range_with_len_more (λ (x : ℕ). x) start count same_number e ∙ ap (λ (elements : List ℕ). elements ++ same_number ∷ []) (map-id (range_with_len start count)) in
+    ap (flat_map f) longer ∙ flat_map-append f (range_with_len start count) (same_number ∷ []) ∙ ap (λ (elements : List A). flat_map f (range_with_len start count) ++ elements) (append-nil (f same_number))

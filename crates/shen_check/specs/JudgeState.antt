@@ -39,7 +39,7 @@ abbrev pub names_held : List Pinned → List Name
 names_held held = with_names [] (map (λ p. Some p.name) held)
 
 abbrev pub with_number : List ℕ → ℕ → List ℕ
-with_number found n = if list_any (λ m. m == n) found then found else found ++ n ∷ []
+with_number found number = if list_any (λ other_number. other_number == number) found then found else found ++ number ∷ []
 
 abbrev pub regions_held : ℕ → List Pinned → List ℕ
 regions_held region_words held = fold with_number [] (map (λ p. p.place / region_words) held)

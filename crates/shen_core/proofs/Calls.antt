@@ -25,48 +25,48 @@ use Rattle.shen_core.proofs.Turns.{actor_turn, turn_number}
 use Rattle.shen_core.proofs.Keeps.{schedule_keeps}
 
 -- a machine makes its event under its own order
-own_turn : (t : ℕ) (found : Option Order) (e : Event Order) → option_map (λ order. event t order) found ≡ Some e → found ≡ Some e.order
-own_turn t None e found = absurd cc
-own_turn t (Some order) e found = ap (λ (y : Event Order). Some y.order) (same_Some _ e found)
+own_turn : (number : ℕ) (found : Option Order) (made_event : Event Order) → option_map (λ order. event number order) found ≡ Some made_event → found ≡ Some made_event.order
+own_turn number None made_event found = absurd cc
+own_turn number (Some order) made_event found = ap (λ (some_event : Event Order). Some some_event.order) (same_Some _ made_event found)
 
 -- a turn keeps that the calls of a mutator are the first of its script
-turn_keeps : (config : Config) (scripts : Scripts) (number : ℕ) (stage : Stage Actor) (k : ℕ) (e : Event Order) → turn scripts stage k ≡ Some e → CallsScript scripts stage number → CallsScript scripts (act (kind pause_image config) stage e) number
+turn_keeps : (config : Config) (scripts : Scripts) (number : ℕ) (stage : Stage Actor) (asked_number : ℕ) (e : Event Order) → turn scripts stage asked_number ≡ Some e → CallsScript scripts stage number → CallsScript scripts (act (kind pause_image config) stage e) number
 unfolding kind
-turn_keeps config scripts number stage k e is before = act_cases (kind pause_image config) (λ stage. CallsScript scripts stage number) stage e before (λ actor here takes. by_number actor here (cases_eq number e.number))
+turn_keeps config scripts number stage asked_number e turn_made before = act_cases (kind pause_image config) (λ stage. CallsScript scripts stage number) stage e before (λ actor here takes. by_number actor here (cases_eq number e.number))
   where
     other : (actor : Actor) → number ≢ e.number → CallsScript scripts (moved (kind pause_image config) stage e.number actor e.order) number
-    other actor differs = record { actor = before.actor; here = slice_get-set_other stage.machines e.number number _ differs ∙ before.here; role = before.role; calls = before.calls }
+    other actor numbers_differ = record { actor = before.actor; here = slice_get-set_other stage.machines e.number number _ numbers_differ ∙ before.here; role = before.role; calls = before.calls }
 
     own : (got : ℕ) (machines : List Actor) (words : List ℕ) (actor : Actor) → slice_get stage.machines e.number ≡ Some actor → actor ≡ before.actor → machines ≡ slice_set stage.machines e.number (took_of pause_image config actor e.order got actor.machine) → number ≡ e.number
         → CallsScript scripts (record { words = words; machines = machines }) number
-    own got machines words actor here same_actor made same =
-        let a = before.actor in
-        let order : order_for (slice_get (nth_script scripts number) (length a.calls)) a.machine ≡ Some e.order =
-        own_turn number (order_for (slice_get (nth_script scripts number) (length a.calls)) a.machine) e (sym (actor_turn scripts stage number a before.here) ∙ ap (turn scripts stage) (same ∙ turn_number scripts stage k e is) ∙ is) in
+    own got machines words actor actor_there same_actor machines_made same_number =
+        let actor_before = before.actor in
+        let order_due : order_for (slice_get (nth_script scripts number) (length actor_before.calls)) actor_before.machine ≡ Some e.order =
+        own_turn number (order_for (slice_get (nth_script scripts number) (length actor_before.calls)) actor_before.machine) e (sym (actor_turn scripts stage number actor_before before.here) ∙ ap (turn scripts stage) (same_number ∙ turn_number scripts stage asked_number e turn_made) ∙ turn_made) in
         record {
-          actor = took_of pause_image config a e.order got a.machine;
-          here = ap (slice_get machines) same ∙ ap (λ (ms : List Actor). slice_get ms e.number) made ∙ slice_get-set_same stage.machines e.number actor (took_of pause_image config actor e.order got actor.machine) here
+          actor = took_of pause_image config actor_before e.order got actor_before.machine;
+          here = ap (slice_get machines) same_number ∙ ap (λ (some_machines : List Actor). slice_get some_machines e.number) machines_made ∙ slice_get-set_same stage.machines e.number actor (took_of pause_image config actor e.order got actor.machine) actor_there
               ∙ ap (λ (actor : Actor). Some (took_of pause_image config actor e.order got actor.machine)) same_actor;
-          role = role_stays pause_image config e.order got a.machine ∙ before.role;
-          calls = script_step pause_image config (nth_script scripts number) a e.order got before.calls order;
+          role = role_stays pause_image config e.order got actor_before.machine ∙ before.role;
+          calls = script_step pause_image config (nth_script scripts number) actor_before e.order got before.calls order_due;
         }
 
     by_number : (actor : Actor) → slice_get stage.machines e.number ≡ Some actor → ((number ≡ e.number) ⊎ (number ≢ e.number)) → CallsScript scripts (moved (kind pause_image config) stage e.number actor e.order) number
-    by_number actor here (inr differs) = other actor differs
-    by_number actor here (inl same) =
-        own _ (moved (kind pause_image config) stage e.number actor e.order).machines (moved (kind pause_image config) stage e.number actor e.order).words actor here (same_Some actor before.actor (sym here ∙ ap (slice_get stage.machines) (sym same) ∙ before.here)) refl same
+    by_number actor actor_there (inr numbers_differ) = other actor numbers_differ
+    by_number actor actor_there (inl same_number) =
+        own _ (moved (kind pause_image config) stage e.number actor e.order).machines (moved (kind pause_image config) stage e.number actor e.order).words actor actor_there (same_Some actor before.actor (sym actor_there ∙ ap (slice_get stage.machines) (sym same_number) ∙ before.here)) refl same_number
 
 -- the events of a schedule keep it for each mutator
-pub all_call : (config : Config) (scripts : Scripts) (n : ℕ) (agenda : Agenda) (stage : Stage Actor) → AllCall config scripts stage → AllCall config scripts (go (kind pause_image config) stage (scheduled pause_image config scripts n agenda stage))
-all_call config scripts n agenda stage calls t below = schedule_keeps config scripts (λ stage. CallsScript scripts stage t) (turn_keeps config scripts t) n agenda stage (calls t below)
+pub all_call : (config : Config) (scripts : Scripts) (events_left : ℕ) (agenda : Agenda) (stage : Stage Actor) → AllCall config scripts stage → AllCall config scripts (go (kind pause_image config) stage (scheduled pause_image config scripts events_left agenda stage))
+all_call config scripts events_left agenda stage calls mutator mutator_below = schedule_keeps config scripts (λ stage. CallsScript scripts stage mutator) (turn_keeps config scripts mutator) events_left agenda stage (calls mutator mutator_below)
 
 -- in the opening there are no calls
 pub all_call_first : (config : Config) (scripts : Scripts) → AllCall config scripts (opening config)
-all_call_first config scripts t below = record {
-  actor = opening_actor config t;
-  here = first_actor config t (omega arith);
-  role = first_role config t ∙ lt-ltb t config.mutators below;
-  calls = first_on_script config t (nth_script scripts t) below;
+all_call_first config scripts mutator mutator_below = record {
+  actor = opening_actor config mutator;
+  here = first_actor config mutator (omega arith);
+  role = first_role config mutator ∙ lt-ltb mutator config.mutators mutator_below;
+  calls = first_on_script config mutator (nth_script scripts mutator) mutator_below;
 }
 
 -- a mutator without a turn has called its whole script
@@ -79,9 +79,9 @@ idle_has_called scripts stage number before idle = record {
 }
   where
     nothing_of : (found : Option Order) → option_map (λ order. event number order) found ≡ None → found ≡ None
-    nothing_of None h = refl
-    nothing_of (Some x) h = absurd cc
+    nothing_of None no_event = refl
+    nothing_of (Some some_order) no_event = absurd cc
 
 -- where all machines are idle, each mutator has called its whole script
 pub all_have_called : (config : Config) (scripts : Scripts) (stage : Stage Actor) → AreIdle config scripts stage → AllCall config scripts stage → AllHaveCalled config scripts stage
-all_have_called config scripts stage idle calls t below = idle_has_called scripts stage t (calls t below) (idle t (omega arith))
+all_have_called config scripts stage idle calls mutator mutator_below = idle_has_called scripts stage mutator (calls mutator mutator_below) (idle mutator (omega arith))

@@ -26,17 +26,17 @@ use Rattle.heap_machines.specs.FromImage.{machine_from, stage_from, CanBeginFrom
 use Rattle.heap_machines.proofs.FromImages.{mutator_is, stage_machines, begins_from}
 
 -- memory shows the stage
-pub shows_from : (config : Config) (words counts held : List ℕ) (machines : List Machine) → held ≡ words → map shown machines ≡ map (machine_from config counts (view config words)) (range_with_len 0 (seat_count config.mutators config.helpers))
-    → WordsShow held (map shown machines) (stage_from config words counts)
+pub shows_from : (config : Config) (words counts held_words : List ℕ) (machines : List Machine) → held_words ≡ words → map shown machines ≡ map (machine_from config counts (view config words)) (range_with_len 0 (seat_count config.mutators config.helpers))
+    → WordsShow held_words (map shown machines) (stage_from config words counts)
 unfolding stage_from
-shows_from config words counts held machines words_are machines_are = record { words_are = sym words_are; machines_are = stage_machines config words counts ∙ sym machines_are }
+shows_from config words counts held_words machines words_are machines_are = record { words_are = sym words_are; machines_are = stage_machines config words counts ∙ sym machines_are }
 
 -- so some run has led there, of no event
-pub shown_from : (config : Config) (words counts held : List ℕ) (machines : List actors.Machine) → length words ≡ table_words config → WordsShow held machines (stage_from config words counts) → ∥ ((graph : Graph) × CanBeginFrom config (view config words) counts graph) ∥₁
-    → ∥ IsShownBySomeRun config held machines ∥₁
-shown_from config words counts held machines long shows some = ∥∥₁_map some (λ can. record {
-  run = record { start = stage_from config words counts; graph = can.0; begins = begins_from config words counts long can.0 can.1; events = [] };
-  shows = subst (λ stage. WordsShow held machines stage) (sym (go-none (kind pause_image config) (stage_from config words counts))) shows;
+pub shown_from : (config : Config) (words counts held_words : List ℕ) (machines : List actors.Machine) → length words ≡ table_words config → WordsShow held_words machines (stage_from config words counts) → ∥ ((graph : Graph) × CanBeginFrom config (view config words) counts graph) ∥₁
+    → ∥ IsShownBySomeRun config held_words machines ∥₁
+shown_from config words counts held_words machines table_long shows some_graph = ∥∥₁_map some_graph (λ can_begin. record {
+  run = record { start = stage_from config words counts; graph = can_begin.0; begins = begins_from config words counts table_long can_begin.0 can_begin.1; events = [] };
+  shows = subst (λ stage. WordsShow held_words machines stage) (sym (go-none (kind pause_image config) (stage_from config words counts))) shows;
 })
 
 -- what is known of a heap of words and machines
@@ -44,13 +44,13 @@ pub opened_shows : (plain : Plain) (words : List ℕ) (machines : List actors.Ma
 opened_shows plain words machines stage words_are machines_are shows = record { words_are = shows.words_are ∙ sym words_are; machines_are = shows.machines_are ∙ sym machines_are }
 
 pub opened_orders : (plain : Plain) (orders : List Order) → orders_of plain ≡ orders → All (λ order. order ≡ Nothing) orders → All (λ order. order ≡ Nothing) (orders_of plain)
-opened_orders plain orders is none = subst (λ os. All (λ order. order ≡ Nothing) os) (sym is) none
+opened_orders plain orders orders_told no_orders = subst (λ some_orders. All (λ order. order ≡ Nothing) some_orders) (sym orders_told) no_orders
 
 -- the first machine, where there is a mutator: it is one of a thread that has made so many objects
-pub first_from : (config : Config) (words counts : List ℕ) (machines : List actors.Machine) → map (λ a. a.machine) (stage_from config words counts).machines ≡ machines → 0 < config.mutators
+pub first_from : (config : Config) (words counts : List ℕ) (machines : List actors.Machine) → map (λ actor. actor.machine) (stage_from config words counts).machines ≡ machines → 0 < config.mutators
     → slice_index_or machines 0 no_machine ≡ mutating (mutator_after 0 (slice_index counts 0))
-first_from config words counts machines is positive =
-    let made = machine_from config counts (view config words) in
-    ap (λ ms. slice_index_or ms 0 no_machine) (sym is ∙ stage_machines config words counts)
-    ∙ get_or-map-range_with_len made 0 (seat_count config.mutators config.helpers) 0 0 no_machine (omega arith) refl
-    ∙ sym (mutator_is config counts (view config words) 0 positive)
+first_from config words counts machines machines_told some_mutator =
+    let machines_made = machine_from config counts (view config words) in
+    ap (λ some_machines. slice_index_or some_machines 0 no_machine) (sym machines_told ∙ stage_machines config words counts)
+    ∙ get_or-map-range_with_len machines_made 0 (seat_count config.mutators config.helpers) 0 0 no_machine (omega arith) refl
+    ∙ sym (mutator_is config counts (view config words) 0 some_mutator)

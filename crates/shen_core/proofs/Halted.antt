@@ -23,29 +23,29 @@ use Rattle.shen_core.proofs.Noted.{IsStepped, turned_on, none_given}
 use Rattle.shen_core.proofs.Settles.{sees_nothing}
 use Rattle.shen_core.proofs.Turns.{machine_within, role_within, is_turn}
 
-module _ (plain : Plain) (jobs : Jobs) (number : ℕ) (within : number < length (machines_of plain)) (none : order_at plain number ≡ Nothing) (held : IsHalted plain number) where
+module _ (plain : Plain) (jobs : Jobs) (number : ℕ) (number_within : number < length (machines_of plain)) (no_order : order_at plain number ≡ Nothing) (is_halted : IsHalted plain number) where
   abbrev machine : Machine
   machine = machine_at plain number
 
   -- its access finds the pause word
   finds : slice_index (words_of plain) (table_index (plan_of (config_of plain) (order_at plain number) machine)) ≡ slice_index (words_of plain) (word_at (config_of plain) Pause)
-  finds = ap (λ o. slice_index (words_of plain) (table_index (plan_of (config_of plain) o machine))) none
-      ∙ ap (λ a. slice_index (words_of plain) (table_index a)) held.awaits.looks
+  finds = ap (λ order. slice_index (words_of plain) (table_index (plan_of (config_of plain) order machine))) no_order
+      ∙ ap (λ access. slice_index (words_of plain) (table_index access)) is_halted.awaits.looks
 
   -- it takes no order
   takes : takes_of machine (order_at plain number) ≡ true
-  takes = ap (takes_of machine) none ∙ held.awaits.takes
+  takes = ap (takes_of machine) no_order ∙ is_halted.awaits.takes
 
   -- it stays
   stays : next_machine plain number ≡ machine
   stays = ap (λ got. machine_after pause_image (config_of plain) (order_at plain number) got machine) finds
-      ∙ ap (λ o. machine_after pause_image (config_of plain) o (slice_index (words_of plain) (word_at (config_of plain) Pause)) machine) none
-      ∙ held.awaits.stays (slice_index (words_of plain) (word_at (config_of plain) Pause)) held.wanted
+      ∙ ap (λ order. machine_after pause_image (config_of plain) order (slice_index (words_of plain) (word_at (config_of plain) Pause)) machine) no_order
+      ∙ is_halted.awaits.stays (slice_index (words_of plain) (word_at (config_of plain) Pause)) is_halted.wanted
 
   -- so do the words
   same_words : accessed (plan_of (config_of plain) (order_at plain number) machine) (words_of plain) ≡ words_of plain
-  same_words = ap (λ o. accessed (plan_of (config_of plain) o machine) (words_of plain)) none
-      ∙ ap (λ a. accessed a (words_of plain)) held.awaits.looks
+  same_words = ap (λ order. accessed (plan_of (config_of plain) order machine) (words_of plain)) no_order
+      ∙ ap (λ access. accessed access (words_of plain)) is_halted.awaits.looks
       ∙ set-get_or (words_of plain) (word_at (config_of plain) Pause) 0
 
   -- and the machines
@@ -59,36 +59,36 @@ module _ (plain : Plain) (jobs : Jobs) (number : ℕ) (within : number < length 
   -- its turn is one event, which leads to the same
   stepped_halted : IsStepped plain plain plain jobs number stepped.Again
   stepped_halted =
-      let role = role_within plain number within in
-      let next : IsNextTurn plain jobs number true (order_at plain number) = held.awaits.goes_on (next_for (config_of plain) jobs number) ∙ ap Some (sym none) in
-      let one = one_event (config_of plain) (words_of plain) (machines_of plain) number machine (order_at plain number) (machine_within (machines_of plain) number within) takes in
+      let role = role_within plain number number_within in
+      let turn_next : IsNextTurn plain jobs number true (order_at plain number) = is_halted.awaits.goes_on (next_for (config_of plain) jobs number) ∙ ap Some (sym no_order) in
+      let event_made = one_event (config_of plain) (words_of plain) (machines_of plain) number machine (order_at plain number) (machine_within (machines_of plain) number number_within) takes in
       record {
-        within = within;
+        within = number_within;
         mid_words = refl;
         mid_machines = refl;
         mid_config = refl;
         mid_orders = sym same_orders;
         role = role;
-        turn = is_turn plain jobs number true (order_at plain number) within role next;
-        next = next;
+        turn = is_turn plain jobs number true (order_at plain number) number_within role turn_next;
+        next = turn_next;
         has = takes;
-        event = subst (λ ws. IsOneEvent (config_of plain) (words_of plain) (machines_of plain) ws (machines_of plain) number (order_at plain number)) same_words
-            (subst (λ ms. IsOneEvent (config_of plain) (words_of plain) (machines_of plain) (accessed (plan_of (config_of plain) (order_at plain number) machine) (words_of plain)) ms number (order_at plain number)) same_machines one);
-        says = sym (ap (λ got. stepped_by (answer_of (config_of plain) (order_at plain number) machine got)) finds ∙ ap (λ order. stepped_by (answer_of (config_of plain) order machine (slice_index (words_of plain) (word_at (config_of plain) Pause)))) none ∙ ap stepped_by (held.awaits.waits (slice_index (words_of plain) (word_at (config_of plain) Pause)) held.wanted));
+        event = subst (λ word_list. IsOneEvent (config_of plain) (words_of plain) (machines_of plain) word_list (machines_of plain) number (order_at plain number)) same_words
+            (subst (λ machine_list. IsOneEvent (config_of plain) (words_of plain) (machines_of plain) (accessed (plan_of (config_of plain) (order_at plain number) machine) (words_of plain)) machine_list number (order_at plain number)) same_machines event_made);
+        says = sym (ap (λ got. stepped_by (answer_of (config_of plain) (order_at plain number) machine got)) finds ∙ ap (λ order. stepped_by (answer_of (config_of plain) order machine (slice_index (words_of plain) (word_at (config_of plain) Pause)))) no_order ∙ ap stepped_by (is_halted.awaits.waits (slice_index (words_of plain) (word_at (config_of plain) Pause)) is_halted.wanted));
         machines = sym same_machines;
-        orders = sym (ap (slice_set (orders_of plain) number) (sym none) ∙ same_orders);
+        orders = sym (ap (slice_set (orders_of plain) number) (sym no_order) ∙ same_orders);
         config = refl;
       }
 
   -- the heap has made its turn
   pub halted_turned : HasTurned plain jobs number plain jobs stepped.Again
-  halted_turned = turned_on plain plain plain jobs number stepped.Again stepped_halted (none_given plain plain plain jobs number stepped.Again stepped_halted (λ done. absurd cc))
+  halted_turned = turned_on plain plain plain jobs number stepped.Again stepped_halted (none_given plain plain plain jobs number stepped.Again stepped_halted (λ says_done. absurd cc))
 
   -- nothing was settled
   pub halted_notes : NotesTurn plain jobs number plain
-  halted_notes scripts s shows tells ends =
-      sym (ap (λ t. noted plain.notes (told_by (config_of plain) s t)) (stepped_halted.turn scripts s shows tells)
+  halted_notes scripts given_stage shows tells ends =
+      sym (ap (λ turned. noted plain.notes (told_by (config_of plain) given_stage turned)) (stepped_halted.turn scripts given_stage shows tells)
       ∙ ap (noted plain.notes)
-      (sees_nothing (config_of plain) (words_of plain) (machines_of plain) number (order_at plain number) machine (machine_within (machines_of plain) number within) takes
-      (held.awaits.settles (view (config_of plain) (words_of plain))) (held.awaits.refuses (words_of plain)) s shows ends)
+      (sees_nothing (config_of plain) (words_of plain) (machines_of plain) number (order_at plain number) machine (machine_within (machines_of plain) number number_within) takes
+      (is_halted.awaits.settles (view (config_of plain) (words_of plain))) (is_halted.awaits.refuses (words_of plain)) given_stage shows ends)
       ∙ noted_none plain.notes)

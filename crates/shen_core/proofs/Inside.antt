@@ -40,36 +40,36 @@ pub record StepsInside (plain mid other_plain : Plain) (number : ℕ) : Type 0 w
   pub config : config_of other_plain ≡ config_of mid
   pub notes : notes_of other_plain ≡ notes_of mid
 
-module _ (plain mid other_plain : Plain) (number : ℕ) (within : number < length (machines_of plain)) (none : order_at plain number ≡ Nothing) (inside : is_inside_image (config_of plain) (machine_at plain number) ≡ true)
-    (facts : StepsInside plain mid other_plain number) where
+module _ (plain mid next_plain : Plain) (number : ℕ) (number_below : number < length (machines_of plain)) (no_order : order_at plain number ≡ Nothing) (inside_image : is_inside_image (config_of plain) (machine_at plain number) ≡ true)
+    (facts : StepsInside plain mid next_plain number) where
   goes : GoesInside (config_of plain) (machine_at plain number)
-  goes = goes_inside (config_of plain) (machine_at plain number) inside
+  goes = goes_inside (config_of plain) (machine_at plain number) inside_image
 
   -- in between it has no order, and is the same
   order_mid : order_at mid number ≡ Nothing
-  order_mid = ap (λ os. get_or os number Nothing) facts.mid_orders ∙ none
+  order_mid = ap (λ order_list. get_or order_list number Nothing) facts.mid_orders ∙ no_order
 
   machine_mid : machine_at mid number ≡ machine_at plain number
-  machine_mid = ap (λ ms. get_or ms number no_machine) facts.mid_machines
+  machine_mid = ap (λ machine_list. get_or machine_list number no_machine) facts.mid_machines
 
   -- its turn is one event
-  stepped_inside : (jobs : Jobs) → IsStepped plain mid other_plain jobs number stepped.More
+  stepped_inside : (jobs : Jobs) → IsStepped plain mid next_plain jobs number stepped.More
   stepped_inside jobs =
-      let role = role_within plain number within in
+      let role = role_within plain number number_below in
       let got = word_found_by mid number in
-      let next = goes.goes_on (next_for (config_of plain) jobs number) ∙ ap Some (sym order_mid) in
+      let turn_next = goes.goes_on (next_for (config_of plain) jobs number) ∙ ap Some (sym order_mid) in
       record {
-        within = within;
+        within = number_below;
         mid_words = facts.mid_words;
         mid_machines = facts.mid_machines;
         mid_config = facts.mid_config;
-        mid_orders = facts.mid_orders ∙ sym (ap (slice_set (orders_of plain) number) (order_mid ∙ sym none) ∙ set-get_or (orders_of plain) number Nothing);
+        mid_orders = facts.mid_orders ∙ sym (ap (slice_set (orders_of plain) number) (order_mid ∙ sym no_order) ∙ set-get_or (orders_of plain) number Nothing);
         role = role;
-        turn = is_turn plain jobs number true (order_at mid number) within role next;
-        next = next;
-        has = ap (λ m. takes_of m (order_at mid number)) machine_mid ∙ ap (takes_of (machine_at plain number)) order_mid ∙ goes.takes;
+        turn = is_turn plain jobs number true (order_at mid number) number_below role turn_next;
+        next = turn_next;
+        has = ap (λ some_machine. takes_of some_machine (order_at mid number)) machine_mid ∙ ap (takes_of (machine_at plain number)) order_mid ∙ goes.takes;
         event = facts.event;
-        says = sym (ap (λ c. stepped_by (answer_of c (order_at mid number) (machine_at mid number) got)) facts.mid_config ∙ ap (λ m. stepped_by (answer_of (config_of plain) (order_at mid number) m got)) machine_mid
+        says = sym (ap (λ some_config. stepped_by (answer_of some_config (order_at mid number) (machine_at mid number) got)) facts.mid_config ∙ ap (λ some_machine. stepped_by (answer_of (config_of plain) (order_at mid number) some_machine got)) machine_mid
             ∙ ap (λ order. stepped_by (answer_of (config_of plain) order (machine_at plain number) got)) order_mid ∙ ap stepped_by (goes.says got));
         machines = facts.machines;
         orders = facts.orders;
@@ -77,50 +77,50 @@ module _ (plain mid other_plain : Plain) (number : ℕ) (within : number < lengt
       }
 
   -- the heap has made its turn
-  pub inside_turned : (jobs : Jobs) → HasTurned plain jobs number other_plain jobs stepped.More
-  inside_turned jobs = turned_on plain mid other_plain jobs number stepped.More (stepped_inside jobs) (none_given plain mid other_plain jobs number stepped.More (stepped_inside jobs) (λ done. absurd cc))
+  pub inside_turned : (jobs : Jobs) → HasTurned plain jobs number next_plain jobs stepped.More
+  inside_turned jobs = turned_on plain mid next_plain jobs number stepped.More (stepped_inside jobs) (none_given plain mid next_plain jobs number stepped.More (stepped_inside jobs) (λ says_done. absurd cc))
 
   -- and can go on
-  pub inside_runs : (jobs : Jobs) → CanRun plain jobs → CanRun other_plain jobs
-  inside_runs jobs before = can_run_on plain mid other_plain jobs number stepped.More (stepped_inside jobs) (none_given plain mid other_plain jobs number stepped.More (stepped_inside jobs) (λ done. absurd cc)) before
+  pub inside_runs : (jobs : Jobs) → CanRun plain jobs → CanRun next_plain jobs
+  inside_runs jobs ran_before = can_run_on plain mid next_plain jobs number stepped.More (stepped_inside jobs) (none_given plain mid next_plain jobs number stepped.More (stepped_inside jobs) (λ says_done. absurd cc)) ran_before
 
   -- what it settles was noted
-  pub inside_notes : (jobs : Jobs) → NotesTurn plain jobs number other_plain
+  pub inside_notes : (jobs : Jobs) → NotesTurn plain jobs number next_plain
   inside_notes jobs =
-      turn_kept plain mid other_plain jobs number
-      (turn_notes plain mid jobs number (order_at plain number) (is_turn plain jobs number true (order_at plain number) within (role_within plain number within) (goes.goes_on (next_for (config_of plain) jobs number) ∙ ap Some (sym none))) facts.mid_notes)
+      turn_kept plain mid next_plain jobs number
+      (turn_notes plain mid jobs number (order_at plain number) (is_turn plain jobs number true (order_at plain number) number_below (role_within plain number number_below) (goes.goes_on (next_for (config_of plain) jobs number) ∙ ap Some (sym no_order))) facts.mid_notes)
       facts.notes
 
   -- the pause word stays
-  pub inside_pause : slice_index (words_of other_plain) (word_at (config_of other_plain) Pause) ≡ slice_index (words_of plain) (word_at (config_of plain) Pause)
+  pub inside_pause : slice_index (words_of next_plain) (word_at (config_of next_plain) Pause) ≡ slice_index (words_of plain) (word_at (config_of plain) Pause)
   inside_pause =
-      let at = table_index (plan_of (config_of mid) (order_at mid number) (machine_at mid number)) in
-      let is : at ≡ table_index (plan_of (config_of plain) Nothing (machine_at plain number)) =
-      ap (λ c. table_index (plan_of c (order_at mid number) (machine_at mid number))) facts.mid_config
-      ∙ ap (λ o. table_index (plan_of (config_of plain) o (machine_at mid number))) order_mid
-      ∙ ap (λ m. table_index (plan_of (config_of plain) Nothing m)) machine_mid in
-      ap (λ ws. get_or ws 0 0) facts.words
-      ∙ get_or-set_other (words_of mid) at 0 _ 0 (λ same. goes.beside (same ∙ is))
-      ∙ ap (λ ws. get_or ws 0 0) facts.mid_words
+      let touched_index = table_index (plan_of (config_of mid) (order_at mid number) (machine_at mid number)) in
+      let same_index : touched_index ≡ table_index (plan_of (config_of plain) Nothing (machine_at plain number)) =
+      ap (λ some_config. table_index (plan_of some_config (order_at mid number) (machine_at mid number))) facts.mid_config
+      ∙ ap (λ order. table_index (plan_of (config_of plain) order (machine_at mid number))) order_mid
+      ∙ ap (λ machine. table_index (plan_of (config_of plain) Nothing machine)) machine_mid in
+      ap (λ word_list. get_or word_list 0 0) facts.words
+      ∙ get_or-set_other (words_of mid) touched_index 0 _ 0 (λ same_place. goes.beside (same_place ∙ same_index))
+      ∙ ap (λ word_list. get_or word_list 0 0) facts.mid_words
 
   -- and so do all other machines
-  pub inside_others : (index : ℕ) → index < number → machine_at other_plain index ≡ machine_at plain index
-  inside_others index below =
-      ap (λ ms. get_or ms index no_machine) facts.machines
-      ∙ get_or-set_other (machines_of mid) number index (next_machine mid number) no_machine (λ same. absurd (omega arith))
-      ∙ ap (λ ms. get_or ms index no_machine) facts.mid_machines
+  pub inside_others : (index : ℕ) → index < number → machine_at next_plain index ≡ machine_at plain index
+  inside_others index index_below =
+      ap (λ machine_list. get_or machine_list index no_machine) facts.machines
+      ∙ get_or-set_other (machines_of mid) number index (next_machine mid number) no_machine (λ same_number. absurd (omega arith))
+      ∙ ap (λ machine_list. get_or machine_list index no_machine) facts.mid_machines
 
   -- one word fewer is left to it
-  pub inside_left : words_left other_plain number + 1 ≡ words_left plain number
+  pub inside_left : words_left next_plain number + 1 ≡ words_left plain number
   inside_left =
       let got = word_found_by mid number in
-      let there : number < length (machines_of mid) = subst (λ (ms : List actors.Machine). number < length ms) (sym facts.mid_machines) within in
-      let at : machine_at other_plain number ≡ machine_after pause_image (config_of plain) Nothing got (machine_at plain number) =
-      ap (λ ms. get_or ms number no_machine) facts.machines
-      ∙ get_or-set_same (machines_of mid) number (next_machine mid number) no_machine there
-      ∙ ap (λ c. machine_after pause_image c (order_at mid number) got (machine_at mid number)) facts.mid_config
-      ∙ ap (λ o. machine_after pause_image (config_of plain) o got (machine_at mid number)) order_mid
+      let number_within : number < length (machines_of mid) = subst (λ (machine_list : List actors.Machine). number < length machine_list) (sym facts.mid_machines) number_below in
+      let machine_then : machine_at next_plain number ≡ machine_after pause_image (config_of plain) Nothing got (machine_at plain number) =
+      ap (λ machine_list. get_or machine_list number no_machine) facts.machines
+      ∙ get_or-set_same (machines_of mid) number (next_machine mid number) no_machine number_within
+      ∙ ap (λ some_config. machine_after pause_image some_config (order_at mid number) got (machine_at mid number)) facts.mid_config
+      ∙ ap (λ order. machine_after pause_image (config_of plain) order got (machine_at mid number)) order_mid
       ∙ ap (machine_after pause_image (config_of plain) Nothing got) machine_mid in
-      ap (λ c. loads_left c (machine_at other_plain number) + stores_left c (machine_at other_plain number) + 1) (facts.config ∙ facts.mid_config)
-      ∙ ap (λ m. loads_left (config_of plain) m + stores_left (config_of plain) m + 1) at
-      ∙ left_after (config_of plain) (machine_at plain number) got inside
+      ap (λ some_config. loads_left some_config (machine_at next_plain number) + stores_left some_config (machine_at next_plain number) + 1) (facts.config ∙ facts.mid_config)
+      ∙ ap (λ machine. loads_left (config_of plain) machine + stores_left (config_of plain) machine + 1) machine_then
+      ∙ left_after (config_of plain) (machine_at plain number) got inside_image

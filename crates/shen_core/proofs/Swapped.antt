@@ -28,57 +28,57 @@ pub record IsSwapped (plain other_plain : Plain) : Type 0 where
   pub machines : machines_of other_plain ≡ machines_of plain
   pub orders : orders_of other_plain ≡ orders_of plain
 
-module _ (plain other_plain : Plain) (same : IsSwapped plain other_plain) where
-  machine_same : (index : ℕ) → machine_at other_plain index ≡ machine_at plain index
-  machine_same index = ap (λ ms. get_or ms index no_machine) same.machines
+module _ (plain swapped_plain : Plain) (is_swapped : IsSwapped plain swapped_plain) where
+  machine_same : (index : ℕ) → machine_at swapped_plain index ≡ machine_at plain index
+  machine_same index = ap (λ some_machines. get_or some_machines index no_machine) is_swapped.machines
 
-  pub shows_swapped : (stage : Stage Actor) → Shows plain stage → Shows other_plain stage
-  shows_swapped stage shows = record { words_are = shows.words_are ∙ sym same.words; machines_are = shows.machines_are ∙ sym same.machines }
+  pub shows_swapped : (stage : Stage Actor) → Shows plain stage → Shows swapped_plain stage
+  shows_swapped stage shows = record { words_are = shows.words_are ∙ sym is_swapped.words; machines_are = shows.machines_are ∙ sym is_swapped.machines }
 
-  pub can_run_swapped : (jobs : Jobs) → CanRun plain jobs → CanRun other_plain jobs
-  can_run_swapped jobs can = record {
-    orders = subst (λ xs. All (λ order. order ≡ Nothing) xs) (sym same.orders) can.orders;
-    jobs_are = subst (λ c. (mutator : ℕ) → mutator < c.mutators → work.HasScript jobs mutator) (sym same.config) can.jobs_are;
-    commands = subst (λ c. (mutator : ℕ) → mutator < c.mutators → All IsValid (work.script_in jobs mutator)) (sym same.config) can.commands;
-    busy = λ mutator below busy. can.busy mutator (subst (λ c. mutator < c.mutators) same.config below) (ap is_resting (sym (machine_same mutator)) ∙ busy);
-    made = λ mutator below. subst (λ m. made_of_machine m + length (work.script_in jobs mutator) < most_objects + (length (work.replies_of jobs mutator) + at_hand_of m)) (sym (machine_same mutator)) (can.made mutator (subst (λ c. mutator < c.mutators) same.config below));
+  pub can_run_swapped : (jobs : Jobs) → CanRun plain jobs → CanRun swapped_plain jobs
+  can_run_swapped jobs can_run = record {
+    orders = subst (λ some_orders. All (λ order. order ≡ Nothing) some_orders) (sym is_swapped.orders) can_run.orders;
+    jobs_are = subst (λ config. (mutator : ℕ) → mutator < config.mutators → work.HasScript jobs mutator) (sym is_swapped.config) can_run.jobs_are;
+    commands = subst (λ config. (mutator : ℕ) → mutator < config.mutators → All IsValid (work.script_in jobs mutator)) (sym is_swapped.config) can_run.commands;
+    busy = λ mutator mutator_below busy. can_run.busy mutator (subst (λ config. mutator < config.mutators) is_swapped.config mutator_below) (ap is_resting (sym (machine_same mutator)) ∙ busy);
+    made = λ mutator mutator_below. subst (λ machine. made_of_machine machine + length (work.script_in jobs mutator) < most_objects + (length (work.replies_of jobs mutator) + at_hand_of machine)) (sym (machine_same mutator)) (can_run.made mutator (subst (λ config. mutator < config.mutators) is_swapped.config mutator_below));
   }
 
 -- a run between two exchanges
-pub ran_swapped : (plain one two other_plain : Plain) (jobs later : Jobs) (todo : Agenda) (limit : ℕ) (result : Ran) → IsSwapped plain one → IsSwapped two other_plain → EndsNoted one jobs todo limit two later result → EndsRun plain jobs todo limit other_plain later result
-ran_swapped plain one two other_plain jobs later todo limit result first second ends scripts s shows tells =
-    let ran = (ends scripts s (shows_swapped plain one first s shows) (subst (λ config. Tells config scripts jobs s) (sym first.config) tells)).ran in
-    let here : HasRun (config_of plain) scripts s todo limit two later result = subst (λ config. HasRun config scripts s todo limit two later result) first.config ran in
+pub ran_swapped : (plain run_start run_end swapped_end : Plain) (jobs later : Jobs) (todo : Agenda) (limit : ℕ) (result : Ran) → IsSwapped plain run_start → IsSwapped run_end swapped_end → EndsNoted run_start jobs todo limit run_end later result → EndsRun plain jobs todo limit swapped_end later result
+ran_swapped plain run_start run_end swapped_end jobs later todo limit result first_swapped second ends scripts stage shows tells =
+    let ran = (ends scripts stage (shows_swapped plain run_start first_swapped stage shows) (subst (λ config. Tells config scripts jobs stage) (sym first_swapped.config) tells)).ran in
+    let has_run : HasRun (config_of plain) scripts stage todo limit run_end later result = subst (λ config. HasRun config scripts stage todo limit run_end later result) first_swapped.config ran in
     record {
-      shows = shows_swapped two other_plain second _ here.shows;
-      tells = here.tells;
-      ended = here.ended;
-      calls = here.calls;
-      whole = here.whole;
+      shows = shows_swapped run_end swapped_end second _ has_run.shows;
+      tells = has_run.tells;
+      ended = has_run.ended;
+      calls = has_run.calls;
+      whole = has_run.whole;
     }
 
 -- and what it has noted
-pub swapped_history : (plain one two : Plain) (jobs later : Jobs) (items : List Item) (limit : ℕ) (result : Ran) (old new : Noting) → IsSwapped plain one → notes_of one ≡ old → new ≡ notes_of two → config_of two ≡ config_of one → commands_in (config_of plain) jobs ≤ old.spare
-    → CanRun two later → ((mutator : ℕ) → mutator < (config_of two).mutators → length (work.replies_of later mutator) ≤ length (work.script_in later mutator)) → EndsNoted one jobs (agenda_of items) limit two later result → NotesSchedule plain jobs items limit old new
-swapped_history plain one two jobs later items limit result old new first given got config enough can within ends scripts stage shows tells is =
-    let c = config_of plain in
-    let here : HasRunNoted c scripts stage (agenda_of items) limit one two later result = subst (λ config. HasRunNoted config scripts stage (agenda_of items) limit one two later result) first.config
-    (ends scripts stage (shows_swapped plain one first stage shows) (subst (λ config. Tells config scripts jobs stage) (sym first.config) tells)) in
+pub swapped_history : (plain run_start run_end : Plain) (jobs later : Jobs) (items : List Item) (limit : ℕ) (result : Ran) (old new : Noting) → IsSwapped plain run_start → notes_of run_start ≡ old → new ≡ notes_of run_end → config_of run_end ≡ config_of run_start → commands_in (config_of plain) jobs ≤ old.spare
+    → CanRun run_end later → ((mutator : ℕ) → mutator < (config_of run_end).mutators → length (work.replies_of later mutator) ≤ length (work.script_in later mutator)) → EndsNoted run_start jobs (agenda_of items) limit run_end later result → NotesSchedule plain jobs items limit old new
+swapped_history plain run_start run_end jobs later items limit result old new first_swapped notes_given notes_got config enough can_run within ends scripts stage shows tells is =
+    let plain_config = config_of plain in
+    let here : HasRunNoted plain_config scripts stage (agenda_of items) limit run_start run_end later result = subst (λ config. HasRunNoted config scripts stage (agenda_of items) limit run_start run_end later result) first_swapped.config
+    (ends scripts stage (shows_swapped plain run_start first_swapped stage shows) (subst (λ config. Tells config scripts jobs stage) (sym first_swapped.config) tells)) in
     by_run is.0 stage is.1 tells here is
   where
-    by_run : (run : Run (config_of plain)) (stage : Stage Actor) → ending pause_image (config_of plain) run ≡ stage → Tells (config_of plain) scripts jobs stage → HasRunNoted (config_of plain) scripts stage (agenda_of items) limit one two later result → IsEnding (config_of plain) stage
+    by_run : (run : Run (config_of plain)) (stage : Stage Actor) → ending pause_image (config_of plain) run ≡ stage → Tells (config_of plain) scripts jobs stage → HasRunNoted (config_of plain) scripts stage (agenda_of items) limit run_start run_end later result → IsEnding (config_of plain) stage
         → IsHistory (config_of plain) scripts stage items limit old new
-    by_run run stage at tells here is =
-        let c = config_of plain in
-        let es = schedule_events pause_image c scripts items limit stage in
-        let same : config_of two ≡ c = config ∙ first.config in
-        let few : length (history pause_image c stage es) ≤ commands_in c jobs =
-        subst (λ stage. Shows two (go (kind pause_image c) stage es) → Tells c scripts jobs stage → Tells c scripts later (go (kind pause_image c) stage es) → length (history pause_image c stage es) ≤ commands_in c jobs) at
-        (λ a b d. settled_few c run es scripts two jobs later same a b d can (subst (λ k. (mutator : ℕ) → mutator < k.mutators → length (work.replies_of later mutator) ≤ length (work.script_in later mutator)) same within))
-        here.ran.shows tells here.ran.tells in
-        let notes : new ≡ noted old (history pause_image c stage es) = got ∙ here.notes is ∙ ap (λ n. noted n (history pause_image c stage es)) given in
-        let all = noted_all old (history pause_image c stage es) (omega (arith, few, enough)) in
+    by_run run stage ends_at tells has_run stage_ends =
+        let plain_config = config_of plain in
+        let events = schedule_events pause_image plain_config scripts items limit stage in
+        let same_config : config_of run_end ≡ plain_config = config ∙ first_swapped.config in
+        let few : length (history pause_image plain_config stage events) ≤ commands_in plain_config jobs =
+        subst (λ stage. Shows run_end (go (kind pause_image plain_config) stage events) → Tells plain_config scripts jobs stage → Tells plain_config scripts later (go (kind pause_image plain_config) stage events) → length (history pause_image plain_config stage events) ≤ commands_in plain_config jobs) ends_at
+        (λ shows_end tells_start tells_end. settled_few plain_config run events scripts run_end jobs later same_config shows_end tells_start tells_end can_run (subst (λ asked_config. (mutator : ℕ) → mutator < asked_config.mutators → length (work.replies_of later mutator) ≤ length (work.script_in later mutator)) same_config within))
+        has_run.ran.shows tells has_run.ran.tells in
+        let notes : new ≡ noted old (history pause_image plain_config stage events) = notes_got ∙ has_run.notes stage_ends ∙ ap (λ notes_before. noted notes_before (history pause_image plain_config stage events)) notes_given in
+        let all_noted = noted_all old (history pause_image plain_config stage events) (omega (arith, few, enough)) in
         record {
-          entries = ap (λ (noting : Noting). noting.list) notes ∙ all.list;
-          spare = ap (λ (noting : Noting). noting.spare + length (history pause_image c stage es)) notes ∙ all.spare;
+          entries = ap (λ (noting : Noting). noting.list) notes ∙ all_noted.list;
+          spare = ap (λ (noting : Noting). noting.spare + length (history pause_image plain_config stage events)) notes ∙ all_noted.spare;
         }

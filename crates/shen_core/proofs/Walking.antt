@@ -12,34 +12,34 @@ use Rattle.shen_core.specs.declared.seen.Seen.{Seen}
 use Rattle.shen_core.specs.Nexts.{MakesNext, RunsOn}
 
 -- where there was no next event, the schedule goes on with none
-pub runs_none_next : (plain other_plain : Plain) (jobs later : Jobs) (todo rest : Agenda) (left : ℕ) → MakesNext plain jobs todo other_plain later rest None → Runs plain jobs todo left other_plain later rest left
-runs_none_next plain other_plain jobs later todo rest left makes scripts s shows tells =
-    let none = makes scripts s shows tells in
-    record { stage = s; goes = goes_same (config_of plain) scripts s todo rest left (none.none ∙ sym none.none_later); shows = none.shows; tells = none.tells }
+pub runs_none_next : (plain plain_then : Plain) (jobs later : Jobs) (todo rest : Agenda) (limit_left : ℕ) → MakesNext plain jobs todo plain_then later rest None → Runs plain jobs todo limit_left plain_then later rest limit_left
+runs_none_next plain plain_then jobs later todo rest limit_left makes scripts stage shows tells =
+    let no_next = makes scripts stage shows tells in
+    record { stage = stage; goes = goes_same (config_of plain) scripts stage todo rest limit_left (no_next.none ∙ sym no_next.none_later); shows = no_next.shows; tells = no_next.tells }
 
 -- the next event of the schedule
-pub runs_some_next : (plain other_plain : Plain) (jobs later : Jobs) (todo rest : Agenda) (seen : Seen) (left : ℕ) → MakesNext plain jobs todo other_plain later rest (Some seen) → 0 < left → Runs plain jobs todo left other_plain later rest (left - 1)
-runs_some_next plain other_plain jobs later todo rest seen left makes positive scripts s shows tells =
-    let made = makes scripts s shows tells in
+pub runs_some_next : (plain plain_then : Plain) (jobs later : Jobs) (todo rest : Agenda) (event_seen : Seen) (limit_left : ℕ) → MakesNext plain jobs todo plain_then later rest (Some event_seen) → 0 < limit_left → Runs plain jobs todo limit_left plain_then later rest (limit_left - 1)
+runs_some_next plain plain_then jobs later todo rest event_seen limit_left makes positive scripts stage shows tells =
+    let made = makes scripts stage shows tells in
     record {
-      stage = act (kind pause_image (config_of plain)) s made.event;
-      goes = goes_next (config_of plain) scripts s todo rest made.event left positive made.is;
+      stage = act (kind pause_image (config_of plain)) stage made.event;
+      goes = goes_next (config_of plain) scripts stage todo rest made.event limit_left positive made.is;
       shows = made.shows;
       tells = made.tells;
     }
 
 -- after some events, one more
-pub runs_more : (first plain other_plain : Plain) (start jobs later : Jobs) (begin todo rest : Agenda) (seen : Seen) (limit left : ℕ) → config_of plain ≡ config_of first → Runs first start begin limit plain jobs todo left → MakesNext plain jobs todo other_plain later rest (Some seen) → 0 < left
-    → Runs first start begin limit other_plain later rest (left - 1)
-runs_more first plain other_plain start jobs later begin todo rest seen limit left same runs makes positive = runs_then first plain other_plain start jobs later begin todo rest limit left _ same runs (runs_some_next plain other_plain jobs later todo rest seen left makes positive)
+pub runs_more : (first_plain plain plain_then : Plain) (start jobs later : Jobs) (begin todo rest : Agenda) (event_seen : Seen) (limit limit_left : ℕ) → config_of plain ≡ config_of first_plain → Runs first_plain start begin limit plain jobs todo limit_left → MakesNext plain jobs todo plain_then later rest (Some event_seen) → 0 < limit_left
+    → Runs first_plain start begin limit plain_then later rest (limit_left - 1)
+runs_more first_plain plain plain_then start jobs later begin todo rest event_seen limit limit_left same_config runs makes positive = runs_then first_plain plain plain_then start jobs later begin todo rest limit limit_left _ same_config runs (runs_some_next plain plain_then jobs later todo rest event_seen limit_left makes positive)
 
 -- or no more
-pub runs_end : (first plain other_plain : Plain) (start jobs later : Jobs) (begin todo rest : Agenda) (limit left : ℕ) → config_of plain ≡ config_of first → Runs first start begin limit plain jobs todo left → MakesNext plain jobs todo other_plain later rest None → Runs first start begin limit other_plain later rest left
-runs_end first plain other_plain start jobs later begin todo rest limit left same runs makes = runs_then first plain other_plain start jobs later begin todo rest limit left _ same runs (runs_none_next plain other_plain jobs later todo rest left makes)
+pub runs_end : (first_plain plain plain_then : Plain) (start jobs later : Jobs) (begin todo rest : Agenda) (limit limit_left : ℕ) → config_of plain ≡ config_of first_plain → Runs first_plain start begin limit plain jobs todo limit_left → MakesNext plain jobs todo plain_then later rest None → Runs first_plain start begin limit plain_then later rest limit_left
+runs_end first_plain plain plain_then start jobs later begin todo rest limit limit_left same_config runs makes = runs_then first_plain plain plain_then start jobs later begin todo rest limit limit_left _ same_config runs (runs_none_next plain plain_then jobs later todo rest limit_left makes)
 
 -- and where a higher limit was meant
-pub runs_on : (first plain other_plain : Plain) (start jobs later : Jobs) (begin todo rest : Agenda) (seen : Seen) (limit left : ℕ) → config_of plain ≡ config_of first → RunsOn first start begin limit plain jobs todo left → MakesNext plain jobs todo other_plain later rest (Some seen) → 0 < left
-    → RunsOn first start begin limit other_plain later rest (left - 1)
-runs_on first plain other_plain start jobs later begin todo rest seen limit left same runs makes positive more =
-    subst (λ n. Runs first start begin (limit + more) other_plain later rest n) (omega arith)
-    (runs_more first plain other_plain start jobs later begin todo rest seen (limit + more) (left + more) same (runs more) makes (omega arith))
+pub runs_on : (first_plain plain plain_then : Plain) (start jobs later : Jobs) (begin todo rest : Agenda) (event_seen : Seen) (limit limit_left : ℕ) → config_of plain ≡ config_of first_plain → RunsOn first_plain start begin limit plain jobs todo limit_left → MakesNext plain jobs todo plain_then later rest (Some event_seen) → 0 < limit_left
+    → RunsOn first_plain start begin limit plain_then later rest (limit_left - 1)
+runs_on first_plain plain plain_then start jobs later begin todo rest event_seen limit limit_left same_config runs makes positive more_events =
+    subst (λ events_left. Runs first_plain start begin (limit + more_events) plain_then later rest events_left) (omega arith)
+    (runs_more first_plain plain plain_then start jobs later begin todo rest event_seen (limit + more_events) (limit_left + more_events) same_config (runs more_events) makes (omega arith))

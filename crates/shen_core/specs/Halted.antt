@@ -8,7 +8,7 @@ use Rattle.shen_core.specs.State.{config_of, machine_at, IsHalted}
 
 -- the machine makes no step on its turn, whatever command would follow
 abbrev pub IsAtEnd : Plain → ℕ → Type 0
-IsAtEnd plain number = (next : Option Command) → is_some (order_for next (machine_at plain number)) ≡ false
+IsAtEnd plain number = (next_command : Option Command) → is_some (order_for next_command (machine_at plain number)) ≡ false
 
 -- of the machines below a number so many wait for the end of a pause that goes on, and all others make no step
 abbrev pub AreHalted : Plain → ℕ → ℕ → Type 0

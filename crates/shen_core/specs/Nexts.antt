@@ -30,7 +30,7 @@ WalksOn plain jobs item = (scripts : Scripts) (stage : Stage Actor) → Shows pl
 
 -- the machines from one number on have no turn, below another
 abbrev pub AreIdleFrom : Plain → ℕ → ℕ → Type 0
-AreIdleFrom plain from end = (scripts : Scripts) (stage : Stage Actor) → Shows plain stage → (k : ℕ) → from ≤ k → k < end → turn scripts stage k ≡ None
+AreIdleFrom plain from end = (scripts : Scripts) (stage : Stage Actor) → Shows plain stage → (number : ℕ) → from ≤ number → number < end → turn scripts stage number ≡ None
 
 -- one of these machines has a turn, and those before it have none; or none has
 abbrev pub IsFirstBusy : Plain → ℕ → ℕ → Option ℕ → Type 0
@@ -80,8 +80,8 @@ MakesNext plain jobs todo after later rest result = (scripts : Scripts) (stage :
 -- and the next event settles this entry, or none
 abbrev pub SettlesNext : Plain → Jobs → Agenda → Option Entry → Type 0
 SettlesNext plain jobs todo entry =
-    (scripts : Scripts) (stage : Stage Actor) → Shows plain stage → Tells (config_of plain) scripts jobs stage → IsEnding (config_of plain) stage → (x : Next) → next (config_of plain) scripts stage todo ≡ Some x
-    → told (config_of plain) stage x.event ≡ entries_in entry
+    (scripts : Scripts) (stage : Stage Actor) → Shows plain stage → Tells (config_of plain) scripts jobs stage → IsEnding (config_of plain) stage → (next_step : Next) → next (config_of plain) scripts stage todo ≡ Some next_step
+    → told (config_of plain) stage next_step.event ≡ entries_in entry
 
 -- The events of an agenda were made, as many as a limit allows or all that there are; where the limit is higher, the schedule
 -- goes on from there.

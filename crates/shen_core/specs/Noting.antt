@@ -37,16 +37,16 @@ IsEnding config stage = (run : Run config) × (ending pause_image config run ≡
 -- the entry that is there, if one is
 abbrev pub entries_in : Option held.Entry → List Entry
 entries_in None = []
-entries_in (Some e) = seen e ∷ []
+entries_in (Some entry) = seen entry ∷ []
 
 -- the entries that an event settles, if there is one
 abbrev pub told_by : Config → Stage Actor → Option (Event Order) → List Entry
 told_by config stage None = []
-told_by config stage (Some e) = told config stage e
+told_by config stage (Some next_event) = told config stage next_event
 
 -- whatever stage of a run memory shows, the next event of the machine, under its order, settles this
 abbrev pub Settles : Plain → ℕ → Option held.Entry → Type 0
-Settles plain number o = (stage : Stage Actor) → Shows plain stage → IsEnding (config_of plain) stage → told (config_of plain) stage (event number (order_at plain number)) ≡ entries_in o
+Settles plain number entry = (stage : Stage Actor) → Shows plain stage → IsEnding (config_of plain) stage → told (config_of plain) stage (event number (order_at plain number)) ≡ entries_in entry
 
 -- whatever stage of a run memory shows, what the machine's turn settles there was noted
 abbrev pub NotesTurn : Plain → Jobs → ℕ → Plain → Type 0

@@ -57,7 +57,7 @@ next_for config jobs number = if nat_lt number config.mutators then work.next_of
 
 -- whether a machine has a turn, and the order that it has then
 abbrev pub IsNextTurn : Plain → Jobs → ℕ → Bool → Order → Type 0
-IsNextTurn plain jobs number has order = order_for (next_for (config_of plain) jobs number) (machine_at plain number) ≡ (if has then Some order else None)
+IsNextTurn plain jobs number has_turn order = order_for (next_for (config_of plain) jobs number) (machine_at plain number) ≡ (if has_turn then Some order else None)
 
 -- the event of a machine under an order, if it makes one
 abbrev pub event_if : Bool → ℕ → Order → Option (Event Order)
@@ -66,7 +66,7 @@ event_if false number order = None
 
 -- whatever stage memory shows, the machine's turn there is its event under the order that it has now, if it has a turn
 abbrev pub IsTurn : Plain → Jobs → ℕ → Bool → Order → Type 0
-IsTurn plain jobs number has order = (scripts : Scripts) (stage : Stage Actor) → Shows plain stage → Tells (config_of plain) scripts jobs stage → turn scripts stage number ≡ event_if has number order
+IsTurn plain jobs number has_turn order = (scripts : Scripts) (stage : Stage Actor) → Shows plain stage → Tells (config_of plain) scripts jobs stage → turn scripts stage number ≡ event_if has_turn number order
 
 -- the machine was idle, and nothing changed
 pub record IsPassed (config : Config) (scripts : Scripts) (stage : Stage Actor) (number : ℕ) (plain : Plain) (jobs : Jobs) : Type 0 where
@@ -133,7 +133,7 @@ SomeBusy plain jobs = (scripts : Scripts) (stage : Stage Actor) → Shows plain 
 
 -- whatever stage memory shows, the machine has a turn there, or has none, by any scripts
 abbrev pub HasNext : Plain → ℕ → Bool → Type 0
-HasNext plain number has = (scripts : Scripts) (stage : Stage Actor) → Shows plain stage → is_some (turn scripts stage number) ≡ has
+HasNext plain number has_turn = (scripts : Scripts) (stage : Stage Actor) → Shows plain stage → is_some (turn scripts stage number) ≡ has_turn
 
 -- no mutator has a call in progress, and the control is not storing a new image
 pub record AllRest (plain : Plain) : Type 0 where

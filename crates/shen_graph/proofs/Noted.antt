@@ -8,43 +8,43 @@ use Rattle.shen_graph.specs.Work.{Progress, HasScript, progress_of, script_in, r
 
 -- a script that is there lies in the work
 pub has_within : (jobs : List (Option Progress)) (number : ℕ) → HasScript jobs number → number < length jobs
-has_within jobs number has = ⊎_elim
-    (λ (below : number < length jobs). below)
-    (λ (past : length jobs ≤ number). absurd (let none : progress_of jobs number ≡ None = get_or_past jobs number None past in false≢true (subst (λ o. IsSome o) none has)))
+has_within jobs number has_script = ⊎_elim
+    (λ (number_within : number < length jobs). number_within)
+    (λ (number_past : length jobs ≤ number). absurd (let no_progress : progress_of jobs number ≡ None = get_or_past jobs number None number_past in false≢true (subst (λ progress. IsSome progress) no_progress has_script)))
     (cases_lt number (length jobs))
 
 -- the progress of a script after a reply
 pub progress_same : (jobs : List (Option Progress)) (number : ℕ) (reply : Reply) → HasScript jobs number → progress_of (with_reply jobs number reply) number ≡ Some (answered (unwrap_or (progress_of jobs number) (begun [])) reply)
-progress_same jobs number reply has = get_or-set_same jobs number _ None (has_within jobs number has)
+progress_same jobs number reply has_script = get_or-set_same jobs number _ None (has_within jobs number has_script)
 
 -- that of another
-pub progress_other : (jobs : List (Option Progress)) (number : ℕ) (reply : Reply) (t : ℕ) → t ≢ number → progress_of (with_reply jobs number reply) t ≡ progress_of jobs t
-progress_other jobs number reply t other = get_or-set_other jobs number t _ None other
+pub progress_other : (jobs : List (Option Progress)) (number : ℕ) (reply : Reply) (asked_number : ℕ) → asked_number ≢ number → progress_of (with_reply jobs number reply) asked_number ≡ progress_of jobs asked_number
+progress_other jobs number reply asked_number numbers_differ = get_or-set_other jobs number asked_number _ None numbers_differ
 
 -- scripts stay
-pub script_kept : (jobs : List (Option Progress)) (number : ℕ) (reply : Reply) (t : ℕ) → HasScript jobs number → script_in (with_reply jobs number reply) t ≡ script_in jobs t
-script_kept jobs number reply t has = ⊎_elim
-    (λ (same : t ≡ number). subst (λ n. script_in (with_reply jobs number reply) n ≡ script_in jobs n) (sym same)
-    (ap (λ o. (unwrap_or o (begun [])).script) (progress_same jobs number reply has)))
-    (λ (other : t ≡ number → ⊥). ap (λ o. (unwrap_or o (begun [])).script) (progress_other jobs number reply t other))
-    (cases_eq t number)
+pub script_kept : (jobs : List (Option Progress)) (number : ℕ) (reply : Reply) (asked_number : ℕ) → HasScript jobs number → script_in (with_reply jobs number reply) asked_number ≡ script_in jobs asked_number
+script_kept jobs number reply asked_number has_script = ⊎_elim
+    (λ (same_number : asked_number ≡ number). subst (λ some_number. script_in (with_reply jobs number reply) some_number ≡ script_in jobs some_number) (sym same_number)
+    (ap (λ progress. (unwrap_or progress (begun [])).script) (progress_same jobs number reply has_script)))
+    (λ (numbers_differ : asked_number ≡ number → ⊥). ap (λ progress. (unwrap_or progress (begun [])).script) (progress_other jobs number reply asked_number numbers_differ))
+    (cases_eq asked_number number)
 
 -- its replies are one more
 pub replies_same : (jobs : List (Option Progress)) (number : ℕ) (reply : Reply) → HasScript jobs number → replies_of (with_reply jobs number reply) number ≡ replies_of jobs number ++ reply ∷ []
-replies_same jobs number reply has = ap (λ o. (unwrap_or o (begun [])).replies) (progress_same jobs number reply has)
+replies_same jobs number reply has_script = ap (λ progress. (unwrap_or progress (begun [])).replies) (progress_same jobs number reply has_script)
 
 -- those of another stay
-pub replies_other : (jobs : List (Option Progress)) (number : ℕ) (reply : Reply) (t : ℕ) → t ≢ number → replies_of (with_reply jobs number reply) t ≡ replies_of jobs t
-replies_other jobs number reply t other = ap (λ o. (unwrap_or o (begun [])).replies) (progress_other jobs number reply t other)
+pub replies_other : (jobs : List (Option Progress)) (number : ℕ) (reply : Reply) (asked_number : ℕ) → asked_number ≢ number → replies_of (with_reply jobs number reply) asked_number ≡ replies_of jobs asked_number
+replies_other jobs number reply asked_number numbers_differ = ap (λ progress. (unwrap_or progress (begun [])).replies) (progress_other jobs number reply asked_number numbers_differ)
 
 -- no script is lost
-pub script_stays : (jobs : List (Option Progress)) (number : ℕ) (reply : Reply) (t : ℕ) → HasScript jobs number → HasScript jobs t → HasScript (with_reply jobs number reply) t
-script_stays jobs number reply t has here = ⊎_elim
-    (λ (same : t ≡ number). subst (λ n. HasScript (with_reply jobs number reply) n) (sym same) (subst (λ o. IsSome o) (sym (progress_same jobs number reply has)) refl))
-    (λ (other : t ≡ number → ⊥). subst (λ o. IsSome o) (sym (progress_other jobs number reply t other)) here)
-    (cases_eq t number)
+pub script_stays : (jobs : List (Option Progress)) (number : ℕ) (reply : Reply) (asked_number : ℕ) → HasScript jobs number → HasScript jobs asked_number → HasScript (with_reply jobs number reply) asked_number
+script_stays jobs number reply asked_number has_script asked_script = ⊎_elim
+    (λ (same_number : asked_number ≡ number). subst (λ some_number. HasScript (with_reply jobs number reply) some_number) (sym same_number) (subst (λ progress. IsSome progress) (sym (progress_same jobs number reply has_script)) refl))
+    (λ (numbers_differ : asked_number ≡ number → ⊥). subst (λ progress. IsSome progress) (sym (progress_other jobs number reply asked_number numbers_differ)) asked_script)
+    (cases_eq asked_number number)
 
 -- and none joins
-pub none_stays : (jobs : List (Option Progress)) (number : ℕ) (reply : Reply) (t : ℕ) → HasScript jobs number → progress_of jobs t ≡ None → progress_of (with_reply jobs number reply) t ≡ None
-none_stays jobs number reply t has none = progress_other jobs number reply t
-    (λ same. false≢true (subst (λ o. IsSome o) (ap (progress_of jobs) (sym same) ∙ none) has)) ∙ none
+pub none_stays : (jobs : List (Option Progress)) (number : ℕ) (reply : Reply) (asked_number : ℕ) → HasScript jobs number → progress_of jobs asked_number ≡ None → progress_of (with_reply jobs number reply) asked_number ≡ None
+none_stays jobs number reply asked_number has_script no_progress = progress_other jobs number reply asked_number
+    (λ same_number. false≢true (subst (λ progress. IsSome progress) (ap (progress_of jobs) (sym same_number) ∙ no_progress) has_script)) ∙ no_progress

@@ -24,29 +24,29 @@ same_name-Decides name other_name = Decides-and (name.thread == other_name.threa
 pub same_name-flip : (name other_name : Name) → same_name name other_name ≡ same_name other_name name
 same_name-flip name other_name =
     same_from_decides (same_name name other_name) (same_name other_name name) (same_name-Decides name other_name)
-    (Decides-like (same_name other_name name) (λ h. (sym h.0, sym h.1)) (λ h. (sym h.0, sym h.1)) (same_name-Decides other_name name))
+    (Decides-like (same_name other_name name) (λ same_parts. (sym same_parts.0, sym same_parts.1)) (λ same_parts. (sym same_parts.0, sym same_parts.1)) (same_name-Decides other_name name))
 
 -- of two names that differ, the one that is not after the other is before it
-pub IsBefore-from_sorted : (name other_name : Name) → is_lt (name_cmp other_name name) ≡ false → same_name name other_name ≡ false → IsBefore name other_name
-IsBefore-from_sorted name other_name sorted apart = grind (arith, nat_tests)
+pub IsBefore-from_sorted : (name later_name : Name) → is_lt (name_cmp later_name name) ≡ false → same_name name later_name ≡ false → IsBefore name later_name
+IsBefore-from_sorted name later_name sorted names_differ = grind (arith, nat_tests)
 
 pub InOrder-from_adjacent : (names : List Name) → ((index : ℕ) (name : Name) → index + 1 < length names → IsBefore (get_or names index name) (get_or names (index + 1) name)) → InOrder names
-InOrder-from_adjacent [] h = tt
-InOrder-from_adjacent (name ∷ []) h = tt
-InOrder-from_adjacent (n ∷ m ∷ ns) h =
-    (h 0 n (omega arith), InOrder-from_adjacent (m ∷ ns) (λ index name below. let next : suc index + 1 ≡ suc (index + 1) = omega arith in rw next at (h (suc index) name (omega arith))))
+InOrder-from_adjacent [] each_before = tt
+InOrder-from_adjacent (name ∷ []) each_before = tt
+InOrder-from_adjacent (first_name ∷ next_name ∷ later_names) each_before =
+    (each_before 0 first_name (omega arith), InOrder-from_adjacent (next_name ∷ later_names) (λ index name index_below. let same_index : suc index + 1 ≡ suc (index + 1) = omega arith in rw same_index at (each_before (suc index) name (omega arith))))
 
 -- a list that is sorted by names which differ
 pub InOrder-from_sorted : {X : Type 0} (key : X → Name) (xs : List X) → IsSortedByKey key name_cmp xs → IsDistinct same_name (map key xs) → InOrder (map key xs)
 InOrder-from_sorted key [] sorted distinct = tt
 InOrder-from_sorted key (x ∷ xs) sorted distinct =
-    InOrder-from_adjacent (map key (x ∷ xs)) (λ k d below.
-    let inside : k + 1 < length (x ∷ xs) = omega (arith, length-map (x ∷ xs) key) in
-    let first = get_or-map key (x ∷ xs) k x d (omega arith) in
-    let second = get_or-map key (x ∷ xs) (k + 1) x d inside in
-    let apart = apart_from_distinct same_name (map key (x ∷ xs)) k (k + 1) d distinct (omega arith) below in
-    rw (first, second) (IsBefore-from_sorted (key (get_or (x ∷ xs) k x)) (key (get_or (x ∷ xs) (k + 1) x)) (sorted k x (omega arith) inside) (rw (first, second) at apart)))
+    InOrder-from_adjacent (map key (x ∷ xs)) (λ index default index_below.
+    let inside : index + 1 < length (x ∷ xs) = omega (arith, length-map (x ∷ xs) key) in
+    let first_key = get_or-map key (x ∷ xs) index x default (omega arith) in
+    let second = get_or-map key (x ∷ xs) (index + 1) x default inside in
+    let keys_differ = apart_from_distinct same_name (map key (x ∷ xs)) index (index + 1) default distinct (omega arith) index_below in
+    rw (first_key, second) (IsBefore-from_sorted (key (get_or (x ∷ xs) index x)) (key (get_or (x ∷ xs) (index + 1) x)) (sorted index x (omega arith) inside) (rw (first_key, second) at keys_differ)))
 
 -- names that differ, in another order
-pub IsDistinct-permutation : (names other_names : List Name) → IsPermutation names other_names → IsDistinct same_name names → IsDistinct same_name other_names
-IsDistinct-permutation names other_names moved distinct = IsDistinct-IsPermutation same_name same_name-flip names other_names moved distinct
+pub IsDistinct-permutation : (names permuted_names : List Name) → IsPermutation names permuted_names → IsDistinct same_name names → IsDistinct same_name permuted_names
+IsDistinct-permutation names permuted_names moved distinct = IsDistinct-IsPermutation same_name same_name-flip names permuted_names moved distinct

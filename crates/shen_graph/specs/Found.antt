@@ -7,7 +7,7 @@ use Rattle.shen_graph.specs.Graph.{Reference, same_name}
 -- and the name that a reference holds, each once
 abbrev pub with_name : List Name → Reference → List Name
 with_name found None = found
-with_name found (Some n) = if list_any (λ m. same_name m n) found then found else found ++ n ∷ []
+with_name found (Some name) = if list_any (λ other_name. same_name other_name name) found then found else found ++ name ∷ []
 
 -- and those that these references hold
 abbrev pub with_names : List Name → List Reference → List Name

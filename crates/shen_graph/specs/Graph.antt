@@ -26,9 +26,9 @@ same_name name other_name = (name.thread == other_name.thread) && (name.count ==
 -- equal references: both null, or of one name
 abbrev pub same_reference : Reference → Reference → Bool
 same_reference None None = true
-same_reference None (Some b) = false
-same_reference (Some a) None = false
-same_reference (Some a) (Some b) = same_name a b
+same_reference None (Some other_name) = false
+same_reference (Some name) None = false
+same_reference (Some name) (Some other_name) = same_name name other_name
 
 -- a new object: its references are null and its numbers are 0
 abbrev pub blank : ℕ → ℕ → Object
@@ -64,17 +64,17 @@ with_object graph name object =
 -- the object that a reference names is another; null names nothing
 abbrev pub with_named : Graph → Reference → Object → Graph
 with_named graph None object = graph
-with_named graph (Some n) object = with_object graph n object
+with_named graph (Some name) object = with_object graph name object
 
 abbrev pub with_field : Graph → ℕ → ℕ → ℕ → Reference → Graph
 with_field graph thread root field value =
-    let r = graph.root thread root in
-    with_named graph r (record { refs = slice_set (named graph r).refs field value; nums = (named graph r).nums })
+    let reference = graph.root thread root in
+    with_named graph reference (record { refs = slice_set (named graph reference).refs field value; nums = (named graph reference).nums })
 
 abbrev pub with_number : Graph → ℕ → ℕ → ℕ → ℕ → Graph
 with_number graph thread root index value =
-    let r = graph.root thread root in
-    with_named graph r (record { refs = (named graph r).refs; nums = slice_set (named graph r).nums index value })
+    let reference = graph.root thread root in
+    with_named graph reference (record { refs = (named graph reference).refs; nums = slice_set (named graph reference).nums index value })
 
 -- the name of the thread's next object
 abbrev pub fresh : Graph → ℕ → Name

@@ -47,14 +47,14 @@ change_last f (x ∷ []) = f x ∷ []
 change_last f (x ∷ y ∷ xs) = x ∷ change_last f (y ∷ xs)
 
 abbrev pub add_reference : Reference → Row → Row
-add_reference to row = record row { refs = row.refs ++ to ∷ [] }
+add_reference reference row = record row { refs = row.refs ++ reference ∷ [] }
 
 abbrev pub add_number : ℕ → Row → Row
 add_number value row = record row { nums = row.nums ++ value ∷ [] }
 
 -- the last object has a reference more, which takes 1 word
 abbrev pub with_reference : Text → Reference → Text
-with_reference text to = record text { rows = change_last (add_reference to) text.rows; spare = text.spare - 1 }
+with_reference text reference = record text { rows = change_last (add_reference reference) text.rows; spare = text.spare - 1 }
 
 -- the last object has a number more, which takes 1 word
 abbrev pub with_number : Text → ℕ → Text
@@ -68,7 +68,7 @@ with_references text (reference ∷ references) = with_references (with_referenc
 -- the text with these numbers in its last row too
 abbrev pub with_numbers : Text → List ℕ → Text
 with_numbers text [] = text
-with_numbers text (x ∷ xs) = with_numbers (with_number text x) xs
+with_numbers text (number ∷ numbers) = with_numbers (with_number text number) numbers
 
 -- the text with a row more, which takes as many words as the object
 abbrev pub with_whole_row : Text → Row → Text
@@ -83,7 +83,7 @@ root_of text thread index = slice_index_or (roots_of text thread) index None
 
 -- a root of a thread is another
 abbrev pub with_root_of : Text → ℕ → ℕ → Reference → Text
-with_root_of text thread index to = record text { roots = slice_set text.roots (thread - 1) (slice_set (roots_of text thread) index to) }
+with_root_of text thread index reference = record text { roots = slice_set text.roots (thread - 1) (slice_set (roots_of text thread) index reference) }
 
 -- the pin slots of a thread, counted from 1: the name that each holds
 abbrev pub pins_of : Text → ℕ → List Reference
@@ -94,7 +94,7 @@ pin_of text thread slot = slice_index_or (pins_of text thread) slot None
 
 -- a pin slot of a thread holds another
 abbrev pub with_pin_of : Text → ℕ → ℕ → Reference → Text
-with_pin_of text thread slot to = record text { pins = slice_set text.pins (thread - 1) (slice_set (pins_of text thread) slot to) }
+with_pin_of text thread slot reference = record text { pins = slice_set text.pins (thread - 1) (slice_set (pins_of text thread) slot reference) }
 
 -- the row with that number, counted from 0
 abbrev pub row_of : Text → ℕ → Row

@@ -19,8 +19,8 @@ is_full _ = false
 
 -- the graph after a command of a thread that was not refused
 abbrev pub after_reply : Graph → ℕ → Command → Reply → Graph
-after_reply graph t (Pin slot obj) (reply.At place) = with_pinned graph t slot (pinned_by graph t (Pin slot obj)) place
-after_reply graph t command answer = (outcome graph t command).graph
+after_reply graph thread (Pin slot obj) (reply.At place) = with_pinned graph thread slot (pinned_by graph thread (Pin slot obj)) place
+after_reply graph thread command answer = (outcome graph thread command).graph
 
 -- the graph after an entry
 abbrev pub after_entry : Graph → Entry → Graph

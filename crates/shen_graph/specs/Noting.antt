@@ -11,7 +11,7 @@ entry thread command reply = record { thread = thread; command = command; reply 
 
 -- an entry in memory
 abbrev pub seen : held.Entry → Entry
-seen e = entry e.thread e.command e.reply
+seen held_entry = entry held_entry.thread held_entry.command held_entry.reply
 
 -- its entries, in their order, and for how many more it has memory
 pub record Noting : Type 0 where

@@ -18,7 +18,7 @@ IsBefore name other_name = (name.thread < other_name.thread) ⊎ ((name.thread �
 abbrev pub InOrder : List Name → Type 0
 InOrder [] = Unit {0}
 InOrder (name ∷ []) = Unit {0}
-InOrder (n ∷ m ∷ ns) = IsBefore n m × InOrder (m ∷ ns)
+InOrder (first_name ∷ second_name ∷ later_names) = IsBefore first_name second_name × InOrder (second_name ∷ later_names)
 
 -- the names that can be reached, each once, in their order
 pub record IsReach (graph : Graph) (names : List Name) : Type 0 where

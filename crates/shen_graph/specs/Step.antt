@@ -43,12 +43,12 @@ on (Some v) graph f = f v
 -- of an object that is pinned is no function of the graph. What is not named stays
 abbrev pub outcome : Graph → ℕ → Command → Outcome
 outcome graph thread (New dst refs nums) = answers (reply.Ref (fresh graph thread)) (with_root (with_fresh graph thread (blank refs nums)) thread dst (Some (fresh graph thread)))
-outcome graph thread (Get dst src field) = on (field_at graph thread src field) graph (λ v. answers (shown v) (with_root graph thread dst v))
+outcome graph thread (Get dst src field) = on (field_at graph thread src field) graph (λ reference. answers (shown reference) (with_root graph thread dst reference))
 outcome graph thread (Set obj field val) = on (field_at graph thread obj field) graph (λ _. answers reply.Ok (with_field graph thread obj field (graph.root thread val)))
-outcome graph thread (Cas obj field expect val) = on (field_at graph thread obj field) graph (λ v.
-    if same_reference v (graph.root thread expect) then answers reply.Yes (with_field graph thread obj field (graph.root thread val)) else answers reply.No graph)
-outcome graph thread (Xchg dst obj field val) = on (field_at graph thread obj field) graph (λ v. answers (shown v) (with_root (with_field graph thread obj field (graph.root thread val)) thread dst v))
-outcome graph thread (Rd obj index) = on (number_at graph thread obj index) graph (λ n. answers (reply.Number n) graph)
+outcome graph thread (Cas obj field expect val) = on (field_at graph thread obj field) graph (λ reference.
+    if same_reference reference (graph.root thread expect) then answers reply.Yes (with_field graph thread obj field (graph.root thread val)) else answers reply.No graph)
+outcome graph thread (Xchg dst obj field val) = on (field_at graph thread obj field) graph (λ reference. answers (shown reference) (with_root (with_field graph thread obj field (graph.root thread val)) thread dst reference))
+outcome graph thread (Rd obj index) = on (number_at graph thread obj index) graph (λ number. answers (reply.Number number) graph)
 outcome graph thread (Wr obj index value) = on (number_at graph thread obj index) graph (λ _. answers reply.Ok (with_number graph thread obj index value))
 outcome graph thread (Copy dst src) = answers reply.Ok (with_root graph thread dst (graph.root thread src))
 outcome graph thread (Drop dst) = answers reply.Ok (with_root graph thread dst None)

@@ -5,12 +5,12 @@ use Rattle.shen_graph.specs.GraphText.{Text}
 use Rattle.shen_graph.specs.TextLayout.{row_at, IsLaid}
 
 abbrev pub text_in : Inside → Text
-text_in t = record {
-  rows = map (row_at t.references.items t.numbers.items) t.places.items;
-  roots = t.roots.items;
-  pins = t.pins.items;
-  spare = t.spare;
-  room = t.room;
+text_in inside = record {
+  rows = map (row_at inside.references.items inside.numbers.items) inside.places.items;
+  roots = inside.roots.items;
+  pins = inside.pins.items;
+  spare = inside.spare;
+  room = inside.room;
 }
 
 -- each word of the room is spare or in use, and each list has room for all that may come

@@ -75,4 +75,4 @@ one_of (Some progress) other = Some progress
 
 -- the scripts of both
 abbrev pub joined : List (Option Progress) → List (Option Progress) → List (Option Progress)
-joined work other = map (λ mutator. one_of (progress_of work mutator) (progress_of other mutator)) (range_with_len 0 8)
+joined work other_work = map (λ mutator. one_of (progress_of work mutator) (progress_of other_work mutator)) (range_with_len 0 8)

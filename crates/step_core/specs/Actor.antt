@@ -31,7 +31,7 @@ fresh_helper seat = helping (helpers.fresh_helper seat)
 
 -- and a control that has seen this free word
 abbrev pub fresh_control : ℕ → Machine
-fresh_control free = controlling (record { spot = LookLeft; seen = free; phase = idle_phase; cset = 0; image = []; hints = 0 })
+fresh_control free_word = controlling (record { spot = LookLeft; seen = free_word; phase = idle_phase; cset = 0; image = []; hints = 0 })
 
 -- the entry of a command of a seat, once its reply is settled
 abbrev pub entry_of : ℕ → Command → Reply → Entry

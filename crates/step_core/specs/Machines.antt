@@ -54,7 +54,7 @@ use Rattle.step_core.specs.Standing.{standing_at, help_standing, control_standin
 abbrev pub takes_hint : Machine → Bool
 takes_hint (mutating mutator) = false
 takes_hint (helping helper) = help.takes_hint helper.spot
-takes_hint (controlling k) = controls.takes_hint k.spot
+takes_hint (controlling own_control) = controls.takes_hint own_control.spot
 
 -- whether an order is one for a helper or the control: none, or a hint where it takes hints
 abbrev pub is_for_working : Bool → Order → Bool
@@ -67,56 +67,56 @@ is_for_working hints (Hint address) = hints
 abbrev pub takes_of : Machine → Order → Bool
 takes_of (mutating mutator) order = takes_at mutator.spot mutator.made order
 takes_of (helping helper) order = is_for_working (help.takes_hint helper.spot) order && (if help.is_gone helper.spot then false else true)
-takes_of (controlling k) order = is_for_working (controls.takes_hint k.spot) order && (if is_gone k.spot then false else true)
+takes_of (controlling own_control) order = is_for_working (controls.takes_hint own_control.spot) order && (if is_gone own_control.spot then false else true)
 
 -- A helper, and the control, as it goes on under an order: with a hint at the word that has the mark of the hint's address.
 abbrev pub helping_by : Config → Order → Helping → Helping
 helping_by config order helper = help_hinted config (hint_in order) helper
 
 abbrev pub controlling_by : Config → Order → Controlling → Controlling
-controlling_by config order k = control_hinted config (hint_in order) k
+controlling_by config order own_control = control_hinted config (hint_in order) own_control
 
 -- and any machine: what a mutator does under an order stands in its own rows
 abbrev pub ordered : Config → Order → Machine → Machine
 ordered config order (mutating mutator) = mutating mutator
 ordered config order (helping helper) = helping (helping_by config order helper)
-ordered config order (controlling k) = controlling (controlling_by config order k)
+ordered config order (controlling own_control) = controlling (controlling_by config order own_control)
 
 -- its next access, under an order
 abbrev pub plan_of : Config → Order → Machine → Access
 plan_of config order (mutating mutator) = placed config (touch_of config mutator order)
 plan_of config order (helping helper) = placed config (help_touch config (helping_by config order helper))
-plan_of config order (controlling k) = control_access config (controlling_by config order k)
+plan_of config order (controlling own_control) = control_access config (controlling_by config order own_control)
 
 -- the address that its next access makes grey, if it does so, as it does at GO alone
 abbrev pub greys_of : Machine → Option ℕ
 greys_of (mutating mutator) = mutators.greys_at mutator.spot
 greys_of (helping helper) = help.greys_at helper.spot
-greys_of (controlling k) = controls.greys_at k.spot
+greys_of (controlling own_control) = controls.greys_at own_control.spot
 
 -- how many hints it has taken, up to 2^64 - 1
 abbrev pub hints_of : Machine → ℕ
 hints_of (mutating mutator) = 0
 hints_of (helping helper) = helper.hints
-hints_of (controlling k) = k.hints
+hints_of (controlling own_control) = own_control.hints
 
 -- the place of its next access. One that takes a hint stands where it would claim
 abbrev pub place_in : Order → Machine → Place
 place_in order (mutating mutator) = place_at order mutator.spot
 place_in order (helping helper) = help_place helper
-place_in order (controlling k) = control_place k.spot
+place_in order (controlling own_control) = control_place own_control.spot
 
 -- what it is after the access, by the word that it found
 abbrev pub machine_after : Change → Config → Order → ℕ → Machine → Machine
 machine_after change config order got (mutating mutator) = mutating (next_of config mutator order got)
 machine_after change config order got (helping helper) = helping (help_next config (helping_by config order helper) got)
-machine_after change config order got (controlling k) = controlling (control_next change config (controlling_by config order k) got)
+machine_after change config order got (controlling own_control) = controlling (control_next change config (controlling_by config order own_control) got)
 
 -- what it says of the step under an order that finds this word: nothing where it never makes one
 abbrev pub answer_of : Config → Order → Machine → ℕ → Option Took
 answer_of config order (mutating mutator) got = Some (answer_at config mutator.kept mutator.spot got)
 answer_of config order (helping helper) got = Some (help_says config (helping_by config order helper) got)
-answer_of config order (controlling k) got = Some (control_says config (controlling_by config order k) got)
+answer_of config order (controlling own_control) got = Some (control_says config (controlling_by config order own_control) got)
 
 -- the calls that its step ends, in a call of this command
 abbrev pub ended_by : Command → Machine → List Entry
@@ -141,7 +141,7 @@ told_storing config stage _ image = []
 abbrev pub told_with : Config → (Word → ℕ) → Stage Actor → Actor → Order → Machine → List Entry
 told_with config memory stage actor order (mutating mutator) = entries_of mutator.seat (command_by order actor.command) (told_of memory mutator)
 told_with config memory stage actor order (helping helper) = []
-told_with config memory stage actor order (controlling k) = told_storing config stage k.spot k.image
+told_with config memory stage actor order (controlling own_control) = told_storing config stage own_control.spot own_control.image
 
 -- the image that counts, if one does: while the control writes it back
 abbrev pub stored_image : ControlSpot → List ℕ → Option Counting
@@ -150,7 +150,7 @@ stored_image _ image = None
 
 -- and of a machine
 abbrev pub image_read : Machine → Option Counting
-image_read (controlling k) = stored_image k.spot k.image
+image_read (controlling own_control) = stored_image own_control.spot own_control.image
 image_read _ = None
 
 -- what a mutator does between two calls: it begins the command that follows in its script, and ends where there is none
@@ -161,9 +161,9 @@ next_order (Some command) = Begin command
 -- What it does on its turn, by the command that would follow. In a call it goes on, and so does a helper, and the control. Between two
 -- calls a mutator begins that command, and ends where there is none. It is idle where it has ended.
 abbrev pub order_for : Option Command → Machine → Option Order
-order_for next (mutating mutator) = if takes_commands mutator.spot then Some (next_order next) else (if is_between_calls mutator.spot then None else Some Nothing)
-order_for next (helping helper) = if help.is_gone helper.spot then None else Some Nothing
-order_for next (controlling k) = if is_gone k.spot then None else Some Nothing
+order_for next_command (mutating mutator) = if takes_commands mutator.spot then Some (next_order next_command) else (if is_between_calls mutator.spot then None else Some Nothing)
+order_for next_command (helping helper) = if help.is_gone helper.spot then None else Some Nothing
+order_for next_command (controlling own_control) = if is_gone own_control.spot then None else Some Nothing
 
 -- and by its script and the calls that it has ended
 abbrev pub order_by : List Command → List Entry → Machine → Option Order
@@ -191,7 +191,7 @@ is_mutating _ = false
 
 -- the control that it is, if it is the control
 abbrev pub control_in : Machine → Option Controlling
-control_in (controlling k) = Some k
+control_in (controlling own_control) = Some own_control
 control_in _ = None
 
 -- whether it is a mutator without a call in progress
@@ -206,26 +206,26 @@ may_begin _ = false
 
 -- whether it has ended, of a machine that says so: the control
 abbrev pub has_ended_of : Machine → Bool
-has_ended_of (controlling k) = is_gone k.spot
+has_ended_of (controlling own_control) = is_gone own_control.spot
 has_ended_of _ = false
 
 -- where it stands, as far as entering, leaving and stopping go
 abbrev pub standing_of : Machine → Standing
 standing_of (mutating mutator) = standing_at mutator.spot
 standing_of (helping helper) = help_standing helper.spot
-standing_of (controlling k) = control_standing k.spot
+standing_of (controlling own_control) = control_standing own_control.spot
 
 -- whether it can go on from a word
 abbrev pub IsFitFor : Config → Order → ℕ → Machine → Type 0
 IsFitFor config order got (mutating mutator) = IsFit config mutator order got
 IsFitFor config order got (helping helper) = ready.IsFit config (helping_by config order helper) got
-IsFitFor config order got (controlling k) = IsWholeImage config k.phase k.spot k.image got × UnitGoesOn config (controlling_by config order k).spot got
+IsFitFor config order got (controlling own_control) = IsWholeImage config own_control.phase own_control.spot own_control.image got × UnitGoesOn config (controlling_by config order own_control).spot got
 
 -- where its step under an order that finds this word says that it waits
 abbrev pub WaitsIn : Config → Order → Machine → ℕ → Type 0
 WaitsIn config order (mutating mutator) got = WaitsAt mutator.spot got
 WaitsIn config order (helping helper) got = helpers.WaitsAt config (helping_by config order helper) got
-WaitsIn config order (controlling k) got = control.WaitsAt config (controlling_by config order k) got
+WaitsIn config order (controlling own_control) got = control.WaitsAt config (controlling_by config order own_control) got
 
 -- how many objects it has made
 abbrev pub made_of_machine : Machine → ℕ
@@ -252,14 +252,14 @@ at_hand_of _ = 0
 abbrev pub HasNumber : Config → ℕ → Machine → Type 0
 HasNumber config number (mutating mutator) = (mutator.seat ≡ number) × (number < config.mutators)
 HasNumber config number (helping helper) = (helper.seat ≡ number) × (config.mutators ≤ number) × (number < config.mutators + config.helpers)
-HasNumber config number (controlling k) = number ≡ config.mutators + config.helpers
+HasNumber config number (controlling own_control) = number ≡ config.mutators + config.helpers
 
 -- It is idle, and may go on: a mutator takes commands, and the graph has as many objects of its thread as it has made; a helper is
 -- between two rounds; the control is in no pause and no unit, and knows the phase.
 abbrev pub IsIdle : (phase cset : ℕ) → Graph → ℕ → Machine → Type 0
 IsIdle phase cset graph number (mutating mutator) = (graph.count (number + 1) ≡ mutator.made) × (takes_commands mutator.spot ≡ true)
 IsIdle phase cset graph number (helping helper) = helper.spot ≡ LoadEnd
-IsIdle phase cset graph number (controlling k) = (k.spot ≡ LookLeft) × (k.image ≡ []) × (k.phase ≡ phase) × (k.cset ≡ cset)
+IsIdle phase cset graph number (controlling own_control) = (own_control.spot ≡ LookLeft) × (own_control.image ≡ []) × (own_control.phase ≡ phase) × (own_control.cset ≡ cset)
 
 -- whether a step says that it waits
 abbrev pub is_again : Took → Bool
@@ -282,7 +282,7 @@ took_of change config actor order got machine = record {
 -- pause makes of the image is a function that is handed in.
 unfoldable pub kind : Change → Config → MachineKind Actor Order
 kind change config = record {
-  takes = λ a order. takes_of a.machine order;
-  plan = λ a order. plan_of config order a.machine;
-  took = λ a order got. took_of change config a order got a.machine;
+  takes = λ actor order. takes_of actor.machine order;
+  plan = λ actor order. plan_of config order actor.machine;
+  took = λ actor order got. took_of change config actor order got actor.machine;
 }

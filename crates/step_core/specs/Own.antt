@@ -30,7 +30,7 @@ root_recording world seat dst value _ index = world.memory (Root seat index)
 -- and where it resolves what it has found in a field
 abbrev pub root_resolving : World → ℕ → (dst value : ℕ) → Loaded → ℕ → ℕ
 root_resolving world seat dst value ForRoot index = root_with world seat dst value index
-root_resolving world seat dst value (ToCompare object expect more) index = world.memory (Root seat index)
+root_resolving world seat dst value (ToCompare object expect new_value) index = world.memory (Root seat index)
 
 -- the word that counts as a root of the mutator: while a call has the root's new value in hand, that value
 abbrev pub root_now : World → ℕ → Kept → Spot → ℕ → ℕ
@@ -42,14 +42,14 @@ root_now world seat kept _ index = world.memory (Root seat index)
 -- What room a mutator has by where it stands: free words of its buffer; besides, what a taking of room says, and then, in hand, the words of
 -- the object that it makes; or those of the object that it copies.
 abbrev pub IsInMaking : (seat : ℕ) → Command → MakeSpot → ℕ → Block → Type 0
-IsInMaking seat command (make.Taking take) a piece = takes.IsRoomAt seat (words_made command) take a piece
-IsInMaking seat command (make.StoreWord address done) a piece = IsSpare seat piece ⊎ ((a ≡ address) × (piece ≡ hand seat (words_made command)))
-IsInMaking seat command (make.StoreRoot address) a piece = IsSpare seat piece ⊎ ((a ≡ address) × (piece ≡ hand seat (words_made command)))
+IsInMaking seat command (make.Taking take) asked_address piece = takes.IsRoomAt seat (words_made command) take asked_address piece
+IsInMaking seat command (make.StoreWord address done) asked_address piece = IsSpare seat piece ⊎ ((asked_address ≡ address) × (piece ≡ hand seat (words_made command)))
+IsInMaking seat command (make.StoreRoot address) asked_address piece = IsSpare seat piece ⊎ ((asked_address ≡ address) × (piece ≡ hand seat (words_made command)))
 
 abbrev pub IsRoomOf : (seat : ℕ) → Kept → Spot → ℕ → Block → Type 0
-IsRoomOf seat kept (Making spot) a piece = IsInMaking seat kept.command spot a piece
-IsRoomOf seat kept (Resolving address spot next) a piece = IsResolvingRoom seat spot a piece
-IsRoomOf seat kept _ a piece = IsSpare seat piece
+IsRoomOf seat kept (Making spot) asked_address piece = IsInMaking seat kept.command spot asked_address piece
+IsRoomOf seat kept (Resolving address spot next) asked_address piece = IsResolvingRoom seat spot asked_address piece
+IsRoomOf seat kept _ asked_address piece = IsSpare seat piece
 
 -- The words of a mutator stand for what its thread has in the graph: it has made as many objects, its roots stand for its
 -- roots, and besides free words of its buffer it has room only for an object that it makes or copies.

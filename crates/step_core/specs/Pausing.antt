@@ -46,7 +46,7 @@ pub record IsEmpty (config : Config) (stage : Stage Actor) : Type 0 where
 
 -- of the first words of an image those that count are those of the table
 abbrev pub AreRead : Config → List ℕ → Counting → ℕ → Type 0
-AreRead config words counting bound = (i : ℕ) → i < bound → counts config counting.extent counting.image i ≡ true → slice_index counting.image i ≡ slice_index words (image_start config + i)
+AreRead config words counting bound = (index : ℕ) → index < bound → counts config counting.extent counting.image index ≡ true → slice_index counting.image index ≡ slice_index words (image_start config + index)
 
 -- the first words of an image are those of the table, where they are of an extent, and else 0
 abbrev pub AreLoaded : Config → List ℕ → Extent → List ℕ → ℕ → Type 0

@@ -84,7 +84,7 @@ pub record ScheduledEvent : Type 0 where
 -- the event with what is to be done then, where there is an event
 abbrev pub moves : Option (Event Order) → List Task → Option ScheduledEvent
 moves None tasks = None
-moves (Some e) tasks = Some (record { event = e; tasks = tasks })
+moves (Some event) tasks = Some (record { event = event; tasks = tasks })
 
 -- the control's step after a step that waits
 abbrev pub control_after : Bool → List Task
@@ -93,7 +93,7 @@ control_after false = []
 
 abbrev pub waits_then : Config → Stage Actor → Option (Event Order) → Bool
 waits_then config stage None = false
-waits_then config stage (Some e) = waits config stage e
+waits_then config stage (Some event) = waits config stage event
 
 -- the next event of a task: none where the task is done, or its machine idle
 abbrev pub move_of : Config → Scripts → Stage Actor → Task → Option ScheduledEvent
@@ -107,7 +107,7 @@ move_of config scripts stage control = moves (turn scripts stage (control_number
 
 abbrev pub or_else : Option (Event Order) → Option (Event Order) → Option (Event Order)
 or_else None later = later
-or_else (Some e) later = Some e
+or_else (Some event) later = Some event
 
 -- the machines take turns from this number on
 abbrev pub numbers_from : Config → ℕ → List ℕ
@@ -116,7 +116,7 @@ numbers_from config from = range_with_len from (seat_count config.mutators confi
 -- the first of these machines that is not idle makes the next event
 abbrev pub first_turn : Scripts → Stage Actor → List ℕ → Option (Event Order)
 first_turn scripts stage [] = None
-first_turn scripts stage (k ∷ ks) = or_else (turn scripts stage k) (first_turn scripts stage ks)
+first_turn scripts stage (number ∷ later_numbers) = or_else (turn scripts stage number) (first_turn scripts stage later_numbers)
 
 -- what is to be done: the tasks, and then rounds from a machine on
 pub record Agenda : Type 0 where
@@ -130,28 +130,28 @@ pub record Next : Type 0 where
 
 abbrev pub round_of : Option (Event Order) → Option Next
 round_of None = None
-round_of (Some e) = Some (record { event = e; agenda = record { tasks = []; from = e.number + 1 } })
+round_of (Some event) = Some (record { event = event; agenda = record { tasks = []; from = event.number + 1 } })
 
 abbrev pub after_move : Option ScheduledEvent → List Task → ℕ → Option Next → Option Next
 after_move None tasks from later = later
-after_move (Some m) tasks from later = Some (record { event = m.event; agenda = record { tasks = m.tasks ++ tasks; from = from } })
+after_move (Some move) tasks from later = Some (record { event = move.event; agenda = record { tasks = move.tasks ++ tasks; from = from } })
 
 -- the first task that has an event makes it; after the tasks the rounds do
 abbrev pub next_by : Config → Scripts → Stage Actor → List Task → ℕ → Option Next
 next_by config scripts stage [] from = round_of (first_turn scripts stage (numbers_from config from))
-next_by config scripts stage (t ∷ ts) from = after_move (move_of config scripts stage t) ts from (next_by config scripts stage ts from)
+next_by config scripts stage (task ∷ later_tasks) from = after_move (move_of config scripts stage task) later_tasks from (next_by config scripts stage later_tasks from)
 
 abbrev pub next : Config → Scripts → Stage Actor → Agenda → Option Next
 next config scripts stage agenda = next_by config scripts stage agenda.tasks agenda.from
 
 abbrev pub and_then : Option Next → (Next → List (Event Order)) → List (Event Order)
-and_then None more = []
-and_then (Some n) more = n.event ∷ more n
+and_then None further = []
+and_then (Some next_step) further = next_step.event ∷ further next_step
 
 -- at most so many events of an agenda
 unfoldable pub scheduled : Change → Config → Scripts → ℕ → Agenda → Stage Actor → List (Event Order)
 scheduled change config scripts zero agenda stage = []
-scheduled change config scripts (suc n) agenda stage = and_then (next config scripts stage agenda) (λ x. scheduled change config scripts n x.agenda (act (kind change config) stage x.event))
+scheduled change config scripts (suc count) agenda stage = and_then (next config scripts stage agenda) (λ next_step. scheduled change config scripts count next_step.agenda (act (kind change config) stage next_step.event))
 
 -- the items of a schedule, and then rounds
 abbrev pub agenda_of : List Item → Agenda

@@ -68,8 +68,8 @@ copies_in _ = false
 
 -- what room it has: free words of its buffer; besides, what it has taken for a copy, or is about to take
 abbrev pub IsRoomIn : (seat : ℕ) → EvacSpot → ℕ → Block → Type 0
-IsRoomIn seat (evac.Resolving address end next spot) a piece = IsResolvingRoom seat spot a piece
-IsRoomIn seat _ a piece = IsSpare seat piece
+IsRoomIn seat (evac.Resolving address end next spot) asked_address piece = IsResolvingRoom seat spot asked_address piece
+IsRoomIn seat _ asked_address piece = IsSpare seat piece
 
 -- The unit on which a machine works: that of a helper, of the control, of any machine. Where it works on none, it is one that has ended.
 abbrev pub help_unit : HelpSpot → UnitSpot
@@ -88,7 +88,7 @@ is_working _ = false
 abbrev pub unit_in : Machine → UnitSpot
 unit_in (mutating mutator) = Ended Worked
 unit_in (helping helper) = help_unit helper.spot
-unit_in (controlling k) = control_unit k.spot
+unit_in (controlling own_control) = control_unit own_control.spot
 
 -- the scan or the pass of updating in which who works on a unit is
 abbrev pub unit_progress : Config → UnitSpot → Option Scan
@@ -108,8 +108,8 @@ unit_region config _ = None
 
 -- what room it has
 abbrev pub UnitRoom : (seat : ℕ) → UnitSpot → ℕ → Block → Type 0
-UnitRoom seat (Evacuating cset spot) a piece = IsRoomIn seat spot a piece
-UnitRoom seat _ a piece = IsSpare seat piece
+UnitRoom seat (Evacuating cset spot) address piece = IsRoomIn seat spot address piece
+UnitRoom seat _ address piece = IsSpare seat piece
 
 -- What who works on a unit counts on, by the kind of unit: it is the phase of such units, and its walk has come where its spot says. In
 -- evacuating no object behind the walk has its current copy there, unless there was no room.
@@ -129,8 +129,8 @@ copies_of (mutating mutator) = copies_at mutator.spot
 copies_of machine = unit_copies (unit_in machine)
 
 abbrev pub HasRoom : (seat : ℕ) → Machine → ℕ → Block → Type 0
-HasRoom seat (mutating mutator) a piece = IsRoomOf seat mutator.kept mutator.spot a piece
-HasRoom seat machine a piece = UnitRoom seat (unit_in machine) a piece
+HasRoom seat (mutating mutator) address piece = IsRoomOf seat mutator.kept mutator.spot address piece
+HasRoom seat machine address piece = UnitRoom seat (unit_in machine) address piece
 
 -- where the room begins that a machine has in hand, by each part that has such room: a new object until its root is stored, a copy until it is
 -- the current one or is given back
@@ -278,35 +278,35 @@ works_on _ = None
 -- the roots that a call has loaded, and still needs: while it loads them, while it works on a field, and once it has resolved or recorded
 -- what it found there
 abbrev pub IsOfRoots : Command → LoadSpot → ℕ → Type 0
-IsOfRoots command load.First a = ⊥
-IsOfRoots command (load.Second first) a = a ≡ first
-IsOfRoots command (load.Third first second) a = (a ≡ first) ⊎ (a ≡ second)
-IsOfRoots command (load.Shape object second third) a = (a ≡ object) ⊎ (((1 < length (command_roots command)) × (a ≡ second)) ⊎ ((2 < length (command_roots command)) × (a ≡ third)))
+IsOfRoots command load.First address = ⊥
+IsOfRoots command (load.Second first) address = address ≡ first
+IsOfRoots command (load.Third first second) address = (address ≡ first) ⊎ (address ≡ second)
+IsOfRoots command (load.Shape object second third) address = (address ≡ object) ⊎ (((1 < length (command_roots command)) × (address ≡ second)) ⊎ ((2 < length (command_roots command)) × (address ≡ third)))
 
 abbrev pub IsOfField : FieldSpot → ℕ → Type 0
-IsOfField fields.Load a = ⊥
-IsOfField (fields.LoadExpected expect value) a = (a ≡ expect) ⊎ (a ≡ value)
-IsOfField (fields.LoadOld value) a = a ≡ value
-IsOfField (fields.Store value) a = a ≡ value
-IsOfField (fields.Swap value) a = a ≡ value
-IsOfField (fields.Exchange found expect value) a = (a ≡ expect) ⊎ (a ≡ value)
+IsOfField fields.Load address = ⊥
+IsOfField (fields.LoadExpected expect value) address = (address ≡ expect) ⊎ (address ≡ value)
+IsOfField (fields.LoadOld value) address = address ≡ value
+IsOfField (fields.Store value) address = address ≡ value
+IsOfField (fields.Swap value) address = address ≡ value
+IsOfField (fields.Exchange found expect value) address = (address ≡ expect) ⊎ (address ≡ value)
 
 abbrev pub IsOfLoaded : Loaded → ℕ → Type 0
-IsOfLoaded ForRoot a = ⊥
-IsOfLoaded (ToCompare object expect value) a = (a ≡ expect) ⊎ (a ≡ value)
+IsOfLoaded ForRoot address = ⊥
+IsOfLoaded (ToCompare object expect value) address = (address ≡ expect) ⊎ (address ≡ value)
 
 abbrev pub IsOfOverwritten : Overwritten → ℕ → Type 0
-IsOfOverwritten (overwrites.Set object value) a = a ≡ value
-IsOfOverwritten _ a = ⊥
+IsOfOverwritten (overwrites.Set object value) address = address ≡ value
+IsOfOverwritten _ address = ⊥
 
 abbrev pub IsOfCall : Command → Spot → ℕ → Type 0
-IsOfCall command (Loading spot) a = IsOfRoots command spot a
-IsOfCall command (OnField object spot) a = IsOfField spot a
-IsOfCall command (Resolving address spot next) a = IsOfLoaded next a
-IsOfCall command (Recording spot address next) a = IsOfOverwritten next a
-IsOfCall command (StoreRoot value) a = a ≡ value
-IsOfCall command (Pinning value spot) a = a ≡ value
-IsOfCall command _ a = ⊥
+IsOfCall command (Loading spot) asked_address = IsOfRoots command spot asked_address
+IsOfCall command (OnField object spot) asked_address = IsOfField spot asked_address
+IsOfCall command (Resolving address spot next) asked_address = IsOfLoaded next asked_address
+IsOfCall command (Recording spot address next) asked_address = IsOfOverwritten next asked_address
+IsOfCall command (StoreRoot value) asked_address = asked_address ≡ value
+IsOfCall command (Pinning value spot) asked_address = asked_address ≡ value
+IsOfCall command _ asked_address = ⊥
 
 -- a mutator has taken what it was answered, and this is its reply: its answer is the address of the object of that name, which may be used;
 -- or it says that the heap is full

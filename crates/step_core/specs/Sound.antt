@@ -78,18 +78,18 @@ is_given _ = false
 
 abbrev pub is_answer : Asking → Bool
 is_answer refused = true
-is_answer what = is_given what
+is_answer asking = is_given asking
 
 -- What a mutator that stands at a spot has asked for: nothing, until it has stored its request; then its object, also when it has left the
 -- heap, and so it looks for an answer that comes; and once it has found one, it has that.
 abbrev pub FitsSpot : Spot → Asking → Type 0
-FitsSpot (Waiting wait.AskRoom) what = is_request what ≡ true
-FitsSpot (Waiting wait.StepOut) what = is_request what ≡ true
-FitsSpot (Waiting wait.Poll) what = what ≢ nothing
-FitsSpot (Waiting wait.LoadAnswer) what = is_answer what ≡ true
-FitsSpot (Waiting (wait.StoreRoot address)) what = is_given what ≡ true
-FitsSpot (Entering spot Waited) what = is_answer what ≡ true
-FitsSpot _ what = what ≡ nothing
+FitsSpot (Waiting wait.AskRoom) asking = is_request asking ≡ true
+FitsSpot (Waiting wait.StepOut) asking = is_request asking ≡ true
+FitsSpot (Waiting wait.Poll) asking = asking ≢ nothing
+FitsSpot (Waiting wait.LoadAnswer) asking = is_answer asking ≡ true
+FitsSpot (Waiting (wait.StoreRoot address)) asking = is_given asking ≡ true
+FitsSpot (Entering spot Waited) asking = is_answer asking ≡ true
+FitsSpot _ asking = asking ≡ nothing
 
 -- What a mutator has asked for stands in the words of its requests and answers; and behind the access that asks for a pause, the word of
 -- what is asked has the bit that a mutator waits, until it is answered.

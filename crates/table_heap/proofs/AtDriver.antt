@@ -38,121 +38,121 @@ one_behind : (script : List Command) (found : Option Command) → slice_get (wit
 one_behind [] None = refl
 one_behind [] (Some command) = refl
 one_behind (command ∷ script) None = one_behind script None
-one_behind (command ∷ script) (Some other_command) = one_behind script (Some other_command)
+one_behind (command ∷ script) (Some found_command) = one_behind script (Some found_command)
 
 front_of : (script : List Command) (found : Option Command) → script ≡ take (length script) (with_one script found)
 front_of [] None = refl
 front_of [] (Some command) = refl
 front_of (command ∷ script) None = ap (λ zs. command ∷ zs) (front_of script None)
-front_of (command ∷ script) (Some other_command) = ap (λ zs. command ∷ zs) (front_of script (Some other_command))
+front_of (command ∷ script) (Some found_command) = ap (λ zs. command ∷ zs) (front_of script (Some found_command))
 
 makes_is_new : (command : Command) → makes_object command ≡ true → IsNew command
-makes_is_new (New dst refs nums) is = tt
-makes_is_new _ is = absurd cc
+makes_is_new (New dst refs nums) makes_it = tt
+makes_is_new _ makes_it = absurd cc
 
 module _ {D : Type 0} (next_of : D → Option Command) (replied : D → Reply → D) (to_come : D → ℕ) where
   -- a mutator that has not begun, and its driver
-  pub drives_first : (first : D) (actor : Actor) → to_come first < most_objects → HasNotBegun actor → IsDriving next_of replied to_come first first actor
-  drives_first first actor below fresh = record {
-    driven = subst (λ es. IsDrivenFrom next_of replied first es) (sym fresh.calls) tt;
-    state = sym (ap (driver_after replied first) fresh.calls);
-    doing = λ busy. absurd (false≢true (sym busy ∙ fresh.rest));
-    kept = λ busy. absurd (false≢true (sym busy ∙ fresh.rest));
-    ended = λ _ gone. absurd (false≢true (sym gone ∙ fresh.free));
+  pub drives_first : (first_driver : D) (actor : Actor) → to_come first_driver < most_objects → HasNotBegun actor → IsDriving next_of replied to_come first_driver first_driver actor
+  drives_first first_driver actor makings_below fresh = record {
+    driven = subst (λ given_entries. IsDrivenFrom next_of replied first_driver given_entries) (sym fresh.calls) tt;
+    state = sym (ap (driver_after replied first_driver) fresh.calls);
+    doing = λ actor_busy. absurd (false≢true (sym actor_busy ∙ fresh.rest));
+    kept = λ actor_busy. absurd (false≢true (sym actor_busy ∙ fresh.rest));
+    ended = λ _ machine_gone. absurd (false≢true (sym machine_gone ∙ fresh.free));
     names = record {
-      call = λ busy. absurd (false≢true (sym busy ∙ fresh.rest));
-      few = let made = fresh.made in omega (arith, below, made);
+      call = λ actor_busy. absurd (false≢true (sym actor_busy ∙ fresh.rest));
+      few = let none_made = fresh.made in omega (arith, makings_below, none_made);
     };
   }
 
-  module _ (first now : D) (actor : Actor) (at : IsDriving next_of replied to_come first now actor) where
+  module _ (first_driver driver : D) (actor : Actor) (driving : IsDriving next_of replied to_come first_driver driver actor) where
     -- the commands of its calls with the one that is next are a script
     abbrev script : List Command
-    script = with_one (commands_of actor.calls) (next_of now)
+    script = with_one (commands_of actor.calls) (next_of driver)
 
     count : length (commands_of actor.calls) ≡ length actor.calls
     count = length-map actor.calls (λ (entry : Entry). entry.command)
 
-    next_there : slice_get script (length actor.calls) ≡ next_of now
-    next_there = ap (slice_get script) (sym count) ∙ one_behind (commands_of actor.calls) (next_of now)
+    next_there : slice_get script (length actor.calls) ≡ next_of driver
+    next_there = ap (slice_get script) (sym count) ∙ one_behind (commands_of actor.calls) (next_of driver)
 
     on : IsOnScript script actor
     on = record {
-      done = front_of (commands_of actor.calls) (next_of now) ∙ ap (λ n. take n script) count;
-      doing = λ busy. next_there ∙ at.doing busy;
-      ended = λ rest gone. next_there ∙ at.ended rest gone;
+      done = front_of (commands_of actor.calls) (next_of driver) ∙ ap (λ number. take number script) count;
+      doing = λ busy. next_there ∙ driving.doing busy;
+      ended = λ rest machine_gone. next_there ∙ driving.ended rest machine_gone;
     }
 
     -- where it is idle for good its driver has no command
-    pub driven_done : is_mutating actor.machine ≡ true → IsIdleForGood actor.machine → HasDriven next_of replied first now actor
+    pub driven_done : is_mutating actor.machine ≡ true → IsIdleForGood actor.machine → HasDriven next_of replied first_driver driver actor
     driven_done role idle = record {
       rest = (script_done script actor role on (idle (slice_get script (length actor.calls)))).rest;
-      driven = at.driven;
-      state = at.state;
-      ended = at.ended (script_done script actor role on (idle (slice_get script (length actor.calls)))).rest (never_begins actor.machine idle);
+      driven = driving.driven;
+      state = driving.state;
+      ended = driving.ended (script_done script actor role on (idle (slice_get script (length actor.calls)))).rest (never_begins actor.machine idle);
     }
       where
         never_begins : (machine : Machine) → IsIdleForGood machine → may_begin machine ≡ false
         never_begins machine idle = by_may (may_begin machine) refl
           where
             by_may : (holds : Bool) → may_begin machine ≡ holds → may_begin machine ≡ false
-            by_may true may = absurd (let e = sym (turn_at_rest machine None may) ∙ idle None in cc)
-            by_may false may = may
+            by_may true may_start = absurd (let same_turn = sym (turn_at_rest machine None may_start) ∙ idle None in cc)
+            by_may false may_start = may_start
 
-    module _ (config : Config) (order : Order) (got : ℕ) (role : is_mutating actor.machine ≡ true) (turn : order_for (next_of now) actor.machine ≡ Some order) where
+    module _ (config : Config) (order : Order) (got : ℕ) (role : is_mutating actor.machine ≡ true) (turn : order_for (next_of driver) actor.machine ≡ Some order) where
       -- the mutator after its turn
       abbrev then_is : Actor
       then_is = took_of pause_image config actor order got actor.machine
 
       on_then : IsOnScript script then_is
-      on_then = script_step pause_image config script actor order got on (ap (λ o. order_for o actor.machine) next_there ∙ turn)
+      on_then = script_step pause_image config script actor order got on (ap (λ command. order_for command actor.machine) next_there ∙ turn)
 
       -- the command that it has kept is that of its call
       kept_then : is_resting (machine_after pause_image config order got actor.machine) ≡ false → call_in (machine_after pause_image config order got actor.machine) ≡ command_by order actor.command
-      kept_then busy = by_may (may_begin actor.machine) refl
+      kept_then machine_busy = by_may (may_begin actor.machine) refl
         where
           by_may : (holds : Bool) → may_begin actor.machine ≡ holds → call_in (machine_after pause_image config order got actor.machine) ≡ command_by order actor.command
-          by_may true may =
-              let begin = begins pause_image config (next_of now) actor.machine order got may turn busy in
-              let obeys : next_order (next_of now) ≡ order = same_Some (next_order (next_of now)) order (sym (turn_at_rest actor.machine (next_of now) may) ∙ turn) in
-              let is : order ≡ Begin begin.0 = sym obeys ∙ ap next_order begin.1 in
-              ap (λ (order : Order). call_in (machine_after pause_image config order got actor.machine)) is ∙ (call_begins pause_image config begin.0 got actor.machine may).0 ∙ ap (λ (order : Order). command_by order actor.command) (sym is)
-          by_may false may =
-              let goes = goes_on_with (next_of now) actor.machine order may turn in
-              ap (λ (order : Order). call_in (machine_after pause_image config order got actor.machine)) goes.1 ∙ call_kept pause_image config got actor.machine ∙ at.kept goes.0
-              ∙ ap (λ (order : Order). command_by order actor.command) (sym goes.1)
+          by_may true may_start =
+              let begin = begins pause_image config (next_of driver) actor.machine order got may_start turn machine_busy in
+              let obeys : next_order (next_of driver) ≡ order = same_Some (next_order (next_of driver)) order (sym (turn_at_rest actor.machine (next_of driver) may_start) ∙ turn) in
+              let order_begins : order ≡ Begin begin.0 = sym obeys ∙ ap next_order begin.1 in
+              ap (λ (order : Order). call_in (machine_after pause_image config order got actor.machine)) order_begins ∙ (call_begins pause_image config begin.0 got actor.machine may_start).0 ∙ ap (λ (order : Order). command_by order actor.command) (sym order_begins)
+          by_may false may_start =
+              let goes_on = goes_on_with (next_of driver) actor.machine order may_start turn in
+              ap (λ (order : Order). call_in (machine_after pause_image config order got actor.machine)) goes_on.1 ∙ call_kept pause_image config got actor.machine ∙ driving.kept goes_on.0
+              ∙ ap (λ (order : Order). command_by order actor.command) (sym goes_on.1)
 
       -- no reply was given
-      pub drives_on : reply_of_step actor.machine ≡ None → IsDriving next_of replied to_come first now then_is
-      drives_on none =
-          let same : actor.calls ++ ended_by actor.command actor.machine ≡ actor.calls = ap (λ es. actor.calls ++ es) (ended_none actor.command actor.machine none) ∙ append-nil actor.calls in
-          let next_then : slice_get script (length then_is.calls) ≡ next_of now = ap (λ (es : List Entry). slice_get script (length es)) same ∙ next_there in
+      pub drives_on : reply_of_step actor.machine ≡ None → IsDriving next_of replied to_come first_driver driver then_is
+      drives_on no_reply =
+          let same_entries : actor.calls ++ ended_by actor.command actor.machine ≡ actor.calls = ap (λ given_entries. actor.calls ++ given_entries) (ended_none actor.command actor.machine no_reply) ∙ append-nil actor.calls in
+          let next_then : slice_get script (length then_is.calls) ≡ next_of driver = ap (λ (given_entries : List Entry). slice_get script (length given_entries)) same_entries ∙ next_there in
           record {
-            driven = subst (λ es. IsDrivenFrom next_of replied first es) (sym same) at.driven;
-            state = at.state ∙ ap (driver_after replied first) (sym same);
+            driven = subst (λ given_entries. IsDrivenFrom next_of replied first_driver given_entries) (sym same_entries) driving.driven;
+            state = driving.state ∙ ap (driver_after replied first_driver) (sym same_entries);
             doing = λ busy. sym next_then ∙ on_then.doing busy;
             kept = kept_then;
-            ended = λ rest gone. sym next_then ∙ on_then.ended rest gone;
-            names = left_on pause_image config (next_of now) order got actor.machine (to_come now) role at.names turn none;
+            ended = λ rest machine_gone. sym next_then ∙ on_then.ended rest machine_gone;
+            names = left_on pause_image config (next_of driver) order got actor.machine (to_come driver) role driving.names turn no_reply;
           }
 
       -- its driver has taken the reply
-      pub drives_noted : (reply : Reply) → reply_of_step actor.machine ≡ Some reply → to_come (replied now reply) ≤ to_come now
-          → ((command : Command) → next_of now ≡ Some command → IsNew command → to_come (replied now reply) < to_come now)
-          → IsDriving next_of replied to_come first (replied now reply) then_is
+      pub drives_noted : (reply : Reply) → reply_of_step actor.machine ≡ Some reply → to_come (replied driver reply) ≤ to_come driver
+          → ((command : Command) → next_of driver ≡ Some command → IsNew command → to_come (replied driver reply) < to_come driver)
+          → IsDriving next_of replied to_come first_driver (replied driver reply) then_is
       drives_noted reply gives falls pays =
-          let given = given_after pause_image config order got actor.machine reply gives in
-          let ended = ended_some actor.command actor.machine reply gives in
-          let more : actor.calls ++ ended_by actor.command actor.machine ≡ actor.calls ++ ended.0 ∷ [] = ap (λ es. actor.calls ++ es) ended.1 in
-          let follows : next_of (driver_after replied first actor.calls) ≡ Some ended.0.command =
-          ap next_of (sym at.state) ∙ at.doing given.busy ∙ ap (λ (command : Command). Some command) (sym ended.2) in
+          let given_reply = given_after pause_image config order got actor.machine reply gives in
+          let call_ended = ended_some actor.command actor.machine reply gives in
+          let more_entries : actor.calls ++ ended_by actor.command actor.machine ≡ actor.calls ++ call_ended.0 ∷ [] = ap (λ given_entries. actor.calls ++ given_entries) call_ended.1 in
+          let command_follows : next_of (driver_after replied first_driver actor.calls) ≡ Some call_ended.0.command =
+          ap next_of (sym driving.state) ∙ driving.doing given_reply.busy ∙ ap (λ (command : Command). Some command) (sym call_ended.2) in
           record {
-            driven = subst (λ es. IsDrivenFrom next_of replied first es) (sym more) (driven_more next_of replied first actor.calls ended.0 at.driven follows);
-            state = ap (λ d. replied d reply) at.state ∙ ap (replied (driver_after replied first actor.calls)) (sym ended.3)
-                ∙ sym (after_more next_of replied first actor.calls ended.0) ∙ ap (driver_after replied first) (sym more);
-            doing = λ busy. absurd (false≢true (sym busy ∙ given.rest));
-            kept = λ busy. absurd (false≢true (sym busy ∙ given.rest));
-            ended = λ rest gone. absurd (false≢true (sym gone ∙ given.free));
-            names = left_given pause_image config (next_of now) order got actor.machine (to_come now) role at.names reply (to_come (replied now reply)) gives falls
-                (λ makes. pays actor.command (at.doing given.busy) (makes_is_new actor.command (sym (ap makes_object (at.kept given.busy)) ∙ makes)));
+            driven = subst (λ given_entries. IsDrivenFrom next_of replied first_driver given_entries) (sym more_entries) (driven_more next_of replied first_driver actor.calls call_ended.0 driving.driven command_follows);
+            state = ap (λ driver_now. replied driver_now reply) driving.state ∙ ap (replied (driver_after replied first_driver actor.calls)) (sym call_ended.3)
+                ∙ sym (after_more next_of replied first_driver actor.calls call_ended.0) ∙ ap (driver_after replied first_driver) (sym more_entries);
+            doing = λ actor_busy. absurd (false≢true (sym actor_busy ∙ given_reply.rest));
+            kept = λ actor_busy. absurd (false≢true (sym actor_busy ∙ given_reply.rest));
+            ended = λ actor_rests machine_gone. absurd (false≢true (sym machine_gone ∙ given_reply.free));
+            names = left_given pause_image config (next_of driver) order got actor.machine (to_come driver) role driving.names reply (to_come (replied driver reply)) gives falls
+                (λ makes. pays actor.command (driving.doing given_reply.busy) (makes_is_new actor.command (sym (ap makes_object (driving.kept given_reply.busy)) ∙ makes)));
           }

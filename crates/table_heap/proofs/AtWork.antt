@@ -28,90 +28,90 @@ use Rattle.table_heap.proofs.Jobs.{progress_there, script_here, replies_here}
 
 -- a mutator that has called nothing is on any script
 on_first : (script : List Command) (actor : Actor) → actor.calls ≡ [] → is_resting actor.machine ≡ true → may_begin actor.machine ≡ true → IsOnScript script actor
-on_first script actor none rest free = record {
-  done = ap commands_of none ∙ ap (λ (es : List Entry). take (length es) script) (sym none);
-  doing = λ busy. absurd (false≢true (sym busy ∙ rest));
-  ended = λ _ gone. absurd (false≢true (sym gone ∙ free));
+on_first script actor no_calls actor_rests may_start = record {
+  done = ap commands_of no_calls ∙ ap (λ (given_entries : List Entry). take (length given_entries) script) (sym no_calls);
+  doing = λ actor_busy. absurd (false≢true (sym actor_busy ∙ actor_rests));
+  ended = λ _ machine_gone. absurd (false≢true (sym machine_gone ∙ may_start));
 }
 
 -- it is at work before it begins
 pub starts : (jobs : Jobs) (number : ℕ) (actor : Actor) → CanStartOn jobs number actor → IsAtWorkOn jobs number actor
-starts jobs number actor can =
-    let there = progress_there jobs number can.script in
-    let script = script_here jobs number there.0 there.1 in
-    let replies : there.0.replies ≡ [] = sym (replies_here jobs number there.0 there.1) ∙ can.replies in
-    let few : length there.0.script < most_objects = subst (λ xs. length xs < most_objects) script can.few in
-    let none = can.made in (
-      there.0,
-      there.1,
+starts jobs number actor can_start =
+    let progress_found = progress_there jobs number can_start.script in
+    let script = script_here jobs number progress_found.0 progress_found.1 in
+    let replies : progress_found.0.replies ≡ [] = sym (replies_here jobs number progress_found.0 progress_found.1) ∙ can_start.replies in
+    let few_commands : length progress_found.0.script < most_objects = subst (λ given_script. length given_script < most_objects) script can_start.few in
+    let none_made = can_start.made in (
+      progress_found.0,
+      progress_found.1,
       record {
-        on = on_first there.0.script actor can.calls can.rest can.free;
-        replies = replies ∙ sym (ap history.replies_of can.calls);
-        commands = subst (λ xs. All IsValid xs) script can.commands;
-        made = omega (arith, few, none);
+        on = on_first progress_found.0.script actor can_start.calls can_start.rest can_start.free;
+        replies = replies ∙ sym (ap history.replies_of can_start.calls);
+        commands = subst (λ given_script. All IsValid given_script) script can_start.commands;
+        made = omega (arith, few_commands, none_made);
       },
     )
 
-module _ (progress : Progress) (actor : Actor) (at : IsAtWork progress actor) where
+module _ (progress : Progress) (actor : Actor) (at_work : IsAtWork progress actor) where
   -- as many replies as calls
   pub count : length progress.replies ≡ length actor.calls
-  count = ap length at.replies ∙ length-map actor.calls (λ e. e.reply)
+  count = ap length at_work.replies ∙ length-map actor.calls (λ entry. entry.reply)
 
   -- the command that follows can be given
   pub next_fits : may_begin actor.machine ≡ true → IfSome (slice_get progress.script (length progress.replies)) (λ command. IsValid command × (made_of_machine actor.machine < most_objects))
-  next_fits may = command_fits actor.machine progress.script (length progress.replies) at.commands at.made may
+  next_fits may_start = command_fits actor.machine progress.script (length progress.replies) at_work.commands at_work.made may_start
 
   -- it has called its whole script where it is idle for good
   pub done : is_mutating actor.machine ≡ true → IsIdleForGood actor.machine → HasDone progress.script progress.replies actor
   done role idle = record {
-    whole = script_done progress.script actor role at.on (idle (slice_get progress.script (length actor.calls)));
-    told = at.replies;
+    whole = script_done progress.script actor role at_work.on (idle (slice_get progress.script (length actor.calls)));
+    told = at_work.replies;
   }
 
-  module _ (config : Config) (order : Order) (got : ℕ) (next : order_for (slice_get progress.script (length progress.replies)) actor.machine ≡ Some order) where
+  module _ (config : Config) (order : Order) (got : ℕ) (next_order : order_for (slice_get progress.script (length progress.replies)) actor.machine ≡ Some order) where
     -- the mutator after its turn
     abbrev then_is : Actor
     then_is = took_of pause_image config actor order got actor.machine
 
     -- it is on its script
     on_then : IsOnScript progress.script then_is
-    on_then = script_step pause_image config progress.script actor order got at.on (ap (λ n. order_for (slice_get progress.script n) actor.machine) (sym count) ∙ next)
+    on_then = script_step pause_image config progress.script actor order got at_work.on (ap (λ number. order_for (slice_get progress.script number) actor.machine) (sym count) ∙ next_order)
 
     -- the replies of its calls
-    replies_then : map (λ e. e.reply) then_is.calls ≡ progress.replies ++ listed (reply_of_step actor.machine)
-    replies_then = took_replies actor ∙ ap (λ rs. rs ++ listed (reply_of_step actor.machine)) (sym at.replies)
+    replies_then : map (λ entry. entry.reply) then_is.calls ≡ progress.replies ++ listed (reply_of_step actor.machine)
+    replies_then = took_replies actor ∙ ap (λ given_replies. given_replies ++ listed (reply_of_step actor.machine)) (sym at_work.replies)
 
     -- no reply was given
     pub goes_on : reply_of_step actor.machine ≡ None → IsAtWork progress then_is
-    goes_on none = record {
+    goes_on no_reply = record {
       on = on_then;
-      replies = sym (replies_then ∙ ap (λ g. progress.replies ++ listed g) none ∙ append-nil progress.replies);
-      commands = at.commands;
-      made = names_on pause_image config order got actor.machine (length progress.script) (length progress.replies) at.made none;
+      replies = sym (replies_then ∙ ap (λ given_reply. progress.replies ++ listed given_reply) no_reply ∙ append-nil progress.replies);
+      commands = at_work.commands;
+      made = names_on pause_image config order got actor.machine (length progress.script) (length progress.replies) at_work.made no_reply;
     }
 
     module _ (reply : Reply) (gives : reply_of_step actor.machine ≡ Some reply) where
       -- in its call there are more commands than replies
       pub more : length progress.replies < length progress.script
       more =
-          let busy = (given_after pause_image config order got actor.machine reply gives).busy in
-          let within = slice_get_within progress.script (length actor.calls) actor.command (at.on.doing busy) in
-          omega (arith, within, count)
+          let actor_busy = (given_after pause_image config order got actor.machine reply gives).busy in
+          let calls_within = slice_get_within progress.script (length actor.calls) actor.command (at_work.on.doing actor_busy) in
+          omega (arith, calls_within, count)
 
       -- the reply is noted
       pub noted : IsAtWork (answered progress reply) then_is
       noted = record {
         on = on_then;
-        replies = sym (replies_then ∙ ap (λ g. progress.replies ++ listed g) gives);
-        commands = at.commands;
+        replies = sym (replies_then ∙ ap (λ given_reply. progress.replies ++ listed given_reply) gives);
+        commands = at_work.commands;
         made = subst (λ replies. HasNames (machine_after pause_image config order got actor.machine) (length progress.script) replies) (sym (length-append progress.replies (reply ∷ [])))
-            (names_noted pause_image config order got actor.machine (length progress.script) (length progress.replies) at.made reply gives);
+            (names_noted pause_image config order got actor.machine (length progress.script) (length progress.replies) at_work.made reply gives);
       }
 
 -- a machine that has no turn whatever follows has none by any command
-pub idle_for_good : (machine : Machine) (next : Option Command) → order_for next machine ≡ None → IsIdleForGood machine
-idle_for_good machine next idle other = by_may (may_begin machine) refl
+pub idle_for_good : (machine : Machine) (next_command : Option Command) → order_for next_command machine ≡ None → IsIdleForGood machine
+idle_for_good machine next_command idle other_command = by_may (may_begin machine) refl
   where
-    by_may : (holds : Bool) → may_begin machine ≡ holds → order_for other machine ≡ None
-    by_may true may = absurd (let e = sym (turn_at_rest machine next may) ∙ idle in cc)
-    by_may false none = turn_in_call machine other none ∙ sym (turn_in_call machine next none) ∙ idle
+    by_may : (holds : Bool) → may_begin machine ≡ holds → order_for other_command machine ≡ None
+    by_may true may_start = absurd (let same_turn = sym (turn_at_rest machine next_command may_start) ∙ idle in cc)
+    by_may false may_not_start = turn_in_call machine other_command may_not_start ∙ sym (turn_in_call machine next_command may_not_start) ∙ idle

@@ -53,26 +53,26 @@ module _ (makes : Bool) where
   InCall spot = may_stand makes spot ≡ true
 
   either : (holds : Bool) (spot other_spot : Spot) → InCall spot → InCall other_spot → InCall (if holds then spot else other_spot)
-  either true spot other_spot one other = one
-  either false spot other_spot one other = other
+  either true spot other_spot spot_in_call other_in_call = spot_in_call
+  either false spot other_spot spot_in_call other_in_call = other_in_call
 
-  in_enter : (next : Entered) (spot now : EnterSpot) → InCall (Entering spot next) → InCall (after_enter next now)
-  in_enter Call spot Inside may = refl
-  in_enter Waited spot Inside may = may
-  in_enter Call spot _ may = refl
-  in_enter Waited spot _ may = may
+  in_enter : (next : Entered) (spot enter_spot : EnterSpot) → InCall (Entering spot next) → InCall (after_enter next enter_spot)
+  in_enter Call spot Inside in_call = refl
+  in_enter Waited spot Inside in_call = in_call
+  in_enter Call spot _ in_call = refl
+  in_enter Waited spot _ in_call = in_call
 
   in_first_spot : (command : Command) → (makes_object command ≡ true → makes ≡ true) → InCall (first_spot command)
-  in_first_spot (New dst refs nums) may = may refl
-  in_first_spot (Drop dst) may = refl
-  in_first_spot Gc may = refl
-  in_first_spot (Unpin slot) may = refl
-  in_first_spot _ may = refl
+  in_first_spot (New dst refs nums) may_make = may_make refl
+  in_first_spot (Drop dst) may_make = refl
+  in_first_spot Gc may_make = refl
+  in_first_spot (Unpin slot) may_make = refl
+  in_first_spot _ may_make = refl
 
   in_roots : (command : Command) (first second third : ℕ) → InCall (after_roots command first second third)
   in_roots (Copy dst src) first second third = refl
   in_roots (Pin slot obj) first second third = refl
-  in_roots (Same a b) first second third = refl
+  in_roots (Same left_root right_root) first second third = refl
   in_roots _ first second third = refl
 
   in_first : (command : Command) (first : ℕ) → InCall (after_first command first)
@@ -99,10 +99,10 @@ module _ (makes : Bool) where
   in_shape : (phase : ℕ) (command : Command) (object second third shape : ℕ) → InCall (after_shape phase command object second third shape)
   in_shape phase command object second third shape = either (has_part command shape) (with_part phase command object second third shape) (Leave reply.Bad) (in_part phase command object second third shape) refl
 
-  in_take : (take : TakeSpot) → makes ≡ true → InCall (after_take take)
-  in_take (take_spot.Ended (At address) end) may = may
-  in_take (take_spot.Ended NoRoom end) may = may
-  in_take _ may = may
+  in_take : (spot : TakeSpot) → makes ≡ true → InCall (after_take spot)
+  in_take (take_spot.Ended (At address) end) may_make = may_make
+  in_take (take_spot.Ended NoRoom end) may_make = may_make
+  in_take _ may_make = may_make
 
   in_load : (phase : ℕ) (command : Command) (spot : LoadSpot) (got : ℕ) → InCall (load_next phase command spot got)
   in_load phase command load.First got = in_root command got
@@ -161,37 +161,37 @@ module _ (makes : Bool) where
   in_pin value command pin.Store got = refl
 
   in_make : (config : Config) (seat made : ℕ) (command : Command) (spot : MakeSpot) (got : ℕ) → makes ≡ true → InCall (make_next config seat made command spot got)
-  in_make config seat made command (make.Taking take) got may = in_take (take_next config command take got) may
-  in_make config seat made command (make.StoreWord address done) got may = may
-  in_make config seat made command (make.StoreRoot address) got may = refl
+  in_make config seat made command (make.Taking take) got may_make = in_take (take_next config command take got) may_make
+  in_make config seat made command (make.StoreWord address done_words) got may_make = may_make
+  in_make config seat made command (make.StoreRoot address) got may_make = refl
 
   in_wait : (seat made : ℕ) (spot : WaitSpot) (got : ℕ) → makes ≡ true → InCall (wait_next seat made spot got)
-  in_wait seat made wait.StoreRequest got may = may
-  in_wait seat made wait.AskRoom got may = may
-  in_wait seat made wait.StepOut got may = may
-  in_wait seat made wait.Poll got may = either (got == 0) (Waiting wait.Poll) (Entering Raise Waited) may may
-  in_wait seat made wait.LoadAnswer got may = may
-  in_wait seat made (wait.StoreRoot address) got may = may
-  in_wait seat made (wait.ClearAnswer reply) got may = refl
+  in_wait seat made wait.StoreRequest got may_make = may_make
+  in_wait seat made wait.AskRoom got may_make = may_make
+  in_wait seat made wait.StepOut got may_make = may_make
+  in_wait seat made wait.Poll got may_make = either (got == 0) (Waiting wait.Poll) (Entering Raise Waited) may_make may_make
+  in_wait seat made wait.LoadAnswer got may_make = may_make
+  in_wait seat made (wait.StoreRoot address) got may_make = may_make
+  in_wait seat made (wait.ClearAnswer reply) got may_make = refl
 
   -- and so it does after a step that gives no reply
   pub call_stands : (config : Config) (mutator : Mutating) (got : ℕ) (spot : Spot) → (makes_object mutator.kept.command ≡ true → makes ≡ true) → may_stand makes spot ≡ true → given_at spot ≡ None
       → may_stand makes (next_at config mutator Nothing got spot).spot ≡ true
-  call_stands config mutator got Rest own may none = absurd cc
-  call_stands config mutator got (Ended reply) own may none = absurd cc
-  call_stands config mutator got Gone own may none = absurd cc
-  call_stands config mutator got (Entering spot next) own may none = in_enter next spot (enter_next spot got) may
-  call_stands config mutator got LoadPhase own may none = refl
-  call_stands config mutator got LoadSet own may none = in_first_spot mutator.kept.command own
-  call_stands config mutator got (Loading spot) own may none = in_load mutator.kept.phase mutator.kept.command spot got
-  call_stands config mutator got (OnField object spot) own may none = in_field config mutator.kept.phase mutator.kept.cset object spot got
-  call_stands config mutator got (Resolving address spot next) own may none = in_resolve address next (resolves.next_at config address mutator.kept.phase spot got)
-  call_stands config mutator got (Recording spot address next) own may none = in_remember address next (satb.next_at spot got)
-  call_stands config mutator got (OnNumber object refs spot) own may none = in_numbers spot got
-  call_stands config mutator got (Showing value spot) own may none = in_show value spot got
-  call_stands config mutator got (StoreRoot value) own may none = refl
-  call_stands config mutator got (Making spot) own may none = in_make config mutator.seat mutator.made mutator.kept.command spot got may
-  call_stands config mutator got AskCycle own may none = refl
-  call_stands config mutator got (Pinning value spot) own may none = in_pin value mutator.kept.command spot got
-  call_stands config mutator got (Waiting spot) own may none = in_wait mutator.seat mutator.made spot got may
-  call_stands config mutator got (Leave reply) own may none = absurd (cc (none))
+  call_stands config mutator got Rest own_makes spot_stands gives_nothing = absurd cc
+  call_stands config mutator got (Ended reply) own_makes spot_stands gives_nothing = absurd cc
+  call_stands config mutator got Gone own_makes spot_stands gives_nothing = absurd cc
+  call_stands config mutator got (Entering spot next) own_makes spot_stands gives_nothing = in_enter next spot (enter_next spot got) spot_stands
+  call_stands config mutator got LoadPhase own_makes spot_stands gives_nothing = refl
+  call_stands config mutator got LoadSet own_makes spot_stands gives_nothing = in_first_spot mutator.kept.command own_makes
+  call_stands config mutator got (Loading spot) own_makes spot_stands gives_nothing = in_load mutator.kept.phase mutator.kept.command spot got
+  call_stands config mutator got (OnField object spot) own_makes spot_stands gives_nothing = in_field config mutator.kept.phase mutator.kept.cset object spot got
+  call_stands config mutator got (Resolving address spot next) own_makes spot_stands gives_nothing = in_resolve address next (resolves.next_at config address mutator.kept.phase spot got)
+  call_stands config mutator got (Recording spot address next) own_makes spot_stands gives_nothing = in_remember address next (satb.next_at spot got)
+  call_stands config mutator got (OnNumber object refs spot) own_makes spot_stands gives_nothing = in_numbers spot got
+  call_stands config mutator got (Showing value spot) own_makes spot_stands gives_nothing = in_show value spot got
+  call_stands config mutator got (StoreRoot value) own_makes spot_stands gives_nothing = refl
+  call_stands config mutator got (Making spot) own_makes spot_stands gives_nothing = in_make config mutator.seat mutator.made mutator.kept.command spot got spot_stands
+  call_stands config mutator got AskCycle own_makes spot_stands gives_nothing = refl
+  call_stands config mutator got (Pinning value spot) own_makes spot_stands gives_nothing = in_pin value mutator.kept.command spot got
+  call_stands config mutator got (Waiting spot) own_makes spot_stands gives_nothing = in_wait mutator.seat mutator.made spot got spot_stands
+  call_stands config mutator got (Leave reply) own_makes spot_stands gives_nothing = absurd (cc (gives_nothing))

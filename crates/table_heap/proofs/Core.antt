@@ -42,28 +42,28 @@ kind_took config actor order got = refl
 
 -- what is so of each stage that a key's heap may begin with is so of where it began, where that is a proposition
 pub begun : (key : HeapKey) (P : Type 0) → IsProp P → ((graph : Graph) → Begins key.config (start_of_key key) graph → P) → P
-begun key P prop each = ∥∥₁_elim key.begins prop (λ some. each some.0 some.1)
+begun key P prop each_begins = ∥∥₁_elim key.begins prop (λ begun_there. each_begins begun_there.0 begun_there.1)
 
 -- a word that a machine finds after some events is fit
 pub found_fits : (key : HeapKey) (number : ℕ) (actor : Actor) (order : Order) (got : ℕ) → Finds (heap_kind key.config) (start_of_key key) number actor order got → IsFitFor key.config order got actor.machine
 found_fits key number actor order got finds =
     begun key (IsFitFor key.config order got actor.machine) (fit_is_prop key.config order got actor.machine)
-    (λ g begins. found_fit pause_image heap_pauses key.config (start_of_key key) g begins number actor order got finds)
+    (λ graph begins. found_fit pause_image heap_pauses key.config (start_of_key key) graph begins number actor order got finds)
 
 -- how many machines there are
 pub start_count : (key : HeapKey) → length (start_of_key key).machines ≡ seat_count key.config.mutators key.config.helpers
-start_count key = begun key (length (start_of_key key).machines ≡ seat_count key.config.mutators key.config.helpers) (hlevel ℕ_set) (λ g begins. begins.seats)
+start_count key = begun key (length (start_of_key key).machines ≡ seat_count key.config.mutators key.config.helpers) (hlevel ℕ_set) (λ graph begins. begins.seats)
 
 -- the first of them are the mutators
 role_of_number : (config : Config) (number : ℕ) (machine : Machine) → HasNumber config number machine → is_mutating machine ≡ nat_lt number config.mutators
-role_of_number config number (mutating mutator) has = sym (lt-ltb number config.mutators has.1)
-role_of_number config number (helping helper) has = sym (le-ltb number config.mutators has.1)
-role_of_number config number (controlling control) has = sym (le-ltb number config.mutators (omega (arith, has)))
+role_of_number config number (mutating mutator) has_number = sym (lt-ltb number config.mutators has_number.1)
+role_of_number config number (helping helper) has_number = sym (le-ltb number config.mutators has_number.1)
+role_of_number config number (controlling control) has_number = sym (le-ltb number config.mutators (omega (arith, has_number)))
 
 pub start_role : (key : HeapKey) (number : ℕ) (actor : Actor) → slice_get (start_of_key key).machines number ≡ Some actor → is_mutating actor.machine ≡ nat_lt number key.config.mutators
-start_role key number actor here =
+start_role key number actor actor_there =
     begun key (is_mutating actor.machine ≡ nat_lt number key.config.mutators) (hlevel Bool-set)
-    (λ g begins. role_of_number key.config number actor.machine (begins.machines number actor here).number_is)
+    (λ graph begins. role_of_number key.config number actor.machine (begins.machines number actor actor_there).number_is)
 
 -- the words of the opening
 pub first_words : (config : Config) → (heap_opening config).words ≡ opening_words config
@@ -80,8 +80,8 @@ run_from config start graph begins events = record { start = start; graph = grap
 
 -- a control that has made its last access stores no image
 gone_is_calm : (spot : ControlSpot) (image : List ℕ) → (true && (if is_gone spot then false else true)) ≡ false → stored_image spot image ≡ None
-gone_is_calm (StoreWord index extent) image gone = absurd cc
-gone_is_calm _ image gone = refl
+gone_is_calm (StoreWord index extent) image control_gone = absurd cc
+gone_is_calm _ image control_gone = refl
 
 machine_is_calm : (machine : Machine) → takes_of machine Nothing ≡ false → image_read machine ≡ None
 machine_is_calm (controlling control) idle = gone_is_calm control.spot control.image idle

@@ -17,15 +17,15 @@ pub idle_takes : (machine : Machine) → IsIdleForGood machine → takes_of mach
 idle_takes machine idle = by_may (may_begin machine) refl
   where
     by_takes : (holds : Bool) → takes_of machine Nothing ≡ holds → ◌≡◌ {A = Option Order} (if holds then Some Nothing else None) None → takes_of machine Nothing ≡ false
-    by_takes true takes none = absurd cc
-    by_takes false takes none = takes
+    by_takes true takes no_order = absurd cc
+    by_takes false takes no_order = takes
 
     by_may : (holds : Bool) → may_begin machine ≡ holds → takes_of machine Nothing ≡ false
-    by_may true may = absurd (let e = sym (turn_at_rest machine None may) ∙ idle None in cc)
-    by_may false none = by_takes (takes_of machine Nothing) refl (sym (turn_in_call machine None none) ∙ idle None)
+    by_may true begin_tested = absurd (let same_turn = sym (turn_at_rest machine None begin_tested) ∙ idle None in cc)
+    by_may false not_begin = by_takes (takes_of machine Nothing) refl (sym (turn_in_call machine None not_begin) ∙ idle None)
 
 -- it has no turn in any stage, whatever scripts there are
 pub idle_turn : (scripts : Scripts) (stage : Stage Actor) (number : ℕ) (actor : Actor) → slice_get stage.machines number ≡ Some actor → IsIdleForGood actor.machine → turn scripts stage number ≡ None
-idle_turn scripts stage number actor here idle =
-    ap (turn_of scripts number) here
+idle_turn scripts stage number actor actor_there idle =
+    ap (turn_of scripts number) actor_there
     ∙ ap (option_map (λ order. record { number = number; order = order })) (order_of_script (nth_script scripts number) actor.calls actor.machine ∙ idle (slice_get (nth_script scripts number) (length actor.calls)))

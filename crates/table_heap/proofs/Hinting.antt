@@ -31,29 +31,29 @@ use Rattle.std.proofs.lemmas.Bool.{and_parts}
 
 -- what stands under a number after it was put there
 put_here : {R : Type 0} (view : View R) (number : ℕ) (x y : R) → is_some (machine_of view number) ≡ true → unwrap_or (machine_of (slice_set view number (Some x)) number) y ≡ x
-put_here [] number x y there = absurd cc
-put_here (z ∷ zs) zero x y there = refl
-put_here (z ∷ zs) (suc number) x y there = put_here zs number x y there
+put_here [] number x y place_there = absurd cc
+put_here (z ∷ zs) zero x y place_there = refl
+put_here (z ∷ zs) (suc number) x y place_there = put_here zs number x y place_there
 
 -- the machines in memory are those that the events see
 same_machine : (old new : Bundle) (number : ℕ) → IsUnmoved old new → machine_at new number ≡ machine_at old number
 same_machine old new number unmoved =
-    ap (λ v. unwrap_or (machine_of v number) no_machine) (sym new.kept) ∙ ap (λ v. unwrap_or (machine_of (kept_in_view machine_in v) number) no_machine) unmoved.view
-    ∙ ap (λ v. unwrap_or (machine_of v number) no_machine) old.kept
+    ap (λ asked_view. unwrap_or (machine_of asked_view number) no_machine) (sym new.kept) ∙ ap (λ asked_view. unwrap_or (machine_of (kept_in_view machine_in asked_view) number) no_machine) unmoved.view
+    ∙ ap (λ asked_view. unwrap_or (machine_of asked_view number) no_machine) old.kept
 
-unmoved_more : (a b d : Bundle) → IsUnmoved a b → IsUnmoved b d → IsUnmoved a d
-unmoved_more bundle other_bundle d first second = record {
-  same = same_bundle_more bundle other_bundle d first.same second.same;
-  view = second.view ∙ first.view;
-  steps = second.steps ∙ first.steps;
-  greyed = second.greyed ∙ first.greyed;
+unmoved_more : (first_bundle second_bundle third_bundle : Bundle) → IsUnmoved first_bundle second_bundle → IsUnmoved second_bundle third_bundle → IsUnmoved first_bundle third_bundle
+unmoved_more bundle middle_bundle third_bundle first_unmoved second_unmoved = record {
+  same = same_bundle_more bundle middle_bundle third_bundle first_unmoved.same second_unmoved.same;
+  view = second_unmoved.view ∙ first_unmoved.view;
+  steps = second_unmoved.steps ∙ first_unmoved.steps;
+  greyed = second_unmoved.greyed ∙ first_unmoved.greyed;
 }
 
 -- who takes hints takes each
 takes_any : (machine : Machine) (address : ℕ) → takes_hint machine ≡ true → takes_of machine Nothing ≡ true → takes_of machine (Hint address) ≡ true
-takes_any (mutating mutator) address hints goes = absurd (cc (hints))
-takes_any (helping helper) address hints goes = rw hints goes
-takes_any (controlling control) address hints goes = rw hints goes
+takes_any (mutating mutator) address hints takes_nothing = absurd (cc (hints))
+takes_any (helping helper) address hints takes_nothing = rw hints takes_nothing
+takes_any (controlling control) address hints takes_nothing = rw hints takes_nothing
 
 -- The machine with its order, or with a hint: it has a turn, by an order that it may have then.
 pub record HasHinted (old new : Bundle) (next : Option Command) (number : ℕ) : Type 0 where
@@ -64,70 +64,70 @@ pub record HasHinted (old new : Bundle) (next : Option Command) (number : ℕ) :
 
 -- a machine of a bundle has an order there
 pub order_there : (bundle : Bundle) (number : ℕ) → HasMachine bundle number → is_some (machine_of (orders_of bundle) number) ≡ true
-order_there bundle number here = by_items bundle.machines.items number here
+order_there bundle number has_machine = by_items bundle.machines.items number has_machine
   where
-    by_items : (items : View memory.Machine) (k : ℕ) → is_some (machine_of (kept_in_view shown items) k) ≡ true → is_some (machine_of (kept_in_view order_of items) k) ≡ true
-    by_items [] k there = absurd cc
-    by_items (None ∷ ms) zero there = absurd cc
-    by_items (Some m ∷ ms) zero there = refl
-    by_items (x ∷ ms) (suc k) there = by_items ms k there
+    by_items : (items : View memory.Machine) (number : ℕ) → is_some (machine_of (kept_in_view shown items) number) ≡ true → is_some (machine_of (kept_in_view order_of items) number) ≡ true
+    by_items [] number machine_there = absurd cc
+    by_items (None ∷ machines) zero machine_there = absurd cc
+    by_items (Some machine ∷ machines) zero machine_there = refl
+    by_items (first_machine ∷ machines) (suc number) machine_there = by_items machines number machine_there
 
-pub after_hint : (old mid new : Bundle) (next : Option Command) (number : ℕ) → HasMachine old number → IsUnmoved old mid → IsUnmoved mid new → order_for next (machine_at old number) ≡ Some (order_at mid number)
-    → orders_of mid ≡ slice_set (orders_of old) number (Some (order_at mid number)) → has_turn mid number ≡ true → IsHinted mid new number → HasHinted old new next number
-after_hint old mid new next number here first second turn orders has hinted = ⊎_elim
-    (λ (same : orders_of new ≡ orders_of mid).
-    let order : order_at new number ≡ order_at mid number = ap (λ view. unwrap_or (machine_of view number) Nothing) same in
+pub after_hint : (old mid new : Bundle) (next_command : Option Command) (number : ℕ) → HasMachine old number → IsUnmoved old mid → IsUnmoved mid new → order_for next_command (machine_at old number) ≡ Some (order_at mid number)
+    → orders_of mid ≡ slice_set (orders_of old) number (Some (order_at mid number)) → has_turn mid number ≡ true → IsHinted mid new number → HasHinted old new next_command number
+after_hint old mid new next_command number machine_there first_unmoved second_unmoved turn orders turn_there hinted = ⊎_elim
+    (λ (same_orders : orders_of new ≡ orders_of mid).
+    let order_known : order_at new number ≡ order_at mid number = ap (λ view. unwrap_or (machine_of view number) Nothing) same_orders in
     record {
-      unmoved = unmoved_more old mid new first second;
-      turn = inl (turn ∙ ap Some (sym order));
-      orders = same ∙ orders ∙ ap (λ o. slice_set (orders_of old) number (Some o)) (sym order);
-      has = ap (λ m. takes_of m (order_at new number)) (same_machine mid new number second) ∙ ap (takes_of (machine_at mid number)) order ∙ has;
+      unmoved = unmoved_more old mid new first_unmoved second_unmoved;
+      turn = inl (turn ∙ ap Some (sym order_known));
+      orders = same_orders ∙ orders ∙ ap (λ asked_order. slice_set (orders_of old) number (Some asked_order)) (sym order_known);
+      has = ap (λ asked_machine. takes_of asked_machine (order_at new number)) (same_machine mid new number second_unmoved) ∙ ap (takes_of (machine_at mid number)) order_known ∙ turn_there;
     })
     (λ (hint : (takes_hint (machine_at mid number) ≡ true) × ((address : ℕ) × IsWord (config_in mid) (Heap address) × (orders_of new ≡ slice_set (orders_of mid) number (Some (Hint address))))).
-    let order : order_at new number ≡ Hint hint.1.0 = ap (λ view. unwrap_or (machine_of view number) Nothing) hint.1.2
-    ∙ put_here (orders_of mid) number (Hint hint.1.0) Nothing (ap (λ view. is_some (machine_of view number)) orders ∙ put_there (orders_of old) number (order_at mid number) (order_there old number here)) in
-    let was : machine_at mid number ≡ machine_at old number = same_machine old mid number first in
+    let order_known : order_at new number ≡ Hint hint.1.0 = ap (λ view. unwrap_or (machine_of view number) Nothing) hint.1.2
+    ∙ put_here (orders_of mid) number (Hint hint.1.0) Nothing (ap (λ view. is_some (machine_of view number)) orders ∙ put_there (orders_of old) number (order_at mid number) (order_there old number machine_there)) in
+    let machine_kept : machine_at mid number ≡ machine_at old number = same_machine old mid number first_unmoved in
     record {
-      unmoved = unmoved_more old mid new first second;
-      turn = inr (ap takes_hint (sym was) ∙ hint.0, (hint.1.0, subst (λ k. IsWord k (Heap hint.1.0)) first.same.config hint.1.1, order));
-      orders = hint.1.2 ∙ ap (λ view. slice_set view number (Some (Hint hint.1.0))) orders ∙ set-set (orders_of old) number _ _ ∙ ap (λ o. slice_set (orders_of old) number (Some o)) (sym order);
-      has = ap (λ m. takes_of m (order_at new number)) (same_machine mid new number second) ∙ ap (takes_of (machine_at mid number)) order
-          ∙ takes_any (machine_at mid number) hint.1.0 hint.0 (worked (machine_at mid number) (order_at mid number) hint.0 has);
+      unmoved = unmoved_more old mid new first_unmoved second_unmoved;
+      turn = inr (ap takes_hint (sym machine_kept) ∙ hint.0, (hint.1.0, subst (λ asked_config. IsWord asked_config (Heap hint.1.0)) first_unmoved.same.config hint.1.1, order_known));
+      orders = hint.1.2 ∙ ap (λ view. slice_set view number (Some (Hint hint.1.0))) orders ∙ set-set (orders_of old) number _ _ ∙ ap (λ asked_order. slice_set (orders_of old) number (Some asked_order)) (sym order_known);
+      has = ap (λ asked_machine. takes_of asked_machine (order_at new number)) (same_machine mid new number second_unmoved) ∙ ap (takes_of (machine_at mid number)) order_known
+          ∙ takes_any (machine_at mid number) hint.1.0 hint.0 (worked (machine_at mid number) (order_at mid number) hint.0 turn_there);
     })
     hinted
   where
-    put_there : {R : Type 0} (view : View R) (k : ℕ) (x : R) → is_some (machine_of view k) ≡ true → is_some (machine_of (slice_set view k (Some x)) k) ≡ true
-    put_there [] k x there = absurd cc
-    put_there (z ∷ zs) zero x there = refl
-    put_there (z ∷ zs) (suc k) x there = put_there zs k x there
+    put_there : {R : Type 0} (view : View R) (number : ℕ) (x : R) → is_some (machine_of view number) ≡ true → is_some (machine_of (slice_set view number (Some x)) number) ≡ true
+    put_there [] number x place_there = absurd cc
+    put_there (z ∷ zs) zero x place_there = refl
+    put_there (z ∷ zs) (suc number) x place_there = put_there zs number x place_there
 
-    worked : (machine : Machine) (order : Order) → takes_hint machine ≡ true → takes_of machine order ≡ true → takes_of machine Nothing ≡ true
-    worked (mutating m) order hints goes = absurd (cc (hints))
-    worked (helping h) order hints goes = (and_parts _ _ goes).1
-    worked (controlling k) order hints goes = (and_parts _ _ goes).1
+    worked : (machine : Machine) (order_known : Order) → takes_hint machine ≡ true → takes_of machine order_known ≡ true → takes_of machine Nothing ≡ true
+    worked (mutating mutator) order_known hints takes_order = absurd (cc (hints))
+    worked (helping helper) order_known hints takes_order = (and_parts _ _ takes_order).1
+    worked (controlling control) order_known hints takes_order = (and_parts _ _ takes_order).1
 
 -- a machine that the bundle has it has still
 pub here_still : (old new : Bundle) (number : ℕ) → IsSameBundle old new → HasMachine old number → HasMachine new number
-here_still old new number same here =
-    ap (λ v. is_some (machine_of v number)) (sym new.kept) ∙ kept_some machine_in (view_of new) number ∙ same.numbers.here number ∙ sym (kept_some machine_in (view_of old) number)
-    ∙ ap (λ v. is_some (machine_of v number)) old.kept ∙ here
+here_still old new number same_bundle machine_there =
+    ap (λ asked_view. is_some (machine_of asked_view number)) (sym new.kept) ∙ kept_some machine_in (view_of new) number ∙ same_bundle.numbers.here number ∙ sym (kept_some machine_in (view_of old) number)
+    ∙ ap (λ asked_view. is_some (machine_of asked_view number)) old.kept ∙ machine_there
 
 -- where nothing but hints differs a bundle is the same
 pub same_after : (old new : Bundle) → OnlyHintsDiffer old new → IsSameBundle old new
-same_after old new only = record {
-  table = ap (λ s. s.table_id) only.seat;
-  config = only.config;
-  key = only.key;
-  numbers = subst (λ s. SameNumbers (view_of old) (uncounted_view s.me.0)) (sym only.seat) (same_none (view_of old));
+same_after old new only_hints = record {
+  table = ap (λ seat. seat.table_id) only_hints.seat;
+  config = only_hints.config;
+  key = only_hints.key;
+  numbers = subst (λ seat. SameNumbers (view_of old) (uncounted_view seat.me.0)) (sym only_hints.seat) (same_none (view_of old));
 }
 
 -- and a step to it one to the other
-pub stepped_after : (old mid new : Bundle) (number : ℕ) (said : Stepped) → OnlyHintsDiffer mid new → IsBundleStep old mid number said → IsBundleStep old new number said
-stepped_after old mid new number said only step = record {
+pub stepped_after : (old mid new : Bundle) (number : ℕ) (step_outcome : Stepped) → OnlyHintsDiffer mid new → IsBundleStep old mid number step_outcome → IsBundleStep old new number step_outcome
+stepped_after old mid new number step_outcome only_hints step = record {
   got = step.got;
-  took = subst (λ s. Took (heap_kind old.config) (start_in old) number (order_at old number) (uncounted_seat old.seat.me) step.got (uncounted_seat s.me)) (sym only.seat) step.took;
-  steps = ap (λ s. steps_in_view s.me.0) only.seat ∙ step.steps;
+  took = subst (λ asked_seat. Took (heap_kind old.config) (start_in old) number (order_at old number) (uncounted_seat old.seat.me) step.got (uncounted_seat asked_seat.me)) (sym only_hints.seat) step.took;
+  steps = ap (λ asked_seat. steps_in_view asked_seat.me.0) only_hints.seat ∙ step.steps;
   said_is = step.said_is;
-  greyed = ap (λ v. v.items) only.greyed ∙ step.greyed;
-  orders = ap (λ ms. kept_in_view order_of ms.items) only.machines ∙ step.orders;
+  greyed = ap (λ greyed_view. greyed_view.items) only_hints.greyed ∙ step.greyed;
+  orders = ap (λ machines. kept_in_view order_of machines.items) only_hints.machines ∙ step.orders;
 }

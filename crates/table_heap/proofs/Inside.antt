@@ -22,58 +22,58 @@ use Rattle.table_heap.proofs.Turning.{no_order, turned_on}
 
 -- where no order is pending it has none
 pub none_at : (bundle : Bundle) (number : ℕ) → HasNoOrder bundle → order_at bundle number ≡ Nothing
-none_at bundle number none = by_order (machine_of (orders_of bundle) number) refl
+none_at bundle number no_orders = by_order (machine_of (orders_of bundle) number) refl
   where
     by_order : (found : Option Order) → machine_of (orders_of bundle) number ≡ found → unwrap_or (machine_of (orders_of bundle) number) Nothing ≡ Nothing
-    by_order None is = ap (λ x. unwrap_or x Nothing) is
-    by_order (Some order) is = ap (λ x. unwrap_or x Nothing) is ∙ none number order is
+    by_order None order_is = ap (λ x. unwrap_or x Nothing) order_is
+    by_order (Some order) order_is = ap (λ x. unwrap_or x Nothing) order_is ∙ no_orders number order order_is
 
 -- an order that is put where it stands
-put_itself : (v : View Order) (number : ℕ) → is_some (machine_of v number) ≡ true → slice_set v number (Some (unwrap_or (machine_of v number) Nothing)) ≡ v
-put_itself [] number there = refl
-put_itself (None ∷ xs) zero there = absurd cc
-put_itself (Some order ∷ xs) zero there = refl
-put_itself (x ∷ xs) (suc number) there = ap (λ (ys : View Order). x ∷ ys) (put_itself xs number there)
+put_itself : (view : View Order) (number : ℕ) → is_some (machine_of view number) ≡ true → slice_set view number (Some (unwrap_or (machine_of view number) Nothing)) ≡ view
+put_itself [] number place_there = refl
+put_itself (None ∷ xs) zero place_there = absurd cc
+put_itself (Some order ∷ xs) zero place_there = refl
+put_itself (first_order ∷ xs) (suc number) place_there = ap (λ (ys : View Order). first_order ∷ ys) (put_itself xs number place_there)
 
 -- Its step is its turn, whatever command would follow
-pub turn_inside : (old new : Bundle) (number : ℕ) (next : Option Command) → HasMachine old number → HasNoOrder old → is_inside_image (config_in old) (machine_at old number) ≡ true
-    → IsBundleStep old new number stepped.More → IsTurn old new next number stepped.More
-turn_inside old new number next here none inside step = record {
+pub turn_inside : (old new : Bundle) (number : ℕ) (next_command : Option Command) → HasMachine old number → HasNoOrder old → is_inside_image (config_in old) (machine_at old number) ≡ true
+    → IsBundleStep old new number stepped.More → IsTurn old new next_command number stepped.More
+turn_inside old new number next_command machine_there no_orders machine_inside step = record {
   ordered = old;
   unmoved = record { same = same_bundle old; view = refl; steps = refl; greyed = refl };
-  turn = inl ((goes_inside (config_in old) (machine_at old number) inside).goes_on next ∙ ap Some (sym (none_at old number none)));
-  orders = sym (put_itself (orders_of old) number (order_there old number here));
+  turn = inl ((goes_inside (config_in old) (machine_at old number) machine_inside).goes_on next_command ∙ ap Some (sym (none_at old number no_orders)));
+  orders = sym (put_itself (orders_of old) number (order_there old number machine_there));
   step = step;
 }
 
 -- What stays through so many turns of a machine that goes on.
 module _ (number : ℕ) where
   pub gone_same : (count : ℕ) (old new : Bundle) → HasHadTurns count old new number → IsSameBundle old new
-  gone_same zero old new is = subst (λ b. IsSameBundle old b) (sym is) (same_bundle old)
-  gone_same (suc count) old new then = same_bundle_more old then.0 new (gone_same count old then.0 then.1) then.2
+  gone_same zero old new had_turns = subst (λ bundle. IsSameBundle old bundle) (sym had_turns) (same_bundle old)
+  gone_same (suc count) old new turns_had = same_bundle_more old turns_had.0 new (gone_same count old turns_had.0 turns_had.1) turns_had.2
 
   pub gone_orders : (count : ℕ) (old new : Bundle) → HasHadTurns count old new number → HasNoOrder old → HasNoOrder new
-  gone_orders zero old new is none = subst HasNoOrder (sym is) none
-  gone_orders (suc count) old new then none = no_order then.0 new None number stepped.More (then.3 None) (gone_orders count old then.0 then.1 none)
+  gone_orders zero old new had_turns no_orders = subst HasNoOrder (sym had_turns) no_orders
+  gone_orders (suc count) old new turns_had no_orders = no_order turns_had.0 new None number stepped.More (turns_had.3 None) (gone_orders count old turns_had.0 turns_had.1 no_orders)
 
   -- the work of all mutators
   pub gone_work : (count : ℕ) (old new : Bundle) → HasHadTurns count old new number → (jobs : Jobs) → AreAtWork old jobs → AreAtWork new jobs
-  gone_work zero old new is jobs before = subst (λ bundle. AreAtWork bundle jobs) (sym is) before
-  gone_work (suc count) old new then jobs before =
-      let next = next_for (config_in then.0) jobs number in
-      turned_on then.0 new next number stepped.More (then.3 next) jobs refl (gone_work count old then.0 then.1 jobs before) (λ done. absurd cc)
+  gone_work zero old new had_turns jobs work_before = subst (λ bundle. AreAtWork bundle jobs) (sym had_turns) work_before
+  gone_work (suc count) old new turns_had jobs work_before =
+      let next_command = next_for (config_in turns_had.0) jobs number in
+      turned_on turns_had.0 new next_command number stepped.More (turns_had.3 next_command) jobs refl (gone_work count old turns_had.0 turns_had.1 jobs work_before) (λ is_done. absurd cc)
 
   -- and their drivers
   module _ {D : Type 0} (next_of : D → Option Command) (replied : D → Reply → D) (to_come : D → ℕ) (firsts drivers : List D) where
     pub gone_driving : (count : ℕ) (old new : Bundle) → HasHadTurns count old new number → AreDriving next_of replied to_come old firsts drivers → AreDriving next_of replied to_come new firsts drivers
-    gone_driving zero old new is before = subst (λ bundle. AreDriving next_of replied to_come bundle firsts drivers) (sym is) before
-    gone_driving (suc count) old new then before =
-        let next = next_driven next_of then.0 drivers number in
-        driven_on next_of replied to_come then.0 new next number stepped.More (then.3 next) then.2 firsts drivers refl (gone_driving count old then.0 then.1 before) (λ done. absurd cc)
+    gone_driving zero old new had_turns driving_before = subst (λ bundle. AreDriving next_of replied to_come bundle firsts drivers) (sym had_turns) driving_before
+    gone_driving (suc count) old new turns_had driving_before =
+        let next_command = next_driven next_of turns_had.0 drivers number in
+        driven_on next_of replied to_come turns_had.0 new next_command number stepped.More (turns_had.3 next_command) turns_had.2 firsts drivers refl (gone_driving count old turns_had.0 turns_had.1 driving_before) (λ is_done. absurd cc)
 
   -- turns behind others
-  pub gone_more : (more count : ℕ) (old mid new : Bundle) → HasHadTurns count old mid number → HasHadTurns more mid new number → (all : ℕ) × HasHadTurns all old new number
-  gone_more zero count old mid new first is = (count, subst (λ b. HasHadTurns count old b number) (sym is) first)
-  gone_more (suc more) count old mid new first then =
-      let before = gone_more more count old mid then.0 first then.1 in
-      (suc before.0, (then.0, before.1, then.2, then.3))
+  pub gone_more : (more_turns count : ℕ) (old mid new : Bundle) → HasHadTurns count old mid number → HasHadTurns more_turns mid new number → (all_turns : ℕ) × HasHadTurns all_turns old new number
+  gone_more zero count old mid new first_turns later_turns = (count, subst (λ bundle. HasHadTurns count old bundle number) (sym later_turns) first_turns)
+  gone_more (suc more_turns) count old mid new first_turns turns_had =
+      let turns_before = gone_more more_turns count old mid turns_had.0 first_turns turns_had.1 in
+      (suc turns_before.0, (turns_had.0, turns_before.1, turns_had.2, turns_had.3))

@@ -8,37 +8,37 @@ use Rattle.shen_graph.proofs.Noted.{progress_same, progress_other}
 use Rattle.table_heap.specs.Running.{Jobs}
 
 -- what the work has for a number, by its progress there
-module _ (jobs : Jobs) (number : ℕ) (progress : Progress) (here : progress_of jobs number ≡ Some progress) where
+module _ (jobs : Jobs) (number : ℕ) (progress : Progress) (has_progress : progress_of jobs number ≡ Some progress) where
   pub has_here : HasScript jobs number
-  has_here = subst (λ o. IsSome o) (sym here) refl
+  has_here = subst (λ progress. IsSome progress) (sym has_progress) refl
 
   pub script_here : script_in jobs number ≡ progress.script
-  script_here = ap (λ o. (unwrap_or o (begun [])).script) here
+  script_here = ap (λ progress_found. (unwrap_or progress_found (begun [])).script) has_progress
 
   pub replies_here : replies_of jobs number ≡ progress.replies
-  replies_here = ap (λ o. (unwrap_or o (begun [])).replies) here
+  replies_here = ap (λ progress_found. (unwrap_or progress_found (begun [])).replies) has_progress
 
   pub next_here : next_of jobs number ≡ slice_get progress.script (length progress.replies)
-  next_here = ap (λ o. slice_get (unwrap_or o (begun [])).script (length (unwrap_or o (begun [])).replies)) here
+  next_here = ap (λ progress_found. slice_get (unwrap_or progress_found (begun [])).script (length (unwrap_or progress_found (begun [])).replies)) has_progress
 
   -- and where the next reply is noted
   pub noted_here : (reply : Reply) → progress_of (with_reply jobs number reply) number ≡ Some (answered progress reply)
-  noted_here reply = progress_same jobs number reply has_here ∙ ap (λ o. Some (answered (unwrap_or o (begun [])) reply)) here
+  noted_here reply = progress_same jobs number reply has_here ∙ ap (λ progress_found. Some (answered (unwrap_or progress_found (begun [])) reply)) has_progress
 
 -- where there is a script there is progress
 pub progress_there : (jobs : Jobs) (number : ℕ) → HasScript jobs number → (progress : Progress) × (progress_of jobs number ≡ Some progress)
-progress_there jobs number has = by_progress (progress_of jobs number) refl
+progress_there jobs number has_script = by_progress (progress_of jobs number) refl
   where
-    by_progress : (found : Option Progress) → progress_of jobs number ≡ found → (progress : Progress) × (progress_of jobs number ≡ Some progress)
-    by_progress None is = absurd (false≢true (subst (λ found. IsSome found) is has))
-    by_progress (Some progress) is = (progress, is)
+    by_progress : (found_progress : Option Progress) → progress_of jobs number ≡ found_progress → (progress : Progress) × (progress_of jobs number ≡ Some progress)
+    by_progress None progress_is = absurd (false≢true (subst (λ found_progress. IsSome found_progress) progress_is has_script))
+    by_progress (Some progress) progress_is = (progress, progress_is)
 
 -- the same numbers have scripts
-pub numbers_kept : (jobs : Jobs) (number : ℕ) (reply : Reply) (t : ℕ) → HasScript jobs number → is_some (progress_of (with_reply jobs number reply) t) ≡ is_some (progress_of jobs t)
-numbers_kept jobs number reply t has = ⊎_elim
-    (λ (same : t ≡ number).
-    let there = progress_there jobs number has in
-    ap (λ n. is_some (progress_of (with_reply jobs number reply) n)) same ∙ ap is_some (progress_same jobs number reply has)
-    ∙ sym (ap (λ n. is_some (progress_of jobs n)) same ∙ ap is_some there.1))
-    (λ (other : t ≡ number → ⊥). ap is_some (progress_other jobs number reply t other))
-    (cases_eq t number)
+pub numbers_kept : (jobs : Jobs) (number : ℕ) (reply : Reply) (asked_number : ℕ) → HasScript jobs number → is_some (progress_of (with_reply jobs number reply) asked_number) ≡ is_some (progress_of jobs asked_number)
+numbers_kept jobs number reply asked_number has_script = ⊎_elim
+    (λ (same_number : asked_number ≡ number).
+    let progress_found = progress_there jobs number has_script in
+    ap (λ some_number. is_some (progress_of (with_reply jobs number reply) some_number)) same_number ∙ ap is_some (progress_same jobs number reply has_script)
+    ∙ sym (ap (λ some_number. is_some (progress_of jobs some_number)) same_number ∙ ap is_some progress_found.1))
+    (λ (numbers_differ : asked_number ≡ number → ⊥). ap is_some (progress_other jobs number reply asked_number numbers_differ))
+    (cases_eq asked_number number)

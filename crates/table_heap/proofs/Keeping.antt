@@ -13,115 +13,115 @@ use Rattle.table_heap.specs.declared.rule.Bounds.{Bounds}
 use Rattle.table_heap.specs.Rule.{bounds, IsBetween, AllKnow, IsKnown, AreHints}
 
 -- who is there has a number below the length
-there_below : (views : List Bounds) (port : ℕ) (v : Bounds) → get_elem? views port ≡ some v → port < length views
-there_below [] port v is = absurd (some-ne-none v (sym is))
-there_below (x ∷ xs) zero v is = omega arith
-there_below (x ∷ xs) (suc port) v is = let below = there_below xs port v is in omega (arith, below)
+there_below : (views : List Bounds) (port : ℕ) (view : Bounds) → get_elem? views port ≡ some view → port < length views
+there_below [] port view view_there = absurd (some-ne-none view (sym view_there))
+there_below (x ∷ xs) zero view view_there = omega arith
+there_below (x ∷ xs) (suc port) view view_there = let rest_below = there_below xs port view view_there in omega (arith, rest_below)
 
 -- the first parts and the last parts of what holds of all
 front : (P : ℕ → Type 0) (xs ys : List ℕ) → All P (xs ++ ys) → All P xs
-front P xs ys all = subst (All P) (take-append_seam xs ys) (All-take P (length xs) (xs ++ ys) all)
+front P xs ys all_hold = subst (All P) (take-append_seam xs ys) (All-take P (length xs) (xs ++ ys) all_hold)
 
 back : (P : ℕ → Type 0) (xs ys : List ℕ) → All P (xs ++ ys) → All P ys
-back P xs ys all = subst (All P) (drop-append_seam xs ys) (All-drop P (length xs) (xs ++ ys) all)
+back P xs ys all_hold = subst (All P) (drop-append_seam xs ys) (All-drop P (length xs) (xs ++ ys) all_hold)
 
 -- what holds of one address holds of the list of it
-one_within : (v : Bounds) (x : ℕ) → IsBetween v x → All (IsBetween v) (x ∷ [])
-one_within v x within = All-cons (IsBetween v) x [] within (All-nil (IsBetween v))
+one_within : (view : Bounds) (address : ℕ) → IsBetween view address → All (IsBetween view) (address ∷ [])
+one_within view address address_within = All-cons (IsBetween view) address [] address_within (All-nil (IsBetween view))
 
 -- the least address of a heap is not above its greatest
 pub least_below : (regions words least from size : ℕ) → 0 < regions → 0 < words → least ≡ words → from ≡ words → size ≡ regions * words → least ≤ from + size - 1
-least_below regions words least from size holds any is begins_at has =
-    let positive : 0 < regions * words = mul-pos holds any in
-    omega (arith, positive, is, begins_at, has)
+least_below regions words least from size some_regions any least_is begins_at size_is =
+    let some_words : 0 < regions * words = mul-pos some_regions any in
+    omega (arith, some_words, least_is, begins_at, size_is)
 
 -- where there is one pass, all that there is after a change is the changed one
-only : (views : List Bounds) (port : ℕ) (v w : Bounds) → length views ≡ 1 → get_elem? views port ≡ some v → (other_port : ℕ) (u : Bounds) → get_elem? (slice_set views port w) other_port ≡ some u → u ≡ w
-only views port v w one at other_port u is = ⊎_elim
-    (λ (same : (other_port ≡ port) × (w ≡ u)). sym same.1)
-    (λ (other : (other_port ≢ port) × (get_elem? views other_port ≡ some u)).
-    let low = there_below views port v at in
-    let low_too = there_below views other_port u other.1 in
-    absurd (other.0 (omega (arith, low, low_too, one))))
-    (at_set views port other_port w u is)
+only : (views : List Bounds) (port : ℕ) (view new_view : Bounds) → length views ≡ 1 → get_elem? views port ≡ some view → (other_port : ℕ) (found_view : Bounds) → get_elem? (slice_set views port new_view) other_port ≡ some found_view → found_view ≡ new_view
+only views port view new_view one_view view_there other_port found_view found_there = ⊎_elim
+    (λ (same_port : (other_port ≡ port) × (new_view ≡ found_view)). sym same_port.1)
+    (λ (other_view : (other_port ≢ port) × (get_elem? views other_port ≡ some found_view)).
+    let port_below = there_below views port view view_there in
+    let low_too = there_below views other_port found_view other_view.1 in
+    absurd (other_view.0 (omega (arith, port_below, low_too, one_view))))
+    (at_set views port other_port new_view found_view found_there)
 
 -- at first
 pub begins : AreHints [] (bounds 0 0 0 ∷ [])
-begins zero v is = subst (λ u. IsKnown u.known u [] (bounds 0 0 0 ∷ [])) (first_is v is) (refl, refl)
+begins zero view view_there = subst (λ asked_view. IsKnown asked_view.known asked_view [] (bounds 0 0 0 ∷ [])) (first_is view view_there) (refl, refl)
   where
-    first_is : (v : Bounds) → get_elem? (bounds 0 0 0 ∷ []) 0 ≡ some v → bounds 0 0 0 ≡ v
-    first_is v is = cc (is)
-begins (suc n) v is = absurd (some-ne-none v (sym is))
+    first_is : (view : Bounds) → get_elem? (bounds 0 0 0 ∷ []) 0 ≡ some view → bounds 0 0 0 ≡ view
+    first_is view view_there = cc (view_there)
+begins (suc n) view view_there = absurd (some-ne-none view (sym view_there))
 
 -- the least address is told, and then the greatest
-pub tells_least : (v : Bounds) (port least : ℕ) → v ≡ bounds 0 0 0 → Pushes AreHints port v (least ∷ []) (λ w. (least ∷ [] ≡ w.least ∷ []) × (w ≡ bounds 1 w.least 0))
-tells_least v port least nothing items views holds at =
-    let known = subst (λ u. IsKnown u.known u items views) nothing (holds port v at) in
-    let w : Bounds = bounds 1 least 0 in
-    let views_then : List Bounds = slice_set views port w in (
-      w,
-      (λ j u is. subst (λ y. IsKnown y.known y (items ++ least ∷ []) views_then) (sym (only views port v w known.1 at j u is))
-          (ap (λ l. l ++ least ∷ []) known.0, length-set views port w ∙ known.1)),
+pub tells_least : (view : Bounds) (port least : ℕ) → view ≡ bounds 0 0 0 → Pushes AreHints port view (least ∷ []) (λ new_view. (least ∷ [] ≡ new_view.least ∷ []) × (new_view ≡ bounds 1 new_view.least 0))
+tells_least view port least nothing items views holds view_there =
+    let view_known = subst (λ found_view. IsKnown found_view.known found_view items views) nothing (holds port view view_there) in
+    let new_view : Bounds = bounds 1 least 0 in
+    let views_then : List Bounds = slice_set views port new_view in (
+      new_view,
+      (λ other_port found_view found_there. subst (λ asked_view. IsKnown asked_view.known asked_view (items ++ least ∷ []) views_then) (sym (only views port view new_view view_known.1 view_there other_port found_view found_there))
+          (ap (λ known_list. known_list ++ least ∷ []) view_known.0, length-set views port new_view ∙ view_known.1)),
       (refl, refl),
     )
 
-pub tells_greatest : (v : Bounds) (port greatest : ℕ) → v ≡ bounds 1 v.least 0 → v.least ≤ greatest → Pushes AreHints port v (greatest ∷ []) (λ w. (greatest ∷ [] ≡ w.greatest ∷ []) × (w ≡ bounds 2 v.least w.greatest))
-tells_greatest v port greatest one low items views holds at =
-    let known = subst (λ known. IsKnown known v items views) (ap (λ u. u.known) one) (holds port v at) in
-    let w : Bounds = bounds 2 v.least greatest in
-    let views_then : List Bounds = slice_set views port w in
-    let both : All (IsBetween w) (v.least ∷ greatest ∷ []) = All-cons (IsBetween w) v.least (greatest ∷ []) (omega arith, low) (one_within w greatest (low, omega arith)) in (
-      w,
-      (λ j u is. subst (λ y. IsKnown y.known y (items ++ greatest ∷ []) views_then) (sym (only views port v w known.1 at j u is))
-          (subst (λ l. All (IsBetween w) l) (sym (ap (λ l. l ++ greatest ∷ []) known.0)) both, λ i z there. only views port v w known.1 at i z there)),
+pub tells_greatest : (view : Bounds) (port greatest : ℕ) → view ≡ bounds 1 view.least 0 → view.least ≤ greatest → Pushes AreHints port view (greatest ∷ []) (λ new_view. (greatest ∷ [] ≡ new_view.greatest ∷ []) × (new_view ≡ bounds 2 view.least new_view.greatest))
+tells_greatest view port greatest knows_least greatest_above items views holds view_there =
+    let known_bounds = subst (λ known_bounds. IsKnown known_bounds view items views) (ap (λ found_view. found_view.known) knows_least) (holds port view view_there) in
+    let new_view : Bounds = bounds 2 view.least greatest in
+    let views_then : List Bounds = slice_set views port new_view in
+    let both_within : All (IsBetween new_view) (view.least ∷ greatest ∷ []) = All-cons (IsBetween new_view) view.least (greatest ∷ []) (omega arith, greatest_above) (one_within new_view greatest (greatest_above, omega arith)) in (
+      new_view,
+      (λ other_port found_view found_there. subst (λ asked_view. IsKnown asked_view.known asked_view (items ++ greatest ∷ []) views_then) (sym (only views port view new_view known_bounds.1 view_there other_port found_view found_there))
+          (subst (λ known_list. All (IsBetween new_view) known_list) (sym (ap (λ known_list. known_list ++ greatest ∷ []) known_bounds.0)) both_within, λ third_port third_view contained. only views port view new_view known_bounds.1 view_there third_port third_view contained)),
       (refl, refl),
     )
 
 -- From then on the passes know both bounds, and each call leaves that.
-module _ (v : Bounds) (two : v.known ≡ 2) where
+module _ (view : Bounds) (knows_both : view.known ≡ 2) where
   -- a pass that is as it was changes nothing that is known
-  all_same : (views : List Bounds) (port : ℕ) → AllKnow views v → AllKnow (slice_set views port v) v
-  all_same views port all j u is = ⊎_elim
-      (λ (same : (j ≡ port) × (v ≡ u)). sym same.1)
-      (λ (other : (j ≢ port) × (get_elem? views j ≡ some u)). all j u other.1)
-      (at_set views port j v u is)
+  all_same : (views : List Bounds) (port : ℕ) → AllKnow views view → AllKnow (slice_set views port view) view
+  all_same views port all_know other_port found_view found_there = ⊎_elim
+      (λ (same_port : (other_port ≡ port) × (view ≡ found_view)). sym same_port.1)
+      (λ (other_view : (other_port ≢ port) × (get_elem? views other_port ≡ some found_view)). all_know other_port found_view other_view.1)
+      (at_set views port other_port view found_view found_there)
 
   -- the rule of passes that know both
-  rule_of : (items : List ℕ) (views : List Bounds) → All (IsBetween v) items → AllKnow views v → AreHints items views
-  rule_of items views within all j u is = subst (λ y. IsKnown y.known y items views) (sym (all j u is)) (subst (λ known. IsKnown known v items views) (sym two) (within, all))
+  rule_of : (items : List ℕ) (views : List Bounds) → All (IsBetween view) items → AllKnow views view → AreHints items views
+  rule_of items views items_within all_know any_port found_view found_there = subst (λ y. IsKnown y.known y items views) (sym (all_know any_port found_view found_there)) (subst (λ known. IsKnown known view items views) (sym knows_both) (items_within, all_know))
 
   -- and what it says to one of them
-  known_to : (items : List ℕ) (views : List Bounds) (port : ℕ) → AreHints items views → get_elem? views port ≡ some v → All (IsBetween v) items × AllKnow views v
-  known_to items views port holds at = subst (λ known. IsKnown known v items views) two (holds port v at)
+  known_to : (items : List ℕ) (views : List Bounds) (port : ℕ) → AreHints items views → get_elem? views port ≡ some view → All (IsBetween view) items × AllKnow views view
+  known_to items views port hints_hold view_there = subst (λ known. IsKnown known view items views) knows_both (hints_hold port view view_there)
 
-  pub adds : (port x : ℕ) → IsBetween v x → Pushes AreHints port v (x ∷ []) (λ w. (w ≡ v) × All (IsBetween v) (x ∷ []))
-  adds port x within items views holds at =
-      let known = known_to items views port holds at in
-      let all = All-append (IsBetween v) items (x ∷ []) known.0 (one_within v x within) in
-      (v, rule_of (items ++ x ∷ []) (slice_set views port v) all (all_same views port known.1), (refl, one_within v x within))
+  pub adds : (port address : ℕ) → IsBetween view address → Pushes AreHints port view (address ∷ []) (λ then_view. (then_view ≡ view) × All (IsBetween view) (address ∷ []))
+  adds port address address_within items views holds view_there =
+      let known_facts = known_to items views port holds view_there in
+      let all_within = All-append (IsBetween view) items (address ∷ []) known_facts.0 (one_within view address address_within) in
+      (view, rule_of (items ++ address ∷ []) (slice_set views port view) all_within (all_same views port known_facts.1), (refl, one_within view address address_within))
 
-  pub takes : (port most : ℕ) → Takes AreHints port v most (λ xs w. (w ≡ v) × All (IsBetween v) xs)
-  takes port most xs items views any few holds at =
-      let known = known_to (xs ++ items) views port holds at in
-      let rest = back (IsBetween v) xs items known.0 in
-      (v, rule_of items (slice_set views port v) rest (all_same views port known.1), (refl, front (IsBetween v) xs items known.0))
+  pub takes : (port most : ℕ) → Takes AreHints port view most (λ addresses then_view. (then_view ≡ view) × All (IsBetween view) addresses)
+  takes port most addresses items views any few holds view_there =
+      let known_facts = known_to (addresses ++ items) views port holds view_there in
+      let rest_within = back (IsBetween view) addresses items known_facts.0 in
+      (view, rule_of items (slice_set views port view) rest_within (all_same views port known_facts.1), (refl, front (IsBetween view) addresses items known_facts.0))
 
-  pub pops : (port : ℕ) → Pops AreHints port v (λ xs w. (w ≡ v) × All (IsBetween v) xs)
-  pops port x items views holds at =
-      let known = known_to (items ++ x ∷ []) views port holds at in
-      let rest = front (IsBetween v) items (x ∷ []) known.0 in
-      (v, rule_of items (slice_set views port v) rest (all_same views port known.1), (refl, back (IsBetween v) items (x ∷ []) known.0))
+  pub pops : (port : ℕ) → Pops AreHints port view (λ xs then_view. (then_view ≡ view) × All (IsBetween view) xs)
+  pops port address items views holds view_there =
+      let known_facts = known_to (items ++ address ∷ []) views port holds view_there in
+      let rest_within = front (IsBetween view) items (address ∷ []) known_facts.0 in
+      (view, rule_of items (slice_set views port view) rest_within (all_same views port known_facts.1), (refl, back (IsBetween view) items (address ∷ []) known_facts.0))
 
-  pub forks : (port : ℕ) → Forks AreHints port v v v
-  forks port items views holds at =
-      let known = known_to items views port holds at in
-      let views_then : List Bounds = slice_set views port v in
-      rule_of items (views_then ++ v ∷ []) known.0 (λ j u is. ⊎_elim
-      (λ (old : get_elem? views_then j ≡ some u). all_same views port known.1 j u old)
-      (λ (new : v ≡ u). sym new)
-      (at_snoc views_then v u j is))
+  pub forks : (port : ℕ) → Forks AreHints port view view view
+  forks port items views holds view_there =
+      let known_facts = known_to items views port holds view_there in
+      let views_then : List Bounds = slice_set views port view in
+      rule_of items (views_then ++ view ∷ []) known_facts.0 (λ other_port found_view found_there. ⊎_elim
+      (λ (old : get_elem? views_then other_port ≡ some found_view). all_same views port known_facts.1 other_port found_view old)
+      (λ (new : view ≡ found_view). sym new)
+      (at_snoc views_then view found_view other_port found_there))
 
 -- whether or not there was an address to take, what is known is as before
-pub known_still : (least greatest : ℕ) (taken : Option ℕ) (old new : Bounds) → old ≡ bounds 2 least greatest → MatchOption taken ((new ≡ old) × ⊤) (λ x. (new ≡ old) × All (IsBetween old) (x ∷ [])) → new.known ≡ 2
-known_still least greatest None old new both kept = ap (λ v. v.known) (kept.0 ∙ both)
-known_still least greatest (Some x) old new both kept = ap (λ v. v.known) (kept.0 ∙ both)
+pub known_still : (least greatest : ℕ) (taken : Option ℕ) (old new : Bounds) → old ≡ bounds 2 least greatest → MatchOption taken ((new ≡ old) × ⊤) (λ address. (new ≡ old) × All (IsBetween old) (address ∷ [])) → new.known ≡ 2
+known_still least greatest None old new old_knows kept_known = ap (λ asked_view. asked_view.known) (kept_known.0 ∙ old_knows)
+known_still least greatest (Some address) old new old_knows kept_known = ap (λ asked_view. asked_view.known) (kept_known.0 ∙ old_knows)

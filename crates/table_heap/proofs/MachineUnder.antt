@@ -9,42 +9,42 @@ use Rattle.std.specs.Prelude.{unwrap_or, slice_set}
 module _ {T S : Type 0} (f : T → S) where
   -- a machine that shows is there
   pub within : (items : View T) (number : ℕ) → is_some (machine_of (kept_in_view f items) number) ≡ true → number < length items
-  within items number here = here_within items number (sym (kept_some f items number) ∙ here)
+  within items number shows = here_within items number (sym (kept_some f items number) ∙ shows)
 
   -- what was read there
-  pub read_here : (items : View T) (number : ℕ) (found : Option T) (m : T) → number < length items → found ≡ get_or items number found → found ≡ Some m → machine_of items number ≡ Some m
-  read_here items number found m below value is = machine_of-index items number found below ∙ sym value ∙ is
+  pub read_here : (items : View T) (number : ℕ) (found : Option T) (machine : T) → number < length items → found ≡ get_or items number found → found ≡ Some machine → machine_of items number ≡ Some machine
+  read_here items number found machine number_below value read_is = machine_of-index items number found number_below ∙ sym value ∙ read_is
 
   -- something is there
   pub never_none : (items : View T) (number : ℕ) (found : Option T) → is_some (machine_of (kept_in_view f items) number) ≡ true → found ≡ get_or items number found → found ≡ None → ⊥
-  never_none items number found here value none =
-      let a : machine_of items number ≡ None = machine_of-index items number found (within items number here) ∙ sym value ∙ none in
-      let same : is_some (machine_of items number) ≡ true = sym (kept_some f items number) ∙ here in
-      let d : is_some (machine_of items number) ≡ false = ap is_some a in
+  never_none items number found shows value nothing_found =
+      let no_machine : machine_of items number ≡ None = machine_of-index items number found (within items number shows) ∙ sym value ∙ nothing_found in
+      let is_there : is_some (machine_of items number) ≡ true = sym (kept_some f items number) ∙ shows in
+      let not_there : is_some (machine_of items number) ≡ false = ap is_some no_machine in
       cc
 
   -- it shows
-  pub shows_here : (items : View T) (number : ℕ) (m : T) → machine_of items number ≡ Some m → machine_of (kept_in_view f items) number ≡ Some (f m)
-  shows_here items number m here = machine_of-kept f items number ∙ ap (kept_one f) here
+  pub shows_here : (items : View T) (number : ℕ) (machine : T) → machine_of items number ≡ Some machine → machine_of (kept_in_view f items) number ≡ Some (f machine)
+  shows_here items number machine machine_there = machine_of-kept f items number ∙ ap (kept_one f) machine_there
 
-  pub shows_as : (items : View T) (number : ℕ) (m : T) (d : S) → machine_of items number ≡ Some m → unwrap_or (machine_of (kept_in_view f items) number) d ≡ f m
-  shows_as items number m d here = ap (λ o. unwrap_or o d) (shows_here items number m here)
+  pub shows_as : (items : View T) (number : ℕ) (machine : T) (default : S) → machine_of items number ≡ Some machine → unwrap_or (machine_of (kept_in_view f items) number) default ≡ f machine
+  shows_as items number machine default machine_there = ap (λ machine_found. unwrap_or machine_found default) (shows_here items number machine machine_there)
 
   -- what shows where another is put that shows the same
-  pub put_same : (items : View T) (number : ℕ) (m n : T) → machine_of items number ≡ Some m → f n ≡ f m → kept_in_view f (slice_set items number (Some n)) ≡ kept_in_view f items
-  put_same [] number m n here same = refl
-  put_same (x ∷ xs) zero m n here same = ap (λ (found : Option S). found ∷ kept_in_view f xs) (ap (λ (z : S). Some z) same ∙ sym (ap (kept_one f) here))
-  put_same (x ∷ xs) (suc number) m n here same = ap (λ (ys : View S). kept_one f x ∷ ys) (put_same xs number m n here same)
+  pub put_same : (items : View T) (number : ℕ) (old_machine new_machine : T) → machine_of items number ≡ Some old_machine → f new_machine ≡ f old_machine → kept_in_view f (slice_set items number (Some new_machine)) ≡ kept_in_view f items
+  put_same [] number old_machine new_machine machine_there shows_same = refl
+  put_same (x ∷ xs) zero old_machine new_machine machine_there shows_same = ap (λ (found : Option S). found ∷ kept_in_view f xs) (ap (λ (z : S). Some z) shows_same ∙ sym (ap (kept_one f) machine_there))
+  put_same (x ∷ xs) (suc number) old_machine new_machine machine_there shows_same = ap (λ (ys : View S). kept_one f x ∷ ys) (put_same xs number old_machine new_machine machine_there shows_same)
 
   -- what is under the number then
-  pub put_there : (items : View T) (number : ℕ) (m n : T) → machine_of items number ≡ Some m → machine_of (slice_set items number (Some n)) number ≡ Some n
-  put_there [] number m n here = absurd cc
-  put_there (x ∷ xs) zero m n here = refl
-  put_there (x ∷ xs) (suc number) m n here = put_there xs number m n here
+  pub put_there : (items : View T) (number : ℕ) (old_machine new_machine : T) → machine_of items number ≡ Some old_machine → machine_of (slice_set items number (Some new_machine)) number ≡ Some new_machine
+  put_there [] number old_machine new_machine machine_there = absurd cc
+  put_there (x ∷ xs) zero old_machine new_machine machine_there = refl
+  put_there (x ∷ xs) (suc number) old_machine new_machine machine_there = put_there xs number old_machine new_machine machine_there
 
   -- whether something is there, by what was read
   pub some_read : (items : View T) (number : ℕ) (found : Option T) → number < length items → found ≡ get_or items number found → is_some found ≡ is_some (machine_of (kept_in_view f items) number)
-  some_read items number found below value = ap is_some (value ∙ sym (machine_of-index items number found below)) ∙ sym (kept_some f items number)
+  some_read items number found number_below value = ap is_some (value ∙ sym (machine_of-index items number found number_below)) ∙ sym (kept_some f items number)
 
   pub some_past : (items : View T) (number : ℕ) → (number < length items → ⊥) → is_some (machine_of (kept_in_view f items) number) ≡ false
-  some_past items number past = kept_some f items number ∙ ap is_some (machine_of-past items number (omega (arith, past)))
+  some_past items number number_past = kept_some f items number ∙ ap is_some (machine_of-past items number (omega (arith, number_past)))

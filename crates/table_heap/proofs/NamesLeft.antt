@@ -36,27 +36,27 @@ call_kept change config got _ = refl
 -- a mutator that begins a call has its command
 pub call_begins : (change : Change) (config : Config) (command : Command) (got : ℕ) (machine : Machine) → may_begin machine ≡ true
     → (call_in (machine_after change config (Begin command) got machine) ≡ command) × (stands_in_its_call (machine_after change config (Begin command) got machine) ≡ true)
-call_begins change config command got (mutating mutator) may = by_spot mutator.spot may
+call_begins change config command got (mutating mutator) free_to_begin = by_spot mutator.spot free_to_begin
   where
     by_spot : (spot : Spot) → takes_commands spot ≡ true
         → ((next_at config mutator (Begin command) got spot).kept.command ≡ command)
         × (may_stand (makes_object (next_at config mutator (Begin command) got spot).kept.command) (next_at config mutator (Begin command) got spot).spot ≡ true)
-    by_spot Rest may = (refl, refl)
-    by_spot (Ended reply) may = (refl, refl)
-    by_spot _ may = absurd cc
-call_begins change config command got _ may = absurd cc
+    by_spot Rest free_to_begin = (refl, refl)
+    by_spot (Ended reply) free_to_begin = (refl, refl)
+    by_spot _ free_to_begin = absurd cc
+call_begins change config command got _ free_to_begin = absurd cc
 
 -- a call that makes no object has made none after its step
 none_made : (config : Config) (mutator : Mutating) (got : ℕ) (spot : Spot) → may_stand false spot ≡ true → (next_at config mutator Nothing got spot).made ≡ mutator.made
-none_made config mutator got Rest may = absurd cc
-none_made config mutator got (Making spot) may = absurd cc
-none_made config mutator got (Waiting spot) may = absurd cc
-none_made config mutator got _ may = refl
+none_made config mutator got Rest stands_free = absurd cc
+none_made config mutator got (Making spot) stands_free = absurd cc
+none_made config mutator got (Waiting spot) stands_free = absurd cc
+none_made config mutator got _ stands_free = refl
 
 none_made_in : (change : Change) (config : Config) (got : ℕ) (machine : Machine) → makes_object (call_in machine) ≡ false → stands_in_its_call machine ≡ true
     → made_of_machine (machine_after change config Nothing got machine) ≡ made_of_machine machine
-none_made_in change config got (mutating mutator) none stands = none_made config mutator got mutator.spot (subst (λ b. may_stand b mutator.spot ≡ true) none stands)
-none_made_in change config got _ none stands = refl
+none_made_in change config got (mutating mutator) makes_none machine_stands = none_made config mutator got mutator.spot (subst (λ may_make. may_stand may_make mutator.spot ≡ true) makes_none machine_stands)
+none_made_in change config got _ makes_none machine_stands = refl
 
 -- an order makes nothing
 begun_same : (order : Order) (mutator : Mutating) → (call_begun order mutator).made ≡ mutator.made
@@ -68,13 +68,13 @@ begun_same (Hint address) mutator = refl
 -- between two calls nothing is made, whatever follows
 made_at_rest : (change : Change) (config : Config) (order : Order) (got : ℕ) (machine : Machine) → may_begin machine ≡ true
     → made_of_machine (machine_after change config order got machine) ≡ made_of_machine machine
-made_at_rest change config order got (mutating mutator) may = by_spot mutator.spot may
+made_at_rest change config order got (mutating mutator) free_to_begin = by_spot mutator.spot free_to_begin
   where
     by_spot : (spot : Spot) → takes_commands spot ≡ true → (next_at config mutator order got spot).made ≡ mutator.made
-    by_spot Rest may = begun_same order mutator
-    by_spot (Ended reply) may = begun_same order mutator
-    by_spot _ may = absurd cc
-made_at_rest change config order got _ may = absurd cc
+    by_spot Rest free_to_begin = begun_same order mutator
+    by_spot (Ended reply) free_to_begin = begun_same order mutator
+    by_spot _ free_to_begin = absurd cc
+made_at_rest change config order got _ free_to_begin = absurd cc
 
 -- what is at hand of a making is at hand
 making_low : (machine : Machine) → making_at_hand machine ≤ at_hand_of machine
@@ -86,94 +86,94 @@ making_low machine = by_test (makes_object (call_in machine))
 
 -- between two calls there is a name for what the next one may make
 pub name_left : (machine : Machine) (to_come : ℕ) → HasNamesFor to_come machine → may_begin machine ≡ true → made_of_machine machine < most_objects
-name_left machine to_come names may =
-    let none = rest_at_hand machine (begins_at_rest machine may) in
-    let low = making_low machine in
-    let few = names.few in
-    omega (arith, few, low, none)
+name_left machine to_come has_names free_to_begin =
+    let none_at_hand = rest_at_hand machine (begins_at_rest machine free_to_begin) in
+    let made_low = making_low machine in
+    let few_names = has_names.few in
+    omega (arith, few_names, made_low, none_at_hand)
 
 -- a mutator that goes on with its call stands where that call may
 stands_then : (change : Change) (config : Config) (got : ℕ) (machine : Machine) → is_mutating machine ≡ true → stands_in_its_call machine ≡ true → reply_of_step machine ≡ None
     → stands_in_its_call (machine_after change config Nothing got machine) ≡ true
-stands_then change config got (mutating mutator) role stands none =
-    subst (λ k. may_stand (makes_object k) (next_at config mutator Nothing got mutator.spot).spot ≡ true) (sym (command_kept config mutator got mutator.spot))
-    (call_stands (makes_object mutator.kept.command) config mutator got mutator.spot (λ own. own) stands none)
-stands_then change config got _ role stands none = absurd cc
+stands_then change config got (mutating mutator) role machine_stands no_reply =
+    subst (λ asked_command. may_stand (makes_object asked_command) (next_at config mutator Nothing got mutator.spot).spot ≡ true) (sym (command_kept config mutator got mutator.spot))
+    (call_stands (makes_object mutator.kept.command) config mutator got mutator.spot (λ stays_so. stays_so) machine_stands no_reply)
+stands_then change config got _ role machine_stands no_reply = absurd cc
 
 module _ (change : Change) (config : Config) (next : Option Command) (order : Order) (got : ℕ) (machine : Machine) (to_come : ℕ) (role : is_mutating machine ≡ true)
-    (names : HasNamesFor to_come machine) where
+    (has_names : HasNamesFor to_come machine) where
   abbrev then_is : Machine
   then_is = machine_after change config order got machine
 
   -- in a call it goes on
   in_call : is_resting machine ≡ false → order ≡ Nothing → reply_of_step machine ≡ None → HasNamesFor to_come then_is
-  in_call busy is none = subst (λ o. HasNamesFor to_come (machine_after change config o got machine)) (sym is) (record {
-    call = λ _. stands_then change config got machine role (names.call busy) none;
+  in_call machine_busy no_order no_reply = subst (λ asked_order. HasNamesFor to_come (machine_after change config asked_order got machine)) (sym no_order) (record {
+    call = λ _. stands_then change config got machine role (has_names.call machine_busy) no_reply;
     few = by_makes (makes_object (call_in machine)) refl;
   })
     where
       after : Machine
       after = machine_after change config Nothing got machine
 
-      by_makes : (holds : Bool) → makes_object (call_in machine) ≡ holds → made_of_machine after + to_come < most_objects + making_at_hand after
+      by_makes : (outcome : Bool) → makes_object (call_in machine) ≡ outcome → made_of_machine after + to_come < most_objects + making_at_hand after
       by_makes true makes =
-          let before : making_at_hand machine ≡ at_hand_of machine = ap (λ holds. if holds then at_hand_of machine else 0) makes in
-          let now : making_at_hand after ≡ at_hand_of after = ap (λ holds. if holds then at_hand_of after else 0) (ap makes_object (call_kept change config got machine) ∙ makes) in
-          let step = none_after change config Nothing got machine none in
-          let few = names.few in
-          omega (arith, before, now, step, few)
+          let making_before : making_at_hand machine ≡ at_hand_of machine = ap (λ outcome. if outcome then at_hand_of machine else 0) makes in
+          let at_hand_now : making_at_hand after ≡ at_hand_of after = ap (λ outcome. if outcome then at_hand_of after else 0) (ap makes_object (call_kept change config got machine) ∙ makes) in
+          let step = none_after change config Nothing got machine no_reply in
+          let few_names = has_names.few in
+          omega (arith, making_before, at_hand_now, step, few_names)
       by_makes false makes =
-          let before : making_at_hand machine ≡ 0 = ap (λ holds. if holds then at_hand_of machine else 0) makes in
-          let same = none_made_in change config got machine makes (names.call busy) in
-          let few = names.few in
-          omega (arith, before, same, few)
+          let making_before : making_at_hand machine ≡ 0 = ap (λ outcome. if outcome then at_hand_of machine else 0) makes in
+          let made_same = none_made_in change config got machine makes (has_names.call machine_busy) in
+          let few_names = has_names.few in
+          omega (arith, making_before, made_same, few_names)
 
   -- between two calls it begins one, or ends
   at_rest : may_begin machine ≡ true → next_order next ≡ order → HasNamesFor to_come then_is
-  at_rest may is = record {
+  at_rest free_to_begin next_is = record {
     call = λ busy. by_next next refl busy;
     few =
-        let same = made_at_rest change config order got machine may in
-        let none = rest_at_hand machine (begins_at_rest machine may) in
-        let low = making_low machine in
-        let few = names.few in
-        omega (arith, same, none, low, few);
+        let made_same = made_at_rest change config order got machine free_to_begin in
+        let none_at_hand = rest_at_hand machine (begins_at_rest machine free_to_begin) in
+        let made_low = making_low machine in
+        let few_names = has_names.few in
+        omega (arith, made_same, none_at_hand, made_low, few_names);
   }
     where
       by_next : (found : Option Command) → next ≡ found → is_resting then_is ≡ false → stands_in_its_call then_is ≡ true
-      by_next None e busy =
-          absurd (false≢true (sym busy ∙ ap (λ (order : Order). is_resting (machine_after change config order got machine)) (sym (sym (ap next_order e) ∙ is)) ∙ ended_after change config got machine may))
-      by_next (Some k) e busy =
-          subst (λ (order : Order). stands_in_its_call (machine_after change config order got machine) ≡ true) (sym (ap next_order e) ∙ is) (call_begins change config k got machine may).1
+      by_next None found_is machine_busy =
+          absurd (false≢true (sym machine_busy ∙ ap (λ (order : Order). is_resting (machine_after change config order got machine)) (sym (sym (ap next_order found_is) ∙ next_is)) ∙ ended_after change config got machine free_to_begin))
+      by_next (Some given_command) found_is machine_busy =
+          subst (λ (order : Order). stands_in_its_call (machine_after change config order got machine) ≡ true) (sym (ap next_order found_is) ∙ next_is) (call_begins change config given_command got machine free_to_begin).1
 
   -- after a step that gives no reply
   pub left_on : order_for next machine ≡ Some order → reply_of_step machine ≡ None → HasNamesFor to_come then_is
-  left_on turn none = by_may (may_begin machine) refl
+  left_on turn no_reply = by_may (may_begin machine) refl
     where
       by_may : (holds : Bool) → may_begin machine ≡ holds → HasNamesFor to_come then_is
-      by_may true may = at_rest may (same_Some (next_order next) order (sym (turn_at_rest machine next may) ∙ turn))
-      by_may false may = let goes = goes_on_with next machine order may turn in in_call goes.0 goes.1 none
+      by_may true free_test = at_rest free_test (same_Some (next_order next) order (sym (turn_at_rest machine next free_test) ∙ turn))
+      by_may false free_test = let call_goes = goes_on_with next machine order free_test turn in in_call call_goes.0 call_goes.1 no_reply
 
   -- and after one whose reply was taken, where one allocation less is to come if it was the reply to one
   pub left_given : (reply : Reply) (fewer : ℕ) → reply_of_step machine ≡ Some reply → fewer ≤ to_come → (makes_object (call_in machine) ≡ true → fewer < to_come) → HasNamesFor fewer then_is
   left_given reply fewer gives falls pays =
       let step = given_after change config order got machine reply gives in
       record {
-        call = λ busy. absurd (false≢true (sym busy ∙ step.rest));
+        call = λ machine_busy. absurd (false≢true (sym machine_busy ∙ step.rest));
         few = by_makes (makes_object (call_in machine)) refl;
       }
     where
-      by_makes : (holds : Bool) → makes_object (call_in machine) ≡ holds → made_of_machine then_is + fewer < most_objects + making_at_hand then_is
+      by_makes : (outcome : Bool) → makes_object (call_in machine) ≡ outcome → made_of_machine then_is + fewer < most_objects + making_at_hand then_is
       by_makes true makes =
           let step = given_after change config order got machine reply gives in
-          let made = step.made in
+          let step_made = step.made in
           let hand = step.was_at_hand in
-          let low = making_low machine in
-          let less = pays makes in
-          let few = names.few in
-          omega (arith, made, hand, low, less, few)
+          let made_low = making_low machine in
+          let fewer_left = pays makes in
+          let few_names = has_names.few in
+          omega (arith, step_made, hand, made_low, fewer_left, few_names)
       by_makes false makes =
-          let made = (given_after change config order got machine reply gives).made in
-          let before : making_at_hand machine ≡ 0 = ap (λ holds. if holds then at_hand_of machine else 0) makes in
-          let few = names.few in
-          omega (arith, made, before, falls, few)
+          let step_made = (given_after change config order got machine reply gives).made in
+          let making_before : making_at_hand machine ≡ 0 = ap (λ outcome. if outcome then at_hand_of machine else 0) makes in
+          let few_names = has_names.few in
+          omega (arith, step_made, making_before, falls, few_names)

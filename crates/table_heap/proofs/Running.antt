@@ -23,68 +23,68 @@ use Rattle.table_heap.proofs.AtWork.{next_fits}
 
 -- a machine of the view is in memory
 pub in_memory : (bundle : Bundle) (number : ℕ) (actor : Actor) → machine_of (view_of bundle) number ≡ Some actor → machine_of (machines_of bundle) number ≡ Some actor.machine
-in_memory bundle number actor here = ap (λ v. machine_of v number) (sym bundle.kept) ∙ shows_here machine_in (view_of bundle) number actor here
+in_memory bundle number actor actor_seen = ap (λ asked_view. machine_of asked_view number) (sym bundle.kept) ∙ shows_here machine_in (view_of bundle) number actor actor_seen
 
 pub at_number : (bundle : Bundle) (number : ℕ) (actor : Actor) → machine_of (view_of bundle) number ≡ Some actor → machine_at bundle number ≡ actor.machine
-at_number bundle number actor here = ap (λ o. unwrap_or o no_machine) (in_memory bundle number actor here)
+at_number bundle number actor actor_seen = ap (λ machine_found. unwrap_or machine_found no_machine) (in_memory bundle number actor actor_seen)
 
 -- and a machine in memory is one of the view
 pub in_view : (bundle : Bundle) (number : ℕ) → HasMachine bundle number → (actor : Actor) × (machine_of (view_of bundle) number ≡ Some actor)
-in_view bundle number here = by_machine (machine_of (view_of bundle) number) refl
+in_view bundle number machine_here = by_machine (machine_of (view_of bundle) number) refl
   where
     by_machine : (found : Option Actor) → machine_of (view_of bundle) number ≡ found → (actor : Actor) × (machine_of (view_of bundle) number ≡ Some actor)
-    by_machine None is =
-        absurd (false≢true (sym (ap is_some is) ∙ sym (kept_some machine_in (view_of bundle) number) ∙ ap (λ v. is_some (machine_of v number)) bundle.kept ∙ here))
-    by_machine (Some actor) is = (actor, is)
+    by_machine None found_is =
+        absurd (false≢true (sym (ap is_some found_is) ∙ sym (kept_some machine_in (view_of bundle) number) ∙ ap (λ asked_view. is_some (machine_of asked_view number)) bundle.kept ∙ machine_here))
+    by_machine (Some actor) found_is = (actor, found_is)
 
 -- its role is by its number
 pub role_at : (bundle : Bundle) (number : ℕ) (actor : Actor) → machine_of (view_of bundle) number ≡ Some actor → is_mutating actor.machine ≡ nat_lt number bundle.config.mutators
-role_at bundle number actor here =
-    let found = kept_here shown bundle.machines.items number actor.machine (in_memory bundle number actor here) in
-    ap is_mutating (sym found.2) ∙ (bundle.of_heap number found.0 found.1).role
+role_at bundle number actor actor_seen =
+    let machine_found = kept_here shown bundle.machines.items number actor.machine (in_memory bundle number actor actor_seen) in
+    ap is_mutating (sym machine_found.2) ∙ (bundle.of_heap number machine_found.0 machine_found.1).role
 
 -- the next command of a mutator's script can be given
 pub command_fits : (bundle : Bundle) (jobs : Jobs) (number : ℕ) → AreAtWork bundle jobs → HasMachine bundle number → may_begin (machine_at bundle number) ≡ true
     → IfSome (next_for bundle.config jobs number) (λ command. IsValid command × (made_of_machine (machine_at bundle number) < most_objects))
-command_fits bundle jobs number work here may =
-    let seen = in_view bundle number here in
-    let a = seen.0 in
-    let at = at_number bundle number a seen.1 in
-    let free : may_begin a.machine ≡ true = ap may_begin (sym at) ∙ may in
-    let role : is_mutating a.machine ≡ true = rest_is_mutating a.machine (begins_at_rest a.machine free) in
-    let is : nat_lt number bundle.config.mutators ≡ true = sym (role_at bundle number a seen.1) ∙ role in
-    let job = work.mutators number a seen.1 role in
-    let next : next_for bundle.config jobs number ≡ slice_get job.0.script (length job.0.replies) = ap (λ t. if t then next_of jobs number else None) is ∙ next_here jobs number job.0 job.1 in
-    subst (λ o. IfSome o (λ command. IsValid command × (made_of_machine (machine_at bundle number) < most_objects))) (sym next)
-    (subst (λ machine. IfSome (slice_get job.0.script (length job.0.replies)) (λ command. IsValid command × (made_of_machine machine < most_objects))) (sym at)
-    (next_fits job.0 a job.2 free))
+command_fits bundle jobs number work machine_here free_to_begin =
+    let seen_actor = in_view bundle number machine_here in
+    let actor = seen_actor.0 in
+    let at_machine = at_number bundle number actor seen_actor.1 in
+    let actor_free : may_begin actor.machine ≡ true = ap may_begin (sym at_machine) ∙ free_to_begin in
+    let role : is_mutating actor.machine ≡ true = rest_is_mutating actor.machine (begins_at_rest actor.machine actor_free) in
+    let is_mutator : nat_lt number bundle.config.mutators ≡ true = sym (role_at bundle number actor seen_actor.1) ∙ role in
+    let job = work.mutators number actor seen_actor.1 role in
+    let next_is : next_for bundle.config jobs number ≡ slice_get job.0.script (length job.0.replies) = ap (λ test. if test then next_of jobs number else None) is_mutator ∙ next_here jobs number job.0 job.1 in
+    subst (λ command_found. IfSome command_found (λ command. IsValid command × (made_of_machine (machine_at bundle number) < most_objects))) (sym next_is)
+    (subst (λ machine. IfSome (slice_get job.0.script (length job.0.replies)) (λ command. IsValid command × (made_of_machine machine < most_objects))) (sym at_machine)
+    (next_fits job.0 actor job.2 actor_free))
 
 -- a mutator of the bundle has a script
 pub has_script : (bundle : Bundle) (jobs : Jobs) (number : ℕ) → AreAtWork bundle jobs → HasMachine bundle number → nat_lt number bundle.config.mutators ≡ true → HasScript jobs number
-has_script bundle jobs number work here below =
-    let seen = in_view bundle number here in
-    let job = work.mutators number seen.0 seen.1 (role_at bundle number seen.0 seen.1 ∙ below) in
+has_script bundle jobs number work machine_here mutator_below =
+    let seen_actor = in_view bundle number machine_here in
+    let job = work.mutators number seen_actor.0 seen_actor.1 (role_at bundle number seen_actor.0 seen_actor.1 ∙ mutator_below) in
     has_here jobs number job.0 job.1
 
 -- roles stay in the same bundle
 pub no_mutator_stays : (old new : Bundle) (number : ℕ) → IsSameBundle old new → HasNoMutator (view_of old) number → HasNoMutator (view_of new) number
-no_mutator_stays old new number same none a here =
-    let seen = in_old (machine_of (view_of old) number) refl in
-    role_at new number a here ∙ ap (λ c. nat_lt number c.mutators) same.config ∙ sym (role_at old number seen.0 seen.1) ∙ none seen.0 seen.1
+no_mutator_stays old new number bundle_same no_mutator new_actor actor_seen =
+    let old_actor = in_old (machine_of (view_of old) number) refl in
+    role_at new number new_actor actor_seen ∙ ap (λ config. nat_lt number config.mutators) bundle_same.config ∙ sym (role_at old number old_actor.0 old_actor.1) ∙ no_mutator old_actor.0 old_actor.1
   where
     in_old : (found : Option Actor) → machine_of (view_of old) number ≡ found → (actor : Actor) × (machine_of (view_of old) number ≡ Some actor)
-    in_old None is = absurd (false≢true (sym (ap is_some is) ∙ sym (same.numbers.here number) ∙ ap is_some here))
-    in_old (Some actor) is = (actor, is)
+    in_old None found_is = absurd (false≢true (sym (ap is_some found_is) ∙ sym (bundle_same.numbers.here number) ∙ ap is_some actor_seen))
+    in_old (Some actor) found_is = (actor, found_is)
 
 -- the same work
 pub same_jobs : (view : View Actor) (jobs : Jobs) → AreSameJobs view jobs jobs
-same_jobs view jobs = record { scripts = λ t. refl; numbers = λ t. refl; others = λ t none. refl }
+same_jobs view jobs = record { scripts = λ t. refl; numbers = λ t. refl; others = λ t not_mutator. refl }
 
 pub same_jobs_more : (old mid : Bundle) (jobs between later : Jobs) → IsSameBundle old mid → AreSameJobs (view_of old) jobs between → AreSameJobs (view_of mid) between later → AreSameJobs (view_of old) jobs later
-same_jobs_more old mid jobs between later same first second = record {
-  scripts = λ t. second.scripts t ∙ first.scripts t;
-  numbers = λ t. second.numbers t ∙ first.numbers t;
-  others = λ number none. second.others number (no_mutator_stays old mid number same none) ∙ first.others number none;
+same_jobs_more old mid jobs between later bundle_same first_same second_same = record {
+  scripts = λ asked_number. second_same.scripts asked_number ∙ first_same.scripts asked_number;
+  numbers = λ asked_number. second_same.numbers asked_number ∙ first_same.numbers asked_number;
+  others = λ number not_mutator. second_same.others number (no_mutator_stays old mid number bundle_same not_mutator) ∙ first_same.others number not_mutator;
 }
 
 -- the same bundle
@@ -92,20 +92,20 @@ pub same_bundle : (bundle : Bundle) → IsSameBundle bundle bundle
 same_bundle bundle = record { table = refl; config = refl; key = refl; numbers = same_none (view_of bundle) }
 
 pub same_bundle_more : (old mid new : Bundle) → IsSameBundle old mid → IsSameBundle mid new → IsSameBundle old new
-same_bundle_more old mid new first second = record {
-  table = second.table ∙ first.table;
-  config = second.config ∙ first.config;
-  key = second.key ∙ first.key;
-  numbers = same_more (view_of old) (view_of mid) (view_of new) first.numbers second.numbers;
+same_bundle_more old mid new first_same second_same = record {
+  table = second_same.table ∙ first_same.table;
+  config = second_same.config ∙ first_same.config;
+  key = second_same.key ∙ first_same.key;
+  numbers = same_more (view_of old) (view_of mid) (view_of new) first_same.numbers second_same.numbers;
 }
 
 -- so it is one of its heap still
 pub still_of : (old new : Bundle) (heap : Heap) → IsSameBundle old new → IsBundleOf old heap → IsBundleOf new heap
-still_of old new heap same bundle_of = record { table = same.table ∙ bundle_of.table; config = same.config ∙ bundle_of.config; key = ap (λ k. k.value) same.key ∙ bundle_of.key }
+still_of old new heap bundle_same bundle_of = record { table = bundle_same.table ∙ bundle_of.table; config = bundle_same.config ∙ bundle_of.config; key = ap (λ heap_key. heap_key.value) bundle_same.key ∙ bundle_of.key }
 
 -- the work of a bundle that is as it was
 pub work_unchanged : (old new : Bundle) (jobs : Jobs) → IsUnchanged old new → AreAtWork old jobs → AreAtWork new jobs
-work_unchanged old new jobs same work = record {
-  orders = λ k order there. work.orders k order (ap (λ v. machine_of v k) (sym same.orders) ∙ there);
-  mutators = λ k a here role. work.mutators k a (ap (λ v. machine_of v k) (sym same.unmoved.view) ∙ here) role;
+work_unchanged old new jobs unchanged work = record {
+  orders = λ number order order_there. work.orders number order (ap (λ asked_view. machine_of asked_view number) (sym unchanged.orders) ∙ order_there);
+  mutators = λ number actor actor_seen role. work.mutators number actor (ap (λ asked_view. machine_of asked_view number) (sym unchanged.unmoved.view) ∙ actor_seen) role;
 }

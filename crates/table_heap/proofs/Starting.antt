@@ -21,36 +21,36 @@ use Rattle.table_heap.proofs.Jobs.{has_here, script_here, replies_here}
 use Rattle.table_heap.proofs.Opened.{picked_some}
 
 -- a machine that was dealt to the bundle
-dealt_here : {R : Type 0} (test : ℕ → Bool) (view : View R) (k : ℕ) (r : R) → (if test k then machine_of view k else None) ≡ Some r → test k ≡ true
-dealt_here {R} test v k r there = by_test (test k) refl there
+dealt_here : {R : Type 0} (test : ℕ → Bool) (view : View R) (number : ℕ) (r : R) → (if test number then machine_of view number else None) ≡ Some r → test number ≡ true
+dealt_here {R} test given_view number r dealt_there = by_test (test number) refl dealt_there
   where
-    by_test : (holds : Bool) → test k ≡ holds → (if holds then machine_of v k else None) ≡ Some r → test k ≡ true
-    by_test true is found = is
-    by_test false is found = absurd cc
+    by_test : (holds : Bool) → test number ≡ holds → (if holds then machine_of given_view number else None) ≡ Some r → test number ≡ true
+    by_test true test_is machine_found = test_is
+    by_test false test_is machine_found = absurd cc
 
 -- A bundle that was dealt from the machines of the opening, where the work has for each mutator that is dealt to it a script that
 -- is not begun, of commands in range, and no more than there are names for what they make.
-pub fresh_can_start : (heap : Heap) (b : Bundle) (config : Config) (workers bundle : ℕ) (jobs : Jobs) → IsFresh heap b (dealt_to workers bundle (whole (heap_opening config).machines))
+pub fresh_can_start : (heap : Heap) (fresh_bundle : Bundle) (config : Config) (workers bundle : ℕ) (jobs : Jobs) → IsFresh heap fresh_bundle (dealt_to workers bundle (whole (heap_opening config).machines))
     → ((number : ℕ) → number < config.mutators → is_dealt_to workers bundle number ≡ true → (script : List Command) × (progress_of jobs number ≡ Some (begun script)) × All IsValid script × (length script < most_objects))
-    → CanStart b jobs
-fresh_can_start heap b config workers bundle jobs fresh scripts = record {
+    → CanStart fresh_bundle jobs
+fresh_can_start heap fresh_bundle config workers bundle jobs fresh scripts = record {
   orders = fresh.orders;
-  mutators = λ number a here role.
+  mutators = λ number actor actor_dealt role.
       let test : ℕ → Bool = is_dealt_to workers bundle in
-      let all : View Actor = whole (heap_opening config).machines in
-      let there : machine_of (dealt_to workers bundle all) number ≡ Some a = ap (λ v. machine_of v number) (sym fresh.machines) ∙ here in
-      let dealt = dealt_here test all number a (sym (machine_of-picked test all number) ∙ there) in
-      let first = first_is config number a (sym (machine_of-whole (heap_opening config).machines number) ∙ picked_some test all number a there) in
-      let is = first.1 in
-      let mutates : nat_lt number config.mutators ≡ true = sym (first_role config number) ∙ ap (λ x. is_mutating x.machine) is ∙ role in
-      let below : number < config.mutators = ltb-true number config.mutators mutates in
-      let job = scripts number below dealt in
+      let all_actors : View Actor = whole (heap_opening config).machines in
+      let actor_there : machine_of (dealt_to workers bundle all_actors) number ≡ Some actor = ap (λ asked_view. machine_of asked_view number) (sym fresh.machines) ∙ actor_dealt in
+      let dealt = dealt_here test all_actors number actor (sym (machine_of-picked test all_actors number) ∙ actor_there) in
+      let first_facts = first_is config number actor (sym (machine_of-whole (heap_opening config).machines number) ∙ picked_some test all_actors number actor actor_there) in
+      let actor_is = first_facts.1 in
+      let mutates : nat_lt number config.mutators ≡ true = sym (first_role config number) ∙ ap (λ x. is_mutating x.machine) actor_is ∙ role in
+      let mutator_below : number < config.mutators = ltb-true number config.mutators mutates in
+      let job = scripts number mutator_below dealt in
       let script = script_here jobs number (begun job.0) job.1 in
       record {
-        calls = ap (λ x. x.calls) (sym is);
-        rest = ap (λ x. is_resting x.machine) (sym is) ∙ first_rests config number below;
-        free = ap (λ x. may_begin x.machine) (sym is) ∙ first_free_to_begin config number below;
-        made = ap (λ x. made_of_machine x.machine) (sym is) ∙ first_made config number;
+        calls = ap (λ x. x.calls) (sym actor_is);
+        rest = ap (λ x. is_resting x.machine) (sym actor_is) ∙ first_rests config number mutator_below;
+        free = ap (λ x. may_begin x.machine) (sym actor_is) ∙ first_free_to_begin config number mutator_below;
+        made = ap (λ x. made_of_machine x.machine) (sym actor_is) ∙ first_made config number;
         script = has_here jobs number (begun job.0) job.1;
         replies = replies_here jobs number (begun job.0) job.1;
         commands = subst (λ xs. All IsValid xs) (sym script) job.2;

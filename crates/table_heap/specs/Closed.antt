@@ -24,23 +24,23 @@ IsControlIdle bundle = (actor : Actor) → views.machine_of (state.view_of bundl
 
 -- the configuration
 abbrev pub config_of : Closed → Config
-config_of h = images.config_of h.image
+config_of closed = images.config_of closed.image
 
 -- its words, in the order of their places
 abbrev pub words_of : Closed → List ℕ
-words_of h = images.words_of h.image
+words_of closed = images.words_of closed.image
 
 -- its machines by their numbers, as their events see them
 abbrev pub machines_of : Closed → List Actor
-machines_of h = views.machines_of (uncounted_view h.seat.value.me.0)
+machines_of closed = views.machines_of (uncounted_view closed.seat.value.me.0)
 
 -- words and machines together
 abbrev pub stage_of : Closed → Stage Actor
-stage_of h = record { words = words_of h; machines = machines_of h }
+stage_of closed = record { words = words_of closed; machines = machines_of closed }
 
 -- no mutator has a call in progress
 abbrev pub AllRest : Closed → Type 0
-AllRest h = (number : ℕ) (actor : Actor) → number < (config_of h).mutators → slice_get (machines_of h) number ≡ Some actor → is_resting actor.machine ≡ true
+AllRest closed = (number : ℕ) (actor : Actor) → number < (config_of closed).mutators → slice_get (machines_of closed) number ≡ Some actor → is_resting actor.machine ≡ true
 
 -- all is as it was
 pub record IsUnchanged (old new : Closed) : Type 0 where

@@ -71,7 +71,7 @@ pub record IsDriving {D : Type 0} (next_of : D → Option Command) (replied : D 
 
 -- something holds of the drivers of a mutator, in both lists
 abbrev pub OfDrivers : {D : Type 0} → Bundle → (firsts drivers : List D) → (D → D → Actor → Type 0) → ℕ → Actor → Type 0
-OfDrivers {D} b firsts drivers P number a = (first : D) × (now : D) × (driver_of b firsts number ≡ Some first) × (driver_of b drivers number ≡ Some now) × P first now a
+OfDrivers {D} bundle firsts drivers P number actor = (first : D) × (now : D) × (driver_of bundle firsts number ≡ Some first) × (driver_of bundle drivers number ≡ Some now) × P first now actor
 
 -- a bundle and the drivers of its mutators between two turns, with those as which the drivers began
 pub record AreDriving {D : Type 0} (next_of : D → Option Command) (replied : D → Reply → D) (to_come : D → ℕ) (bundle : Bundle) (firsts drivers : List D) : Type 0 where

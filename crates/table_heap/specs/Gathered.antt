@@ -14,11 +14,11 @@ use Rattle.table_heap.specs.State.{config_of, start_of_heap}
 
 -- the machines by their numbers, as their events see them
 abbrev pub view_of : Gathered → View Actor
-view_of g = uncounted_view g.seat.me.0
+view_of gathered = uncounted_view gathered.seat.me.0
 
 -- they are of this heap
 abbrev pub IsGatheredOf : Gathered → Heap → Type 0
-IsGatheredOf g heap = g.seat.table_id ≡ heap.table.shared.table_id
+IsGatheredOf gathered heap = gathered.seat.table_id ≡ heap.table.shared.table_id
 
 -- all machines of a heap of this configuration are there
 pub record HasAllOf (config : Config) (g : Gathered) : Type 0 where

@@ -16,4 +16,4 @@ hints_in actors = min (sum_by actor_hints actors) (2 ^ 64 - 1)
 -- of the machine of a place in memory, if there is one
 abbrev pub place_hints : Option memory.Machine → ℕ
 place_hints None = 0
-place_hints (Some m) = hints_of (shown m)
+place_hints (Some machine) = hints_of (shown machine)

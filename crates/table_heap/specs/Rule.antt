@@ -16,7 +16,7 @@ IsBetween bounds address = (bounds.least ≤ address) × (address ≤ bounds.gre
 
 -- the passes all know the same
 abbrev pub AllKnow : List Bounds → Bounds → Type 0
-AllKnow views bounds = (port : ℕ) (u : Bounds) → get_elem? views port ≡ some u → u ≡ bounds
+AllKnow views bounds = (port : ℕ) (view : Bounds) → get_elem? views port ≡ some view → view ≡ bounds
 
 -- By how many bounds a pass knows: with none the deque is empty, with one it holds that address, and until both are known there is no
 -- other pass. Then each address that it holds lies between them.
@@ -27,7 +27,7 @@ IsKnown (suc (suc more)) bounds items views = All (IsBetween bounds) items × Al
 
 -- the rule
 abbrev pub AreHints : List ℕ → List Bounds → Type 0
-AreHints items views = (port : ℕ) (v : Bounds) → get_elem? views port ≡ some v → IsKnown v.known v items views
+AreHints items views = (port : ℕ) (view : Bounds) → get_elem? views port ≡ some view → IsKnown view.known view items views
 
 -- the bounds of a heap's addresses: the base of its first region, and the last word of its last one
 abbrev pub heap_bounds : Config → Bounds

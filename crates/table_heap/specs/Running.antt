@@ -72,7 +72,7 @@ next_for config jobs number = if nat_lt number config.mutators then next_of jobs
 
 -- no command gives it a turn any more: it has made its last step
 abbrev pub IsIdleForGood : Machine → Type 0
-IsIdleForGood machine = (next : Option Command) → order_for next machine ≡ None
+IsIdleForGood machine = (next_command : Option Command) → order_for next_command machine ≡ None
 
 -- so it is of all machines of the bundle
 abbrev pub AreIdleForGood : Bundle → Type 0

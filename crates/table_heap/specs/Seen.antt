@@ -9,11 +9,11 @@ abbrev pub config_of : Hints → Config
 config_of hints = hints.config
 
 abbrev pub config_in : Thief → Config
-config_in t = t.config
+config_in thief = thief.config
 
 -- it steals from this deque
 abbrev pub IsThiefOf : Hints → Thief → Type 0
-IsThiefOf hints t = stealer_deque t.stealer ≡ worker_deque hints.worker
+IsThiefOf hints thief = stealer_deque thief.stealer ≡ worker_deque hints.worker
 
 -- it is the same deque, whatever it holds
 abbrev pub IsSameDeque : Hints → Hints → Type 0

@@ -17,7 +17,7 @@ pub record StealsFrom (bundle other : Bundle) : Type 0 where
 -- each bundle with a lower number than this steals the hints of the bundle under the other number, if it is another
 abbrev pub StealFrom : (below : ℕ) → List Bundle → (number : ℕ) → Type 0
 StealFrom below bundles number =
-    (index : ℕ) (bundle other : Bundle) → index < below → index ≢ number → slice_get bundles index ≡ Some bundle → slice_get bundles number ≡ Some other → StealsFrom bundle other
+    (index : ℕ) (bundle other_bundle : Bundle) → index < below → index ≢ number → slice_get bundles index ≡ Some bundle → slice_get bundles number ≡ Some other_bundle → StealsFrom bundle other_bundle
 
 -- each of the bundles steals the hints of each other one
 abbrev pub StealFromEachOther : List Bundle → Type 0

@@ -16,8 +16,8 @@ use Rattle.table_heap.specs.State.{config_in, orders_of, machine_at, order_at, I
 -- What a machine may be ordered for its turn, where this command would follow: what it does then, or, where it takes hints, the hint of
 -- an address of the heap.
 abbrev pub IsOrderFor : Config → Option Command → Machine → Order → Type 0
-IsOrderFor config next machine order =
-    (order_for next machine ≡ Some order) ⊎ ((takes_hint machine ≡ true) × ((address : ℕ) × IsWord config (Heap address) × (order ≡ Hint address)))
+IsOrderFor config next_command machine order =
+    (order_for next_command machine ≡ Some order) ⊎ ((takes_hint machine ≡ true) × ((address : ℕ) × IsWord config (Heap address) × (order ≡ Hint address)))
 
 -- A machine has had its turn, where this command would follow: it was given its order, and then it made its step, which said so.
 pub record IsTurn (old new : Bundle) (next : Option Command) (number : ℕ) (said : Stepped) : Type 0 where
@@ -30,7 +30,7 @@ pub record IsTurn (old new : Bundle) (next : Option Command) (number : ℕ) (sai
 -- A machine has had so many turns, one after the other, in each of which it went on, whatever command would have followed.
 abbrev pub HasHadTurns : ℕ → (old new : Bundle) → ℕ → Type 0
 HasHadTurns zero old new number = new ≡ old
-HasHadTurns (suc count) old new number = (mid : Bundle) × HasHadTurns count old mid number × IsSameBundle mid new × ((next : Option Command) → IsTurn mid new next number More)
+HasHadTurns (suc count) old new number = (mid : Bundle) × HasHadTurns count old mid number × IsSameBundle mid new × ((next_command : Option Command) → IsTurn mid new next_command number More)
 
 -- Nothing but the hints of the bundle's own and of others has changed.
 pub record OnlyHintsDiffer (old new : Bundle) : Type 0 where

@@ -8,14 +8,14 @@ one-add n = omega arith
 
 -- how many bytes stand before the first separator
 abbrev pub count_before : ℕ → List ℕ → ℕ
-count_before s bytes = prefix_len (λ b. cond (eqb b s) false true) bytes
+count_before separator bytes = prefix_len (λ byte. cond (eqb byte separator) false true) bytes
 
 -- the first part, and those behind it
-pub cut_parts : (s : ℕ) (bytes : List ℕ) → parts s bytes ≡ take (count_before s bytes) bytes ∷ parts_behind s (drop (count_before s bytes) bytes)
-cut_parts s [] = refl
-cut_parts s (b ∷ bytes) = by_first (eqb b s) (cut_parts s bytes)
+pub cut_parts : (separator : ℕ) (bytes : List ℕ) → parts separator bytes ≡ take (count_before separator bytes) bytes ∷ parts_behind separator (drop (count_before separator bytes) bytes)
+cut_parts separator [] = refl
+cut_parts separator (byte ∷ bytes) = by_first (eqb byte separator) (cut_parts separator bytes)
   where
-    by_first : (first : Bool) → parts s bytes ≡ take (count_before s bytes) bytes ∷ parts_behind s (drop (count_before s bytes) bytes)
-        → cond first ([] ∷ parts s bytes) (onto_first b (parts s bytes)) ≡ take (cond (cond first false true) (1 + count_before s bytes) 0) (b ∷ bytes) ∷ parts_behind s (drop (cond (cond first false true) (1 + count_before s bytes) 0) (b ∷ bytes))
-    by_first true e = refl
-    by_first false e = rw one-add (ap (onto_first b) e)
+    by_first : (is_separator : Bool) → parts separator bytes ≡ take (count_before separator bytes) bytes ∷ parts_behind separator (drop (count_before separator bytes) bytes)
+        → cond is_separator ([] ∷ parts separator bytes) (onto_first byte (parts separator bytes)) ≡ take (cond (cond is_separator false true) (1 + count_before separator bytes) 0) (byte ∷ bytes) ∷ parts_behind separator (drop (cond (cond is_separator false true) (1 + count_before separator bytes) 0) (byte ∷ bytes))
+    by_first true later_parts = refl
+    by_first false later_parts = rw one-add (ap (onto_first byte) later_parts)

@@ -10,42 +10,42 @@ use Rattle.trace_reading.proofs.Leads.{commands_follow, turns_follow, first_line
 
 -- a line of a command, or of the schedule, stands there
 abbrev pub BeginsWithCommand : ℕ → Config → List ℕ → Type 0
-BeginsWithCommand version config bytes = (l : TraceLine) × (rest : List ℕ) × IsLine version config.mutators l × (bytes ≡ line l ++ rest)
+BeginsWithCommand version config bytes = (trace_line : TraceLine) × (rest : List ℕ) × IsLine version config.mutators trace_line × (bytes ≡ line trace_line ++ rest)
 
 abbrev pub BeginsWithTurn : Config → List ℕ → Type 0
 BeginsWithTurn config bytes = (items : List Item) × (rest : List ℕ) × IsScheduleLine config items × (bytes ≡ schedule_line items ++ rest)
 
-front : (text whole rest bytes : List ℕ) → text ++ 10 ∷ [] ≡ whole → bytes ≡ text ++ 10 ∷ rest → bytes ≡ whole ++ rest
-front text whole rest bytes same f = f ∙ sym (append_assoc text (10 ∷ []) rest) ∙ ap (λ (t : List ℕ). t ++ rest) same
+front : (text whole_text rest bytes : List ℕ) → text ++ 10 ∷ [] ≡ whole_text → bytes ≡ text ++ 10 ∷ rest → bytes ≡ whole_text ++ rest
+front text whole_text rest bytes whole_is text_there = text_there ∙ sym (append_assoc text (10 ∷ []) rest) ∙ ap (λ (any_text : List ℕ). any_text ++ rest) whole_is
 
 command_front : (version : ℕ) (config : Config) (bytes text rest : List ℕ) → parts 10 bytes ≡ text ∷ parts 10 rest → IsCommandLine version config text → BeginsWithCommand version config bytes
-command_front version config bytes text rest same it = (it.0, rest, it.1, front text (line it.0) rest bytes it.2 (bytes_of_line bytes text rest same))
+command_front version config bytes text rest parted command_line = (command_line.0, rest, command_line.1, front text (line command_line.0) rest bytes command_line.2 (bytes_of_line bytes text rest parted))
 
 turn_front : (config : Config) (bytes text rest : List ℕ) → parts 10 bytes ≡ text ∷ parts 10 rest → IsTurnItem config text → BeginsWithTurn config bytes
-turn_front config bytes text rest same it = (it.0, rest, it.1, front text (schedule_line it.0) rest bytes it.2 (bytes_of_line bytes text rest same))
+turn_front config bytes text rest parted turn_item = (turn_item.0, rest, turn_item.1, front text (schedule_line turn_item.0) rest bytes turn_item.2 (bytes_of_line bytes text rest parted))
 
 pub commands_spell : (version : ℕ) (config : Config) (bytes : List ℕ) → 1 ≤ length bytes → cause_of (Commands version config) (parts 10 bytes) ≡ None → BeginsWithCommand version config bytes ⊎ BeginsWithTurn config bytes
-commands_spell version config bytes positive none = by_first (first_line bytes).0 (first_line bytes).1 (first_line bytes).2
+commands_spell version config bytes some_bytes no_cause = by_first (first_line bytes).0 (first_line bytes).1 (first_line bytes).2
   where
     by_kind : (text rest : List ℕ) → parts 10 bytes ≡ text ∷ parts 10 rest → IsCommandLine version config text ⊎ IsTurnItem config text → BeginsWithCommand version config bytes ⊎ BeginsWithTurn config bytes
-    by_kind text rest e (inl it) = inl (command_front version config bytes text rest e it)
-    by_kind text rest e (inr it) = inr (turn_front config bytes text rest e it)
+    by_kind text rest parted (inl line_kind) = inl (command_front version config bytes text rest parted line_kind)
+    by_kind text rest parted (inr line_kind) = inr (turn_front config bytes text rest parted line_kind)
 
     last : (text : List ℕ) → bytes ≡ text → parts 10 bytes ≡ text ∷ [] → ⊥
-    last [] same e = absurd (omega (arith, positive, ap length same))
-    last (b ∷ text) same e = let cut = cut_line (Commands version config) bytes (b ∷ text) e in cc
+    last [] same_text parted = absurd (omega (arith, some_bytes, ap length same_text))
+    last (byte ∷ text) same_text parted = let cut = cut_line (Commands version config) bytes (byte ∷ text) parted in cc
 
     by_first : (text rest : List ℕ) → (parts 10 bytes ≡ text ∷ []) ⊎ (parts 10 bytes ≡ text ∷ parts 10 rest) → BeginsWithCommand version config bytes ⊎ BeginsWithTurn config bytes
-    by_first text rest (inl e) = absurd (last text (bytes_of_last bytes text e) e)
-    by_first text rest (inr e) = by_kind text rest e (commands_follow version config text (sym (whole_line (Commands version config) bytes text rest e) ∙ none))
+    by_first text rest (inl parted) = absurd (last text (bytes_of_last bytes text parted) parted)
+    by_first text rest (inr parted) = by_kind text rest parted (commands_follow version config text (sym (whole_line (Commands version config) bytes text rest parted) ∙ no_cause))
 
 pub turns_spell : (config : Config) (bytes : List ℕ) → 1 ≤ length bytes → cause_of (Turns config) (parts 10 bytes) ≡ None → BeginsWithTurn config bytes
-turns_spell config bytes positive none = by_first (first_line bytes).0 (first_line bytes).1 (first_line bytes).2
+turns_spell config bytes some_bytes no_cause = by_first (first_line bytes).0 (first_line bytes).1 (first_line bytes).2
   where
     last : (text : List ℕ) → bytes ≡ text → parts 10 bytes ≡ text ∷ [] → ⊥
-    last [] same e = absurd (omega (arith, positive, ap length same))
-    last (b ∷ text) same e = let cut = cut_line (Turns config) bytes (b ∷ text) e in cc
+    last [] same_text parted = absurd (omega (arith, some_bytes, ap length same_text))
+    last (byte ∷ text) same_text parted = let cut = cut_line (Turns config) bytes (byte ∷ text) parted in cc
 
     by_first : (text rest : List ℕ) → (parts 10 bytes ≡ text ∷ []) ⊎ (parts 10 bytes ≡ text ∷ parts 10 rest) → BeginsWithTurn config bytes
-    by_first text rest (inl e) = absurd (last text (bytes_of_last bytes text e) e)
-    by_first text rest (inr e) = turn_front config bytes text rest e (turns_follow config text (sym (whole_line (Turns config) bytes text rest e) ∙ none))
+    by_first text rest (inl parted) = absurd (last text (bytes_of_last bytes text parted) parted)
+    by_first text rest (inr parted) = turn_front config bytes text rest parted (turns_follow config text (sym (whole_line (Turns config) bytes text rest parted) ∙ no_cause))

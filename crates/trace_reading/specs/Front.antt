@@ -8,17 +8,17 @@ use Rattle.trace_reading.specs.Spelling.{newline, number_of, IsItem}
 -- no digit stands at the front
 abbrev pub NoDigit : List ℕ → Type 0
 NoDigit [] = Unit {0}
-NoDigit (b ∷ bytes) = is_ascii_digit b ≡ false
+NoDigit (byte ∷ bytes) = is_ascii_digit byte ≡ false
 
 -- the line ends here
 abbrev pub IsLineEnd : List ℕ → Type 0
 IsLineEnd [] = ⊥
-IsLineEnd (b ∷ bytes) = b ≡ newline
+IsLineEnd (byte ∷ bytes) = byte ≡ newline
 
 -- no line of a command begins here: the bytes end, or a line of the schedule follows
 abbrev pub IsBehindCommands : List ℕ → Type 0
 IsBehindCommands [] = Unit {0}
-IsBehindCommands (b ∷ bytes) = b ≡ 33
+IsBehindCommands (byte ∷ bytes) = byte ≡ 33
 
 -- The bytes begin with this, as it is spelled, and go on with the rest. They begin with nothing else of the kind that ends
 -- before a byte that is no digit.

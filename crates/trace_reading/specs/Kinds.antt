@@ -50,42 +50,42 @@ limits Unpin = 3 ∷ []
 
 -- the command of a kind with these numbers
 abbrev pub command_from : CommandKind → List ℕ → Command
-command_from New ns = command.New (slice_index ns 0) (slice_index ns 1) (slice_index ns 2)
-command_from Get ns = command.Get (slice_index ns 0) (slice_index ns 1) (slice_index ns 2)
-command_from Set ns = command.Set (slice_index ns 0) (slice_index ns 1) (slice_index ns 2)
-command_from Cas ns = command.Cas (slice_index ns 0) (slice_index ns 1) (slice_index ns 2) (slice_index ns 3)
-command_from Xchg ns = command.Xchg (slice_index ns 0) (slice_index ns 1) (slice_index ns 2) (slice_index ns 3)
-command_from Rd ns = command.Rd (slice_index ns 0) (slice_index ns 1)
-command_from Wr ns = command.Wr (slice_index ns 0) (slice_index ns 1) (slice_index ns 2)
-command_from Copy ns = command.Copy (slice_index ns 0) (slice_index ns 1)
-command_from Drop ns = command.Drop (slice_index ns 0)
-command_from Same ns = command.Same (slice_index ns 0) (slice_index ns 1)
-command_from Gc ns = command.Gc
-command_from Pin ns = command.Pin (slice_index ns 0) (slice_index ns 1)
-command_from Unpin ns = command.Unpin (slice_index ns 0)
+command_from New numbers = command.New (slice_index numbers 0) (slice_index numbers 1) (slice_index numbers 2)
+command_from Get numbers = command.Get (slice_index numbers 0) (slice_index numbers 1) (slice_index numbers 2)
+command_from Set numbers = command.Set (slice_index numbers 0) (slice_index numbers 1) (slice_index numbers 2)
+command_from Cas numbers = command.Cas (slice_index numbers 0) (slice_index numbers 1) (slice_index numbers 2) (slice_index numbers 3)
+command_from Xchg numbers = command.Xchg (slice_index numbers 0) (slice_index numbers 1) (slice_index numbers 2) (slice_index numbers 3)
+command_from Rd numbers = command.Rd (slice_index numbers 0) (slice_index numbers 1)
+command_from Wr numbers = command.Wr (slice_index numbers 0) (slice_index numbers 1) (slice_index numbers 2)
+command_from Copy numbers = command.Copy (slice_index numbers 0) (slice_index numbers 1)
+command_from Drop numbers = command.Drop (slice_index numbers 0)
+command_from Same numbers = command.Same (slice_index numbers 0) (slice_index numbers 1)
+command_from Gc numbers = command.Gc
+command_from Pin numbers = command.Pin (slice_index numbers 0) (slice_index numbers 1)
+command_from Unpin numbers = command.Unpin (slice_index numbers 0)
 
 -- these numbers are within these limits
 abbrev pub AreWithinLimits : List ℕ → List ℕ → Type 0
 AreWithinLimits [] [] = Unit {0}
-AreWithinLimits [] (n ∷ ns) = ⊥
+AreWithinLimits [] (number ∷ later_numbers) = ⊥
 AreWithinLimits (limit ∷ limits) [] = ⊥
-AreWithinLimits (limit ∷ limits) (n ∷ ns) = (n ≤ limit) × AreWithinLimits limits ns
+AreWithinLimits (limit ∷ limits) (number ∷ later_numbers) = (number ≤ limit) × AreWithinLimits limits later_numbers
 
 -- the first of these numbers are within the limits of the kind
 abbrev pub Suit : CommandKind → List ℕ → Type 0
-Suit New ns = (slice_index ns 0 ≤ 15) × (slice_index ns 1 ≤ 16) × (slice_index ns 2 ≤ 16)
-Suit Get ns = (slice_index ns 0 ≤ 15) × (slice_index ns 1 ≤ 15) × (slice_index ns 2 ≤ 31)
-Suit Set ns = (slice_index ns 0 ≤ 15) × (slice_index ns 1 ≤ 31) × (slice_index ns 2 ≤ 15)
-Suit Cas ns = (slice_index ns 0 ≤ 15) × (slice_index ns 1 ≤ 31) × (slice_index ns 2 ≤ 15) × (slice_index ns 3 ≤ 15)
-Suit Xchg ns = (slice_index ns 0 ≤ 15) × (slice_index ns 1 ≤ 15) × (slice_index ns 2 ≤ 31) × (slice_index ns 3 ≤ 15)
-Suit Rd ns = (slice_index ns 0 ≤ 15) × (slice_index ns 1 ≤ 31)
-Suit Wr ns = (slice_index ns 0 ≤ 15) × (slice_index ns 1 ≤ 31)
-Suit Copy ns = (slice_index ns 0 ≤ 15) × (slice_index ns 1 ≤ 15)
-Suit Drop ns = slice_index ns 0 ≤ 15
-Suit Same ns = (slice_index ns 0 ≤ 15) × (slice_index ns 1 ≤ 15)
-Suit Gc ns = Unit {0}
-Suit Pin ns = (slice_index ns 0 ≤ 3) × (slice_index ns 1 ≤ 15)
-Suit Unpin ns = slice_index ns 0 ≤ 3
+Suit New numbers = (slice_index numbers 0 ≤ 15) × (slice_index numbers 1 ≤ 16) × (slice_index numbers 2 ≤ 16)
+Suit Get numbers = (slice_index numbers 0 ≤ 15) × (slice_index numbers 1 ≤ 15) × (slice_index numbers 2 ≤ 31)
+Suit Set numbers = (slice_index numbers 0 ≤ 15) × (slice_index numbers 1 ≤ 31) × (slice_index numbers 2 ≤ 15)
+Suit Cas numbers = (slice_index numbers 0 ≤ 15) × (slice_index numbers 1 ≤ 31) × (slice_index numbers 2 ≤ 15) × (slice_index numbers 3 ≤ 15)
+Suit Xchg numbers = (slice_index numbers 0 ≤ 15) × (slice_index numbers 1 ≤ 15) × (slice_index numbers 2 ≤ 31) × (slice_index numbers 3 ≤ 15)
+Suit Rd numbers = (slice_index numbers 0 ≤ 15) × (slice_index numbers 1 ≤ 31)
+Suit Wr numbers = (slice_index numbers 0 ≤ 15) × (slice_index numbers 1 ≤ 31)
+Suit Copy numbers = (slice_index numbers 0 ≤ 15) × (slice_index numbers 1 ≤ 15)
+Suit Drop numbers = slice_index numbers 0 ≤ 15
+Suit Same numbers = (slice_index numbers 0 ≤ 15) × (slice_index numbers 1 ≤ 15)
+Suit Gc numbers = Unit {0}
+Suit Pin numbers = (slice_index numbers 0 ≤ 3) × (slice_index numbers 1 ≤ 15)
+Suit Unpin numbers = slice_index numbers 0 ≤ 3
 
 -- a command of the kind is on a field or a number of an object
 abbrev pub IsOnObject : CommandKind → Type 0

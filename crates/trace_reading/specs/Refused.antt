@@ -28,43 +28,43 @@ body_stage version config true = Turns config
 -- ---- the lines of a trace
 
 abbrev pub IsCommandLine : (version : ℕ) → Config → List ℕ → Type 0
-IsCommandLine version config text = (l : TraceLine) × IsLine version config.mutators l × (text ++ newline ∷ [] ≡ line l)
+IsCommandLine version config text = (trace_line : TraceLine) × IsLine version config.mutators trace_line × (text ++ newline ∷ [] ≡ line trace_line)
 
 abbrev pub IsTurnItem : Config → List ℕ → Type 0
 IsTurnItem config text = (items : List Item) × IsScheduleLine config items × (text ++ newline ∷ [] ≡ schedule_line items)
 
 -- this text, with the end of its line, is a line of the grammar there, and what is to stand on the next
 abbrev pub LineFollows : LineStage → List ℕ → LineStage → Type 0
-LineFollows Version text next = (version : ℕ) × IsVersion version × (text ++ newline ∷ [] ≡ titled (codes "shen") (version ∷ [])) × (next ≡ Heap version)
-LineFollows (Heap version) text next = (config : Config) × IsNarrow config × (text ++ newline ∷ [] ≡ titled (codes "heap") (config.regions ∷ config.region_words ∷ config.reserve ∷ [])) × (next ≡ Threads version config.regions config.region_words config.reserve)
-LineFollows (Threads version regions region_words reserve) text next = (config : Config) × (config.regions ≡ regions) × (config.region_words ≡ region_words) × (config.reserve ≡ reserve) × (text ++ newline ∷ [] ≡ titled (codes "threads") (config.mutators ∷ config.helpers ∷ [])) × (next ≡ Commands version config)
-LineFollows (Commands version config) text next = (IsCommandLine version config text × (next ≡ Commands version config)) ⊎ (IsTurnItem config text × (next ≡ Turns config))
-LineFollows (Turns config) text next = IsTurnItem config text × (next ≡ Turns config)
+LineFollows Version text next_stage = (version : ℕ) × IsVersion version × (text ++ newline ∷ [] ≡ titled (codes "shen") (version ∷ [])) × (next_stage ≡ Heap version)
+LineFollows (Heap version) text next_stage = (config : Config) × IsNarrow config × (text ++ newline ∷ [] ≡ titled (codes "heap") (config.regions ∷ config.region_words ∷ config.reserve ∷ [])) × (next_stage ≡ Threads version config.regions config.region_words config.reserve)
+LineFollows (Threads version regions region_words reserve) text next_stage = (config : Config) × (config.regions ≡ regions) × (config.region_words ≡ region_words) × (config.reserve ≡ reserve) × (text ++ newline ∷ [] ≡ titled (codes "threads") (config.mutators ∷ config.helpers ∷ [])) × (next_stage ≡ Commands version config)
+LineFollows (Commands version config) text next_stage = (IsCommandLine version config text × (next_stage ≡ Commands version config)) ⊎ (IsTurnItem config text × (next_stage ≡ Turns config))
+LineFollows (Turns config) text next_stage = IsTurnItem config text × (next_stage ≡ Turns config)
 
 -- these lines follow one on the other
 abbrev pub Lead : LineStage → List (List ℕ) → LineStage → Type 0
 Lead stage [] end = stage ≡ end
-Lead stage (text ∷ texts) end = (next : LineStage) × LineFollows stage text next × Lead next texts end
+Lead stage (text ∷ texts) end = (next_stage : LineStage) × LineFollows stage text next_stage × Lead next_stage texts end
 
 -- ---- the first line that is none
 
 -- a line of a command or of the schedule, by its words
 abbrev pub body_cause : Config → Option Why → List (List ℕ) → Option Why
-body_cause config other [] = other
-body_cause config other (w ∷ ws) = if is_same w (33 ∷ []) then schedule_cause config ws else other
+body_cause config other_cause [] = other_cause
+body_cause config other_cause (first_word ∷ later_words) = if is_same first_word (33 ∷ []) then schedule_cause config later_words else other_cause
 
 -- a line of a command, by its words
 abbrev pub command_line_cause : (version : ℕ) → Config → List (List ℕ) → Option Why
 command_line_cause version config [] = None
-command_line_cause version config (w ∷ ws) = command_cause version config.mutators w ws
+command_line_cause version config (first_word ∷ later_words) = command_cause version config.mutators first_word later_words
 
 -- the first cause that holds for a line with these words
 unfoldable pub words_cause : LineStage → List (List ℕ) → Option Why
-words_cause Version ws = title_cause (codes "shen") version_ranges ws
-words_cause (Heap version) ws = title_cause (codes "heap") (heap_ranges ws) ws
-words_cause (Threads version regions region_words reserve) ws = title_cause (codes "threads") threads_ranges ws
-words_cause (Commands version config) ws = body_cause config (command_line_cause version config ws) ws
-words_cause (Turns config) ws = body_cause config (Some ScheduleLast) ws
+words_cause Version words = title_cause (codes "shen") version_ranges words
+words_cause (Heap version) words = title_cause (codes "heap") (heap_ranges words) words
+words_cause (Threads version regions region_words reserve) words = title_cause (codes "threads") threads_ranges words
+words_cause (Commands version config) words = body_cause config (command_line_cause version config words) words
+words_cause (Turns config) words = body_cause config (Some ScheduleLast) words
 
 -- the bytes end here, with this text behind the last end of a line
 abbrev pub end_cause : LineStage → List ℕ → Option Why
@@ -76,7 +76,7 @@ end_cause _ text = Some EndOfLine
 unfoldable pub cause_of : LineStage → List (List ℕ) → Option Why
 cause_of stage [] = None
 cause_of stage (text ∷ []) = end_cause stage text
-cause_of stage (text ∷ next ∷ more) = words_cause stage (parts space text)
+cause_of stage (text ∷ next_text ∷ rest) = words_cause stage (parts space text)
 
 -- Line n, counted from 1, is the first that is outside the grammar, and why is the first cause that holds for it.
 pub record StopsAt (bytes : List ℕ) (n : ℕ) (why : Why) : Type 0 where

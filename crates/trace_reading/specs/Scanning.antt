@@ -16,8 +16,8 @@ o >>= f = option_and_then f o
 -- what is behind a text at the front
 abbrev pub behind : List ℕ → List ℕ → Option (List ℕ)
 behind [] bytes = Some bytes
-behind (t ∷ text) [] = None
-behind (t ∷ text) (b ∷ bytes) = if b == t then behind text bytes else None
+behind (wanted_byte ∷ text) [] = None
+behind (wanted_byte ∷ text) (byte ∷ bytes) = if byte == wanted_byte then behind text bytes else None
 
 -- how many digits stand at the front
 abbrev pub digit_count : List ℕ → ℕ

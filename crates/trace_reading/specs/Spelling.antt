@@ -21,7 +21,7 @@ newline = 10
 
 -- each number, after one space
 abbrev pub numbers : List ℕ → List ℕ
-numbers ns = flat_map (λ n. space ∷ decimal n) ns
+numbers given_numbers = flat_map (λ number. space ∷ decimal number) given_numbers
 
 -- the word of a command
 abbrev pub command_word : Command → List ℕ
@@ -34,7 +34,7 @@ command_word (Rd obj index) = codes "rd"
 command_word (Wr obj index value) = codes "wr"
 command_word (Copy dst src) = codes "copy"
 command_word (Drop dst) = codes "drop"
-command_word (Same a b) = codes "same"
+command_word (Same root other_root) = codes "same"
 command_word Gc = codes "gc"
 command_word (Pin slot obj) = codes "pin"
 command_word (Unpin slot) = codes "unpin"
@@ -50,7 +50,7 @@ numbers_of (Rd obj index) = obj ∷ index ∷ []
 numbers_of (Wr obj index value) = obj ∷ index ∷ value ∷ []
 numbers_of (Copy dst src) = dst ∷ src ∷ []
 numbers_of (Drop dst) = dst ∷ []
-numbers_of (Same a b) = a ∷ b ∷ []
+numbers_of (Same root other_root) = root ∷ other_root ∷ []
 numbers_of Gc = []
 numbers_of (Pin slot obj) = slot ∷ obj ∷ []
 numbers_of (Unpin slot) = slot ∷ []
@@ -88,7 +88,7 @@ pub record IsLine (version threads : ℕ) (line : TraceLine) : Type 0 where
 
 -- a title and numbers, on a line of their own
 abbrev pub titled : List ℕ → List ℕ → List ℕ
-titled title ns = title ++ (numbers ns ++ newline ∷ [])
+titled title given_numbers = title ++ (numbers given_numbers ++ newline ∷ [])
 
 -- the three lines at the head of a trace of a version
 abbrev pub header : ℕ → Config → List ℕ
@@ -110,11 +110,11 @@ aim (Replies number count) = 61 ∷ decimal count
 
 -- an item: the machine, counted from 1, and how far it goes
 abbrev pub item : Item → List ℕ
-item i = decimal (number_of i + 1) ++ aim i
+item schedule_item = decimal (number_of schedule_item + 1) ++ aim schedule_item
 
 -- each item, after one space
 abbrev pub spaced_item : Item → List ℕ
-spaced_item i = space ∷ item i
+spaced_item schedule_item = space ∷ item schedule_item
 
 -- the items of a line, and its end
 abbrev pub items_and_end : List Item → List ℕ
@@ -126,7 +126,7 @@ schedule_line items = 33 ∷ items_and_end items
 
 -- a number from 1 on, at most so large
 abbrev pub IsUpTo : ℕ → ℕ → Type 0
-IsUpTo most n = (1 ≤ n) × (n ≤ most)
+IsUpTo most number = (1 ≤ number) × (number ≤ most)
 
 -- a count of steps or of replies
 abbrev pub IsCount : ℕ → Type 0

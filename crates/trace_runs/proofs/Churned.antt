@@ -29,8 +29,8 @@ use Rattle.trace_runs.proofs.Coming.{come_past, come_whole, come_told}
 -- ---- the scripts
 
 -- the commands of a round are valid
-round_valid : (seed i : ℕ) → AllByRecursion IsValid (round seed i)
-round_valid seed i = (
+round_valid : (seed turn : ℕ) → AllByRecursion IsValid (round seed turn)
+round_valid seed turn = (
   (omega arith, omega arith, omega arith),
   (
     (omega arith, omega arith),
@@ -58,41 +58,41 @@ round_valid seed i = (
 
 rounds_valid : (seed : ℕ) (rounds : List ℕ) → AllByRecursion IsValid (flat_map (round seed) rounds)
 rounds_valid seed [] = tt
-rounds_valid seed (i ∷ rounds) = all_append IsValid (round seed i) (flat_map (round seed) rounds) (round_valid seed i) (rounds_valid seed rounds)
+rounds_valid seed (turn ∷ rounds) = all_append IsValid (round seed turn) (flat_map (round seed) rounds) (round_valid seed turn) (rounds_valid seed rounds)
 
 -- a round has eight
 rounds_long : (seed : ℕ) (rounds : List ℕ) → length (flat_map (round seed) rounds) ≡ 8 * length rounds
 rounds_long seed [] = refl
-rounds_long seed (i ∷ rounds) = omega (arith, length-append (round seed i) (flat_map (round seed) rounds), rounds_long seed rounds)
+rounds_long seed (turn ∷ rounds) = omega (arith, length-append (round seed turn) (flat_map (round seed) rounds), rounds_long seed rounds)
 
 script_runnable : (seed count thread : ℕ) → thread ≤ 31 → count ≤ most_rounds → IsRunnable (churn_script seed count thread)
-script_runnable seed count thread low small = (
+script_runnable seed count thread thread_low few_rounds = (
   All-from_recursion IsValid (churn_script seed count thread) ((omega arith, omega arith, omega arith), ((omega arith, omega arith, omega arith), rounds_valid seed (range_with_len 0 count))),
   omega (arith, rounds_long seed (range_with_len 0 count), length-range_with_len 0 count),
 )
 
 pub churn_runnable : (seed count : ℕ) → count ≤ most_rounds → All IsRunnable (churn_scripts seed count)
-churn_runnable seed count small =
+churn_runnable seed count few_rounds =
     All-from_recursion IsRunnable (churn_scripts seed count)
-    (script_runnable seed count 1 (omega arith) small, (script_runnable seed count 2 (omega arith) small, (script_runnable seed count 3 (omega arith) small, tt)))
+    (script_runnable seed count 1 (omega arith) few_rounds, (script_runnable seed count 2 (omega arith) few_rounds, (script_runnable seed count 3 (omega arith) few_rounds, tt)))
 
 -- ---- the history
 
-module _ (seed count : ℕ) (config : Config) (scripts : Scripts) (jobs : Jobs) (end : Closed) (sizes : IsChurnHeap config) (are : scripts ≡ churn_scripts seed count) (done : HasCome config scripts jobs end) where
+module _ (seed count : ℕ) (config : Config) (scripts : Scripts) (jobs : Jobs) (end : Closed) (sizes : IsChurnHeap config) (scripts_are : scripts ≡ churn_scripts seed count) (has_come : HasCome config scripts jobs end) where
   pub three : length scripts ≡ config.mutators
-  three = ap (λ (ss : Scripts). length ss) are ∙ sym sizes.mutators
+  three = ap (λ (some_scripts : Scripts). length some_scripts) scripts_are ∙ sym sizes.mutators
 
   abbrev pub entries : List Entry
-  entries = come_past config scripts jobs end done
+  entries = come_past config scripts jobs end has_come
 
   pub churn_run : churn.IsWorkloadRun seed count entries
   churn_run =
-      let whole : IsWhole config scripts done.reached.events = come_whole config scripts jobs end done three in
+      let is_whole : IsWhole config scripts has_come.reached.events = come_whole config scripts jobs end has_come three in
       record {
-        follows = subst (λ (ss : Scripts). Follows ss entries) are whole.follows;
-        legal = subst (λ (ss : Scripts). IsLegalHistory 16 256 ss entries) are
+        follows = subst (λ (some_scripts : Scripts). Follows some_scripts entries) scripts_are is_whole.follows;
+        legal = subst (λ (some_scripts : Scripts). IsLegalHistory 16 256 some_scripts entries) scripts_are
             (subst (λ (region_words : ℕ). IsLegalHistory 16 region_words scripts entries) sizes.region_words
-            (subst (λ (regions : ℕ). IsLegalHistory regions config.region_words scripts entries) sizes.regions whole.legal));
+            (subst (λ (regions : ℕ). IsLegalHistory regions config.region_words scripts entries) sizes.regions is_whole.legal));
       }
 
   pub churn_tells : (text : Text) → texts.ShowsGraph text config.mutators (after (first_graph config) entries) → churn.TellsRun entries jobs text.rows
@@ -101,7 +101,7 @@ module _ (seed count : ℕ) (config : Config) (scripts : Scripts) (jobs : Jobs) 
       subst (λ (threads : ℕ). texts.ShowsGraph text threads (after (opening threads) entries)) sizes.mutators shown in
       record {
         names = names_of text;
-        replies = λ m below. come_told config scripts jobs end done m (omega (arith, below, sizes.mutators));
+        replies = λ mutator mutator_below. come_told config scripts jobs end has_come mutator (omega (arith, mutator_below, sizes.mutators));
         reach = shows.reach;
         objects = shows.rows;
       }
@@ -112,7 +112,7 @@ module _ (seed count : ℕ) (config : Config) (scripts : Scripts) (jobs : Jobs) 
 
 -- the numbers of a churn are not large
 pub small_sum : (seed count : ℕ) → seed ≤ most_seed → count ≤ most_rounds → (6 + 24 * count) * (seed + count) ≤ 480006 * 1020000
-small_sum seed count small at_most =
-    let more : seed + count ≤ 1020000 = omega (arith, small, at_most) in
-    let long : 6 + 24 * count ≤ 480006 = omega (arith, at_most) in
-    le_trans (mul-le-mul_left (6 + 24 * count) more) (mul-le-mul_right 1020000 long)
+small_sum seed count seed_small at_most =
+    let sum_small : seed + count ≤ 1020000 = omega (arith, seed_small, at_most) in
+    let words_few : 6 + 24 * count ≤ 480006 = omega (arith, at_most) in
+    le_trans (mul-le-mul_left (6 + 24 * count) sum_small) (mul-le-mul_right 1020000 words_few)

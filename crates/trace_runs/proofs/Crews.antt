@@ -13,75 +13,75 @@ use Rattle.trace_runs.specs.DealtParts.{crew_of}
 -- ---- lists
 
 -- so many users are there of bundles that are not past all mutators
-pub crew_count : (firsts : List Use) (a beyond : ℕ) → length (crew_of firsts a beyond) ≡ min beyond (length firsts) - a
-crew_count firsts a beyond = length-drop a (take beyond firsts) ∙ ap (λ n. n - a) (length-take beyond firsts)
+pub crew_count : (firsts : List Use) (start beyond : ℕ) → length (crew_of firsts start beyond) ≡ min beyond (length firsts) - start
+crew_count firsts start beyond = length-drop start (take beyond firsts) ∙ ap (λ count. count - start) (length-take beyond firsts)
 
 -- the users of some bundles, and then those of the next ones
-pub crew_joined : (firsts : List Use) (a beyond other_beyond : ℕ) → a ≤ beyond → beyond ≤ other_beyond → crew_of firsts a beyond ++ crew_of firsts beyond other_beyond ≡ crew_of firsts a other_beyond
-crew_joined firsts a beyond c low high =
-    let same : beyond + (c - beyond) ≡ c = omega (arith, high) in
-    let all : take c firsts ≡ take beyond firsts ++ drop beyond (take c firsts) =
-    subst (λ k. take k firsts ≡ take beyond firsts ++ drop beyond (take k firsts)) same
-    (take-add beyond (c - beyond) firsts ∙ ap (λ xs. take beyond firsts ++ xs) (sym (drop-take beyond (c - beyond) firsts))) in
+pub crew_joined : (firsts : List Use) (start beyond last_beyond : ℕ) → start ≤ beyond → beyond ≤ last_beyond → crew_of firsts start beyond ++ crew_of firsts beyond last_beyond ≡ crew_of firsts start last_beyond
+crew_joined firsts start beyond end_beyond start_before beyond_before =
+    let same_end : beyond + (end_beyond - beyond) ≡ end_beyond = omega (arith, beyond_before) in
+    let split_list : take end_beyond firsts ≡ take beyond firsts ++ drop beyond (take end_beyond firsts) =
+    subst (λ end. take end firsts ≡ take beyond firsts ++ drop beyond (take end firsts)) same_end
+    (take-add beyond (end_beyond - beyond) firsts ∙ ap (λ xs. take beyond firsts ++ xs) (sym (drop-take beyond (end_beyond - beyond) firsts))) in
     ⊎_elim
-    (λ (past : length firsts < a).
-    let front : drop a (take beyond firsts) ≡ [] = drop_all a (take beyond firsts) (let e = length-take beyond firsts in omega (arith, e, past)) in
-    let rest : drop beyond (take c firsts) ≡ [] = drop_all beyond (take c firsts) (let e = length-take c firsts in omega (arith, e, past, low)) in
-    let whole : drop a (take c firsts) ≡ [] = drop_all a (take c firsts) (let e = length-take c firsts in omega (arith, e, past)) in
-    ap (λ xs. xs ++ drop beyond (take c firsts)) front ∙ rest ∙ sym whole)
-    (λ (within : a ≤ length firsts).
-    sym (ap (drop a) all ∙ drop-append-le a (take beyond firsts) (drop beyond (take c firsts)) (let e = length-take beyond firsts in omega (arith, e, low, within))))
-    (cases_lt (length firsts) a)
+    (λ (start_past : length firsts < start).
+    let front : drop start (take beyond firsts) ≡ [] = drop_all start (take beyond firsts) (let taken_length = length-take beyond firsts in omega (arith, taken_length, start_past)) in
+    let no_rest : drop beyond (take end_beyond firsts) ≡ [] = drop_all beyond (take end_beyond firsts) (let taken_length = length-take end_beyond firsts in omega (arith, taken_length, start_past, start_before)) in
+    let none_left : drop start (take end_beyond firsts) ≡ [] = drop_all start (take end_beyond firsts) (let taken_length = length-take end_beyond firsts in omega (arith, taken_length, start_past)) in
+    ap (λ xs. xs ++ drop beyond (take end_beyond firsts)) front ∙ no_rest ∙ sym none_left)
+    (λ (start_within : start ≤ length firsts).
+    sym (ap (drop start) split_list ∙ drop-append-le start (take beyond firsts) (drop beyond (take end_beyond firsts)) (let taken_length = length-take beyond firsts in omega (arith, taken_length, start_before, start_within))))
+    (cases_lt (length firsts) start)
 
 -- a user of some bundles is one of all
-pub crew_at : (firsts : List Use) (a beyond index : ℕ) (use_of : Use) → a ≤ index → slice_get (crew_of firsts a beyond) (index - a) ≡ Some use_of → slice_get firsts index ≡ Some use_of
-crew_at firsts a beyond index use_of low here =
-    let within : index - a < length (crew_of firsts a beyond) = slice_get_within (crew_of firsts a beyond) (index - a) use_of here in
-    let count = crew_count firsts a beyond in
-    let below : index < length firsts = omega (arith, within, count, low) in
-    let under : index < beyond = omega (arith, within, count, low) in
-    let back : a + (index - a) ≡ index = omega (arith, low) in
-    let same : get_or firsts index use_of ≡ use_of =
-    sym (get_or-take beyond firsts index use_of under) ∙ ap (λ index. get_or (take beyond firsts) index use_of) (sym back) ∙ sym (get_or-drop a (take beyond firsts) (index - a) use_of)
-    ∙ get_or_from_slice_get (crew_of firsts a beyond) (index - a) use_of use_of here in
-    slice_get-get_or firsts index use_of below ∙ ap Some same
+pub crew_at : (firsts : List Use) (start beyond index : ℕ) (use_of : Use) → start ≤ index → slice_get (crew_of firsts start beyond) (index - start) ≡ Some use_of → slice_get firsts index ≡ Some use_of
+crew_at firsts start beyond index use_of start_before use_there =
+    let index_within : index - start < length (crew_of firsts start beyond) = slice_get_within (crew_of firsts start beyond) (index - start) use_of use_there in
+    let count = crew_count firsts start beyond in
+    let index_below : index < length firsts = omega (arith, index_within, count, start_before) in
+    let index_before : index < beyond = omega (arith, index_within, count, start_before) in
+    let same_index : start + (index - start) ≡ index = omega (arith, start_before) in
+    let same_use : get_or firsts index use_of ≡ use_of =
+    sym (get_or-take beyond firsts index use_of index_before) ∙ ap (λ index. get_or (take beyond firsts) index use_of) (sym same_index) ∙ sym (get_or-drop start (take beyond firsts) (index - start) use_of)
+    ∙ get_or_from_slice_get (crew_of firsts start beyond) (index - start) use_of use_of use_there in
+    slice_get-get_or firsts index use_of index_below ∙ ap Some same_use
 
-pub at_front : (uses other_uses : List Use) (index : ℕ) (use_of : Use) → slice_get uses index ≡ Some use_of → slice_get (uses ++ other_uses) index ≡ Some use_of
-at_front [] uses zero use_of here = absurd cc
-at_front [] uses (suc index) use_of here = absurd cc
-at_front (other_use_of ∷ rest) uses zero use_of here = here
-at_front (other_use_of ∷ rest) uses (suc index) use_of here = at_front rest uses index use_of here
+pub at_front : (uses later_uses : List Use) (index : ℕ) (use_of : Use) → slice_get uses index ≡ Some use_of → slice_get (uses ++ later_uses) index ≡ Some use_of
+at_front [] uses zero use_of use_there = absurd cc
+at_front [] uses (suc index) use_of use_there = absurd cc
+at_front (first_use ∷ rest) uses zero use_of use_there = use_there
+at_front (first_use ∷ rest) uses (suc index) use_of use_there = at_front rest uses index use_of use_there
 
-pub at_back : (uses other_uses : List Use) (index other_index : ℕ) (use_of : Use) → other_index ≡ length uses + index → slice_get other_uses index ≡ Some use_of → slice_get (uses ++ other_uses) other_index ≡ Some use_of
-at_back [] uses index other_index use_of is here = ap (slice_get uses) (let same : other_index ≡ index = omega (arith, is) in same) ∙ here
-at_back (other_use_of ∷ rest) uses index zero use_of is here = absurd (omega (arith, is))
-at_back (other_use_of ∷ rest) uses index (suc other_index) use_of is here = at_back rest uses index other_index use_of (omega (arith, is)) here
+pub at_back : (uses later_uses : List Use) (index joined_index : ℕ) (use_of : Use) → joined_index ≡ length uses + index → slice_get later_uses index ≡ Some use_of → slice_get (uses ++ later_uses) joined_index ≡ Some use_of
+at_back [] uses index joined_index use_of joined_is use_there = ap (slice_get uses) (let same_index : joined_index ≡ index = omega (arith, joined_is) in same_index) ∙ use_there
+at_back (first_use ∷ rest) uses index zero use_of joined_is use_there = absurd (omega (arith, joined_is))
+at_back (first_use ∷ rest) uses index (suc joined_index) use_of joined_is use_there = at_back rest uses index joined_index use_of (omega (arith, joined_is)) use_there
 
 -- the user of one bundle
-pub crew_one : (firsts : List Use) (index m : ℕ) (use_of : Use) → m ≡ suc index → slice_get firsts index ≡ Some use_of → drop index (take m firsts) ≡ use_of ∷ []
-crew_one [] index m use_of same here = absurd (let past = sym (slice_get_past [] index (omega arith)) ∙ here in cc)
-crew_one (other_use_of ∷ rest) zero m use_of e here = subst (λ n. drop 0 (take n (other_use_of ∷ rest)) ≡ use_of ∷ []) (sym e) (ap (λ y. y ∷ []) (let same : other_use_of ≡ use_of = cc in same))
-crew_one (other_use_of ∷ rest) (suc index) m use_of same here = subst (λ n. drop (suc index) (take n (other_use_of ∷ rest)) ≡ use_of ∷ []) (sym same) (crew_one rest index (suc index) use_of refl here)
+pub crew_one : (firsts : List Use) (index count : ℕ) (use_of : Use) → count ≡ suc index → slice_get firsts index ≡ Some use_of → drop index (take count firsts) ≡ use_of ∷ []
+crew_one [] index count use_of same_use use_there = absurd (let none_past = sym (slice_get_past [] index (omega arith)) ∙ use_there in cc)
+crew_one (first_use ∷ rest) zero count use_of count_is use_there = subst (λ taken_count. drop 0 (take taken_count (first_use ∷ rest)) ≡ use_of ∷ []) (sym count_is) (ap (λ y. y ∷ []) (let same_use : first_use ≡ use_of = cc in same_use))
+crew_one (first_use ∷ rest) (suc index) count use_of same_use use_there = subst (λ taken_count. drop (suc index) (take taken_count (first_use ∷ rest)) ≡ use_of ∷ []) (sym same_use) (crew_one rest index (suc index) use_of refl use_there)
 
-pub crew_none : (firsts : List Use) (index m : ℕ) → m ≡ suc index → slice_get firsts index ≡ None → drop index (take m firsts) ≡ []
-crew_none [] index m same here = ap (drop index) (take-nil m) ∙ drop-nil index
-crew_none (use_of ∷ rest) zero m same here = absurd cc
-crew_none (use_of ∷ rest) (suc index) m same here = subst (λ n. drop (suc index) (take n (use_of ∷ rest)) ≡ []) (sym same) (crew_none rest index (suc index) refl here)
+pub crew_none : (firsts : List Use) (index count : ℕ) → count ≡ suc index → slice_get firsts index ≡ None → drop index (take count firsts) ≡ []
+crew_none [] index count next_count none_there = ap (drop index) (take-nil count) ∙ drop-nil index
+crew_none (use_of ∷ rest) zero count next_count none_there = absurd cc
+crew_none (use_of ∷ rest) (suc index) count next_count none_there = subst (λ taken_count. drop (suc index) (take taken_count (use_of ∷ rest)) ≡ []) (sym next_count) (crew_none rest index (suc index) refl none_there)
 
 -- ---- numbers
 
 -- how many numbers of an interval are below another
-pub span : (test : ℕ → Bool) (a b m : ℕ) → a ≤ b → ((k : ℕ) → k < m → test k ≡ (nat_le a k && nat_lt k b)) → (n : ℕ) → n ≤ m → count_below test n ≡ min b n - a
-span test a b m low is zero within = let same : 0 ≡ min b 0 - a = omega arith in same
-span test a b m low is (suc n) within =
-    by_test (test n) (is n (omega (arith, within))) (count_below test n) (span test a b m low is n (omega (arith, within)))
+pub span : (test : ℕ → Bool) (start end limit : ℕ) → start ≤ end → ((k : ℕ) → k < limit → test k ≡ (nat_le start k && nat_lt k end)) → (count : ℕ) → count ≤ limit → count_below test count ≡ min end count - start
+span test start end limit start_before test_spans zero count_within = let same_zero : 0 ≡ min end 0 - start = omega arith in same_zero
+span test start end limit start_before test_spans (suc count) count_within =
+    by_test (test count) (test_spans count (omega (arith, count_within))) (count_below test count) (span test start end limit start_before test_spans count (omega (arith, count_within)))
   where
-    inside : true ≡ (nat_le a n && nat_lt n b) → (a ≤ n) × (n < b)
-    inside same = (grind (arith, nat_tests), grind (arith, nat_tests))
+    inside : true ≡ (nat_le start count && nat_lt count end) → (start ≤ count) × (count < end)
+    inside test_holds = (grind (arith, nat_tests), grind (arith, nat_tests))
 
-    outside : false ≡ (nat_le a n && nat_lt n b) → (n < a) ⊎ (b ≤ n)
-    outside same = ⊎_elim (λ (lt : n < a). inl lt) (λ (le : a ≤ n). inr (grind (arith, nat_tests))) (cases_lt n a)
+    outside : false ≡ (nat_le start count && nat_lt count end) → (count < start) ⊎ (end ≤ count)
+    outside test_fails = ⊎_elim (λ (before_start : count < start). inl before_start) (λ (from_start : start ≤ count). inr (grind (arith, nat_tests))) (cases_lt count start)
 
-    by_test : (holds : Bool) → holds ≡ (nat_le a n && nat_lt n b) → (k : ℕ) → k ≡ min b n - a → (if holds then suc k else k) ≡ min b (suc n) - a
-    by_test true same k was = let both = inside same in omega (arith, both.0, both.1, was, low)
-    by_test false same k was = ⊎_elim (λ (lt : n < a). omega (arith, lt, was, low)) (λ (le : b ≤ n). omega (arith, le, was, low)) (outside same)
+    by_test : (holds : Bool) → holds ≡ (nat_le start count && nat_lt count end) → (counted : ℕ) → counted ≡ min end count - start → (if holds then suc counted else counted) ≡ min end (suc count) - start
+    by_test true tested counted counted_before = let both_sides = inside tested in omega (arith, both_sides.0, both_sides.1, counted_before, start_before)
+    by_test false tested counted counted_before = ⊎_elim (λ (before_start : count < start). omega (arith, before_start, counted_before, start_before)) (λ (after_end : end ≤ count). omega (arith, after_end, counted_before, start_before)) (outside tested)

@@ -29,14 +29,14 @@ use Rattle.trace_runs.specs.DealtParts.Assigned.{scripts as by_scripts}
 
 -- ---- tests and options
 
-some_within : {A : Type 0} (xs : List A) (index : ℕ) (d : A) → is_some (slice_get xs index) ≡ nat_lt index (length xs)
-some_within xs index d = ⊎_elim
-    (λ (below : index < length xs). ap is_some (slice_get-get_or xs index d below) ∙ sym (lt-ltb index (length xs) below))
-    (λ (past : length xs ≤ index). ap is_some (slice_get_past xs index past) ∙ sym (outside index (length xs) past))
+some_within : {A : Type 0} (xs : List A) (index : ℕ) (fallback : A) → is_some (slice_get xs index) ≡ nat_lt index (length xs)
+some_within xs index fallback = ⊎_elim
+    (λ (index_below : index < length xs). ap is_some (slice_get-get_or xs index fallback index_below) ∙ sym (lt-ltb index (length xs) index_below))
+    (λ (past_end : length xs ≤ index). ap is_some (slice_get_past xs index past_end) ∙ sym (outside index (length xs) past_end))
     (cases_lt index (length xs))
   where
-    outside : (index m : ℕ) → m ≤ index → nat_lt index m ≡ false
-    outside index m past = grind (arith, nat_tests)
+    outside : (index count : ℕ) → count ≤ index → nat_lt index count ≡ false
+    outside index count index_past = grind (arith, nat_tests)
 
 and_true : (holds : Bool) → holds ≡ (holds && true)
 and_true true = refl
@@ -47,97 +47,97 @@ and_false true = refl
 and_false false = refl
 
 one_dealt : {A : Type 0} (found : Option A) (holds : Bool) (x k : ℕ) → is_some found ≡ holds → is_some (if x == k then found else None) ≡ (holds && (nat_le k x && nat_lt x (k + 1)))
-one_dealt found holds x k same = by_test (x == k) refl
+one_dealt found holds x k same_test = by_test (x == k) refl
   where
     by_test : (other_holds : Bool) → (x == k) ≡ other_holds → is_some (if x == k then found else None) ≡ (holds && (nat_le k x && nat_lt x (k + 1)))
-    by_test true is =
-        let inside : (nat_le k x && nat_lt x (k + 1)) ≡ true = grind (arith, nat_tests) in
-        ap (λ other_holds. is_some (if other_holds then found else None)) is ∙ same ∙ and_true holds ∙ sym (ap (λ d. holds && d) inside)
-    by_test false is =
+    by_test true tested =
+        let number_inside : (nat_le k x && nat_lt x (k + 1)) ≡ true = grind (arith, nat_tests) in
+        ap (λ other_holds. is_some (if other_holds then found else None)) tested ∙ same_test ∙ and_true holds ∙ sym (ap (λ is_dealt. holds && is_dealt) number_inside)
+    by_test false tested =
         let outside : (nat_le k x && nat_lt x (k + 1)) ≡ false = grind (arith, nat_tests) in
-        ap (λ other_holds. is_some (if other_holds then found else None)) is ∙ and_false holds ∙ sym (ap (λ d. holds && d) outside)
+        ap (λ other_holds. is_some (if other_holds then found else None)) tested ∙ and_false holds ∙ sym (ap (λ is_dealt. holds && is_dealt) outside)
 
 -- the parts that are left after some
 abbrev pub is_left : ℕ → ℕ → ℕ → Bool
-is_left workers done number = not (nat_lt (number % workers) done)
+is_left workers dealt_count number = not (nat_lt (number % workers) dealt_count)
 
 abbrev pub left_after : ℕ → ℕ → List (List Command) → Jobs
-left_after workers done scripts = picked (is_left workers done) (opened scripts)
+left_after workers dealt_count scripts = picked (is_left workers dealt_count) (opened scripts)
 
 -- and after each there is one less
-pub one_less : (workers done : ℕ) (scripts : List (List Command)) → left_over workers done (left_after workers done scripts) ≡ left_after workers (done + 1) scripts
-one_less workers done scripts = same_work _ (left_after workers (done + 1) scripts) refl refl (λ t.
-    progress_of-left_over workers done (left_after workers done scripts) t refl
-    ∙ ap (λ found. if is_in_part workers done t then None else found) (progress_of-picked (is_left workers done) (opened scripts) t refl)
-    ∙ by (t % workers) (progress_of (opened scripts) t)
-    ∙ sym (progress_of-picked (is_left workers (done + 1)) (opened scripts) t refl))
+pub one_less : (workers dealt_count : ℕ) (scripts : List (List Command)) → left_over workers dealt_count (left_after workers dealt_count scripts) ≡ left_after workers (dealt_count + 1) scripts
+one_less workers dealt_count scripts = same_work _ (left_after workers (dealt_count + 1) scripts) refl refl (λ thread.
+    progress_of-left_over workers dealt_count (left_after workers dealt_count scripts) thread refl
+    ∙ ap (λ found. if is_in_part workers dealt_count thread then None else found) (progress_of-picked (is_left workers dealt_count) (opened scripts) thread refl)
+    ∙ by (thread % workers) (progress_of (opened scripts) thread)
+    ∙ sym (progress_of-picked (is_left workers (dealt_count + 1)) (opened scripts) thread refl))
   where
-    by : (n : ℕ) (found : Option Progress) → (if n == done then None else (if not (nat_lt n done) then found else None)) ≡ (if not (nat_lt n (done + 1)) then found else None)
-    by n found = grind (arith, nat_tests)
+    by : (number : ℕ) (found : Option Progress) → (if number == dealt_count then None else (if not (nat_lt number dealt_count) then found else None)) ≡ (if not (nat_lt number (dealt_count + 1)) then found else None)
+    by number found = grind (arith, nat_tests)
 
-module _ (heap : Heap) (scripts : Scripts) (first : Jobs) (bundles : List Bundle) (can : CanBeDealt heap scripts first bundles) (workers index : ℕ) (bundle : Bundle) (now : Jobs)
-    (count : workers ≡ length bundles) (at : slice_get bundles index ≡ Some bundle) (left : now ≡ left_after workers index scripts) where
+module _ (heap : Heap) (scripts : Scripts) (first_jobs : Jobs) (bundles : List Bundle) (can_deal : CanBeDealt heap scripts first_jobs bundles) (workers index : ℕ) (bundle : Bundle) (left_jobs : Jobs)
+    (count : workers ≡ length bundles) (bundle_there : slice_get bundles index ≡ Some bundle) (left_is : left_jobs ≡ left_after workers index scripts) where
   few : length scripts ≤ 8
-  few = let many = (config_of heap).in_range.most_mutators in omega (arith, can.count, many)
+  few = let few_mutators = (config_of heap).in_range.most_mutators in omega (arith, can_deal.count, few_mutators)
 
-  job_at : (t : ℕ) → progress_of (parted workers index now) t ≡ (if t % workers == index then option_map begun (slice_get scripts t) else None)
-  job_at t =
-      ap (λ j. progress_of (parted workers index j) t) left
-      ∙ progress_of-parted workers index (left_after workers index scripts) t refl
-      ∙ ap (λ found. if is_in_part workers index t then found else None) (progress_of-picked (is_left workers index) (opened scripts) t refl)
-      ∙ by (t % workers) (progress_of (opened scripts) t)
-      ∙ ap (λ found. if t % workers == index then found else None) (progress_of-opened scripts t few)
+  job_at : (mutator : ℕ) → progress_of (parted workers index left_jobs) mutator ≡ (if mutator % workers == index then option_map begun (slice_get scripts mutator) else None)
+  job_at mutator =
+      ap (λ jobs. progress_of (parted workers index jobs) mutator) left_is
+      ∙ progress_of-parted workers index (left_after workers index scripts) mutator refl
+      ∙ ap (λ found. if is_in_part workers index mutator then found else None) (progress_of-picked (is_left workers index) (opened scripts) mutator refl)
+      ∙ by (mutator % workers) (progress_of (opened scripts) mutator)
+      ∙ ap (λ found. if mutator % workers == index then found else None) (progress_of-opened scripts mutator few)
     where
-      by : (n : ℕ) (found : Option Progress) → (if n == index then (if not (nat_lt n index) then found else None) else None) ≡ (if n == index then found else None)
-      by n found = grind (arith, nat_tests)
+      by : (number : ℕ) (found : Option Progress) → (if number == index then (if not (nat_lt number index) then found else None) else None) ≡ (if number == index then found else None)
+      by number found = grind (arith, nat_tests)
 
   fresh : IsFresh heap bundle (dealt_to workers index (whole (heap_opening (config_of heap)).machines))
-  fresh = subst (λ w. IsFresh heap bundle (dealt_to w index (whole (heap_opening (config_of heap)).machines))) (sym count) (can.fresh index bundle at)
+  fresh = subst (λ worker_count. IsFresh heap bundle (dealt_to worker_count index (whole (heap_opening (config_of heap)).machines))) (sym count) (can_deal.fresh index bundle bundle_there)
 
   some_begun : (found : Option (List Command)) → is_some (option_map begun found) ≡ is_some found
   some_begun None = refl
-  some_begun (Some x) = refl
+  some_begun (Some script) = refl
 
-  pub ready_part : PartIsReady heap (by_scripts scripts) workers index (index + 1) (record { bundle = bundle; load = Scripted (parted workers index now) })
+  pub ready_part : PartIsReady heap (by_scripts scripts) workers index (index + 1) (record { bundle = bundle; load = Scripted (parted workers index left_jobs) })
   ready_part = record {
     has = record {
       of = fresh.of;
-      machines = λ n.
-          ap (λ v. is_some (machine_of v n)) fresh.machines
-          ∙ ap is_some (machine_of-picked (is_dealt_to workers index) (whole (heap_opening (config_of heap)).machines) n)
-          ∙ one_dealt (machine_of (whole (heap_opening (config_of heap)).machines) n) (nat_lt n (seat_count (config_of heap).mutators (config_of heap).helpers)) (n % workers) index
-          (ap is_some (machine_of-whole (heap_opening (config_of heap)).machines n) ∙ some_within (heap_opening (config_of heap)).machines n nobody ∙ ap (nat_lt n) (first_count (config_of heap)));
+      machines = λ machine_number.
+          ap (λ view. is_some (machine_of view machine_number)) fresh.machines
+          ∙ ap is_some (machine_of-picked (is_dealt_to workers index) (whole (heap_opening (config_of heap)).machines) machine_number)
+          ∙ one_dealt (machine_of (whole (heap_opening (config_of heap)).machines) machine_number) (nat_lt machine_number (seat_count (config_of heap).mutators (config_of heap).helpers)) (machine_number % workers) index
+          (ap is_some (machine_of-whole (heap_opening (config_of heap)).machines machine_number) ∙ some_within (heap_opening (config_of heap)).machines machine_number nobody ∙ ap (nat_lt machine_number) (first_count (config_of heap)));
     };
     load = record {
-      numbers = λ n.
-          ap is_some (job_at n)
-          ∙ one_dealt (option_map begun (slice_get scripts n)) (nat_lt n (config_of heap).mutators) (n % workers) index
-          (some_begun (slice_get scripts n) ∙ some_within scripts n [] ∙ ap (nat_lt n) can.count);
-      scripts_are = λ other_index has. script_at other_index (other_index % workers == index) (slice_get scripts other_index) refl (progress_of (parted workers index now) other_index) (job_at other_index) has;
+      numbers = λ machine_number.
+          ap is_some (job_at machine_number)
+          ∙ one_dealt (option_map begun (slice_get scripts machine_number)) (nat_lt machine_number (config_of heap).mutators) (machine_number % workers) index
+          (some_begun (slice_get scripts machine_number) ∙ some_within scripts machine_number [] ∙ ap (nat_lt machine_number) can_deal.count);
+      scripts_are = λ script_index has_script. script_at script_index (script_index % workers == index) (slice_get scripts script_index) refl (progress_of (parted workers index left_jobs) script_index) (job_at script_index) has_script;
     };
-    start = fresh_can_start heap bundle (config_of heap) workers index (parted workers index now) fresh (λ n below dealt.
-        let within : n < length scripts = omega (arith, below, can.count) in (
-          get_or scripts n [],
-          job_at n ∙ ap (λ holds. if holds then option_map begun (slice_get scripts n) else None) dealt ∙ ap (option_map begun) (slice_get-get_or scripts n [] within),
-          (All-get_or IsRunnable scripts n [] within can.runnable).0,
-          (All-get_or IsRunnable scripts n [] within can.runnable).1,
+    start = fresh_can_start heap bundle (config_of heap) workers index (parted workers index left_jobs) fresh (λ machine_number number_below dealt.
+        let number_within : machine_number < length scripts = omega (arith, number_below, can_deal.count) in (
+          get_or scripts machine_number [],
+          job_at machine_number ∙ ap (λ holds. if holds then option_map begun (slice_get scripts machine_number) else None) dealt ∙ ap (option_map begun) (slice_get-get_or scripts machine_number [] number_within),
+          (All-get_or IsRunnable scripts machine_number [] number_within can_deal.runnable).0,
+          (All-get_or IsRunnable scripts machine_number [] number_within can_deal.runnable).1,
         ));
   }
     where
-      script_at : (n : ℕ) (holds : Bool) (found : Option (List Command)) → slice_get scripts n ≡ found → (other_found : Option Progress) → other_found ≡ (if holds then option_map begun (slice_get scripts n) else None) → IsSome other_found → (unwrap_or other_found (begun [])).script ≡ schedule.nth_script scripts n
-      script_at n false found is other_found e has = absurd (false≢true (subst (λ x. IsSome x) e has))
-      script_at n true None is other_found e has = absurd (false≢true (subst (λ x. IsSome x) (e ∙ ap (option_map begun) is) has))
-      script_at n true (Some s) is other_found e has = ap (λ x. (unwrap_or x (begun [])).script) (e ∙ ap (option_map begun) is) ∙ sym (get_or_from_slice_get scripts n s [] is)
+      script_at : (number : ℕ) (holds : Bool) (found : Option (List Command)) → slice_get scripts number ≡ found → (given_progress : Option Progress) → given_progress ≡ (if holds then option_map begun (slice_get scripts number) else None) → IsSome given_progress → (unwrap_or given_progress (begun [])).script ≡ schedule.nth_script scripts number
+      script_at number false found script_found given_progress progress_is has_progress = absurd (false≢true (subst (λ progress. IsSome progress) progress_is has_progress))
+      script_at number true None script_found given_progress progress_is has_progress = absurd (false≢true (subst (λ progress. IsSome progress) (progress_is ∙ ap (option_map begun) script_found) has_progress))
+      script_at number true (Some script) script_found given_progress progress_is has_progress = ap (λ progress. (unwrap_or progress (begun [])).script) (progress_is ∙ ap (option_map begun) script_found) ∙ sym (get_or_from_slice_get scripts number script [] script_found)
 
 -- the bundles that a heap was opened with
-pub can_be_dealt : (heap : Heap) (config : Config) (scripts : Scripts) (jobs : Jobs) (bundles : List Bundle) (w : ℕ) → config_of heap ≡ config → length bundles ≡ w
-    → ((index : ℕ) (bundle : Bundle) → slice_get bundles index ≡ Some bundle → IsFresh heap bundle (dealt_to w index (whole (heap_opening config).machines))) → jobs ≡ opened scripts → length scripts ≡ config.mutators → All IsRunnable scripts
+pub can_be_dealt : (heap : Heap) (config : Config) (scripts : Scripts) (jobs : Jobs) (bundles : List Bundle) (workers : ℕ) → config_of heap ≡ config → length bundles ≡ workers
+    → ((index : ℕ) (bundle : Bundle) → slice_get bundles index ≡ Some bundle → IsFresh heap bundle (dealt_to workers index (whole (heap_opening config).machines))) → jobs ≡ opened scripts → length scripts ≡ config.mutators → All IsRunnable scripts
     → CanBeDealt heap scripts jobs bundles
-can_be_dealt heap other_config scripts jobs bundles w config count fresh jobs_are many runnable = record {
-  fresh = λ index bundle here.
-      subst (λ n. IsFresh heap bundle (dealt_to n index (whole (heap_opening (config_of heap)).machines))) (sym count)
-      (subst (λ (config : Config). IsFresh heap bundle (dealt_to w index (whole (heap_opening config).machines))) (sym config) (fresh index bundle here));
+can_be_dealt heap heap_config scripts jobs bundles workers config count fresh jobs_are same_count runnable = record {
+  fresh = λ index bundle bundle_there.
+      subst (λ worker_count. IsFresh heap bundle (dealt_to worker_count index (whole (heap_opening (config_of heap)).machines))) (sym count)
+      (subst (λ (config : Config). IsFresh heap bundle (dealt_to workers index (whole (heap_opening config).machines))) (sym config) (fresh index bundle bundle_there));
   jobs_are = jobs_are;
-  count = many ∙ ap (λ (config : Config). config.mutators) (sym config);
+  count = same_count ∙ ap (λ (config : Config). config.mutators) (sym config);
   runnable = runnable;
 }

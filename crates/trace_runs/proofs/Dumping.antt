@@ -34,22 +34,22 @@ use Rattle.trace_runs.proofs.Whole.{whole}
 -- a thread has made no more objects than it has entries
 made_few : (entries : List Entry) (thread : ℕ) → objects_made entries thread ≤ length (of_thread entries thread)
 made_few [] thread = omega arith
-made_few (other_entry ∷ entries) thread =
-    subst (λ (n : ℕ). n ≤ length (of_thread (other_entry ∷ entries) thread)) (sym (sum_by-cons (λ (entry : Entry). cond (has_made thread entry) 1 0) other_entry entries))
-    (by_test (eqb other_entry.thread thread) (is_allocation other_entry.command && is_name_reply other_entry.reply) (made_few entries thread))
+made_few (first_entry ∷ entries) thread =
+    subst (λ (n : ℕ). n ≤ length (of_thread (first_entry ∷ entries) thread)) (sym (sum_by-cons (λ (entry : Entry). cond (has_made thread entry) 1 0) first_entry entries))
+    (by_test (eqb first_entry.thread thread) (is_allocation first_entry.command && is_name_reply first_entry.reply) (made_few entries thread))
   where
-    by_test : (own makes : Bool) → objects_made entries thread ≤ length (of_thread entries thread) → cond (own && makes) 1 0 + objects_made entries thread ≤ length (cond own (other_entry ∷ of_thread entries thread) (of_thread entries thread))
-    by_test true true others = omega arith
-    by_test true false others = omega arith
-    by_test false makes others = omega arith
+    by_test : (own_entry makes : Bool) → objects_made entries thread ≤ length (of_thread entries thread) → cond (own_entry && makes) 1 0 + objects_made entries thread ≤ length (cond own_entry (first_entry ∷ of_thread entries thread) (of_thread entries thread))
+    by_test true true later_made = omega arith
+    by_test true false later_made = omega arith
+    by_test false makes later_made = omega arith
 
 fits_value : (command : Command) → FitsWhenWritten command → FitsValue command
 fits_value (Wr obj index value) fits = fits
 fits_value _ fits = tt
 
-in_range : (version : ℕ) (config : Config) (entries : List Entry) → All (λ e. IsOfScript version config e.thread e.command) entries → All (IsEntryInRange config.mutators) entries
-in_range version config entries asked =
-    All-weaker (λ (entry : Entry). IsOfScript version config entry.thread entry.command) (IsEntryInRange config.mutators) (λ e is. record { from_first = is.from_one; to_last = is.to_last; valid = is.fits.1; fits = fits_value e.command is.fits.2 }) entries asked
+in_range : (version : ℕ) (config : Config) (entries : List Entry) → All (λ any_entry. IsOfScript version config any_entry.thread any_entry.command) entries → All (IsEntryInRange config.mutators) entries
+in_range version config entries entries_asked =
+    All-weaker (λ (entry : Entry). IsOfScript version config entry.thread entry.command) (IsEntryInRange config.mutators) (λ any_entry entry_facts. record { from_first = entry_facts.from_one; to_last = entry_facts.to_last; valid = entry_facts.fits.1; fits = fits_value any_entry.command entry_facts.fits.2 }) entries entries_asked
 
 short_of : (bytes : List ℕ) (version : ℕ) (config : Config) (scripts : Scripts) (items : List Item) (mutator : ℕ) → Reads bytes version config scripts items → length (script_of scripts mutator) ≤ most_bytes
 short_of bytes version config scripts items zero reads = omega arith
@@ -59,10 +59,10 @@ short_of bytes version config scripts items (suc mutator) reads = by_thread (cas
     none = []
 
     by_thread : (mutator < config.mutators) ⊎ (config.mutators ≤ mutator) → length (get_or scripts mutator []) ≤ most_bytes
-    by_thread (inl below) = short_script bytes version config scripts items mutator reads below
+    by_thread (inl mutator_below) = short_script bytes version config scripts items mutator reads mutator_below
     by_thread (inr past_all) =
         let count = count_scripts bytes version config scripts items reads in
-        let empty = ap (λ (cs : List Command). length cs) (get_or_past scripts mutator none (omega (arith, count, past_all))) in
+        let empty = ap (λ (commands : List Command). length commands) (get_or_past scripts mutator none (omega (arith, count, past_all))) in
         omega (arith, empty)
 
 -- the history of a trace that comes to an end has a dump
@@ -70,26 +70,26 @@ dumpable : (bytes : List ℕ) (version : ℕ) (config : Config) (scripts : Scrip
 dumpable bytes version config scripts items events reads whole = record {
   each = subst (λ (n : ℕ). EachIsLegal config.regions config.region_words (graph_opening n) h) (count_scripts bytes version config scripts items reads) whole.legal.each;
   entries = in_range version config h (each_asked bytes version config scripts items h reads whole.follows);
-  few = λ t.
-      let same = ap (λ (cs : List Command). length cs) (whole.follows t) in
-      omega (arith, made_few h t, length-map (of_thread h t) (λ (entry : Entry). entry.command), same, short_of bytes version config scripts items t reads);
+  few = λ thread.
+      let same_length = ap (λ (commands : List Command). length commands) (whole.follows thread) in
+      omega (arith, made_few h thread, length-map (of_thread h thread) (λ (entry : Entry). entry.command), same_length, short_of bytes version config scripts items thread reads);
 }
   where
     h : List Entry
     h = past pause_image config events
 
-module _ (bytes : List ℕ) (version : ℕ) (config : Config) (scripts : Scripts) (items : List Item) (limit : ℕ) (jobs : Jobs) (plain : Plain) (noted : List Entry) (reads : Reads bytes version config scripts items) (done : HasFinished config scripts items limit jobs plain) (are : noted ≡ history_of config scripts items limit) where
+module _ (bytes : List ℕ) (version : ℕ) (config : Config) (scripts : Scripts) (items : List Item) (limit : ℕ) (jobs : Jobs) (plain : Plain) (noted : List Entry) (reads : Reads bytes version config scripts items) (finished : HasFinished config scripts items limit jobs plain) (same_noted : noted ≡ history_of config scripts items limit) where
   whole_of : IsWhole config scripts (events_of config scripts items limit)
-  whole_of = whole config scripts (events_of config scripts items limit) (count_scripts bytes version config scripts items reads) done.idle done.called
+  whole_of = whole config scripts (events_of config scripts items limit) (count_scripts bytes version config scripts items reads) finished.idle finished.called
 
   pub noted_dumpable : IsDumpable config noted
-  noted_dumpable = subst (IsDumpable config) (sym are) (dumpable bytes version config scripts items (events_of config scripts items limit) reads whole_of)
+  noted_dumpable = subst (IsDumpable config) (sym same_noted) (dumpable bytes version config scripts items (events_of config scripts items limit) reads whole_of)
 
   pub noted_shown : (text : Text) → ShowsGraph text config.mutators (after (first_graph config) (history_of config scripts items limit)) → ShowsGraph text config.mutators (after (graph_opening config.mutators) noted)
-  noted_shown text shows = subst (λ (entries : List Entry). ShowsGraph text config.mutators (after (graph_opening config.mutators) entries)) (sym are) shows
+  noted_shown text shows = subst (λ (entries : List Entry). ShowsGraph text config.mutators (after (graph_opening config.mutators) entries)) (sym same_noted) shows
 
   pub replayed_to_dump : (dump : Dumped) → IsDumpOf config (after (graph_opening config.mutators) noted) dump → dump.counts ≡ objects_made_by_each noted config.mutators → IsReplayedToDump bytes limit (dump_text dump)
-  replayed_to_dump dump is counts = record {
+  replayed_to_dump dump dump_shows same_counts = record {
     version = version;
     config = config;
     scripts = scripts;
@@ -97,7 +97,7 @@ module _ (bytes : List ℕ) (version : ℕ) (config : Config) (scripts : Scripts
     reads = reads;
     whole = whole_of;
     dump = dump;
-    is = subst (λ (entries : List Entry). IsDumpOf config (after (graph_opening config.mutators) entries) dump) are is;
-    counts = counts ∙ ap (λ (entries : List Entry). objects_made_by_each entries config.mutators) are;
+    is = subst (λ (entries : List Entry). IsDumpOf config (after (graph_opening config.mutators) entries) dump) same_noted dump_shows;
+    counts = same_counts ∙ ap (λ (entries : List Entry). objects_made_by_each entries config.mutators) same_noted;
     text = refl;
   }

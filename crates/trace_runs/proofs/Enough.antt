@@ -32,61 +32,61 @@ still : (config : Config) (scripts : Scripts) (stage : Stage Actor) → length s
 still config scripts stage count idle number = by_seat (cases_lt number (seat_count config.mutators config.helpers))
   where
     by_seat : (number < seat_count config.mutators config.helpers) ⊎ (seat_count config.mutators config.helpers ≤ number) → turn scripts stage number ≡ None
-    by_seat (inl below) = idle number below
-    by_seat (inr beyond) = ap (turn_of scripts number) (slice_get_past stage.machines number (omega (arith, count, beyond)))
+    by_seat (inl number_below) = idle number number_below
+    by_seat (inr number_beyond) = ap (turn_of scripts number) (slice_get_past stage.machines number (omega (arith, count, number_beyond)))
 
 -- then no task has an event, and neither has a round
 none_move : (config : Config) (scripts : Scripts) (stage : Stage Actor) (task : Task) → IsStill scripts stage → move_of config scripts stage task ≡ None
-none_move config scripts stage (steps number zero) none = refl
-none_move config scripts stage (steps number (suc count)) none = ap (λ e. moves e (steps number count ∷ [])) (none number)
-none_move config scripts stage (until number place) none = by_test (is_at_place scripts stage number place)
+none_move config scripts stage (steps number zero) stage_still = refl
+none_move config scripts stage (steps number (suc count)) stage_still = ap (λ turn_found. moves turn_found (steps number count ∷ [])) (stage_still number)
+none_move config scripts stage (until number place) stage_still = by_test (is_at_place scripts stage number place)
   where
     by_test : (test : Bool) → (if test then None else moves (turn scripts stage number) (until number place ∷ [])) ≡ None
     by_test true = refl
-    by_test false = ap (λ e. moves e (until number place ∷ [])) (none number)
-none_move config scripts stage (replies number count) none = by_test (nat_le count (given stage number))
+    by_test false = ap (λ turn_found. moves turn_found (until number place ∷ [])) (stage_still number)
+none_move config scripts stage (replies number count) stage_still = by_test (nat_le count (given stage number))
   where
     by_test : (test : Bool) → (if test then None else moves (turn scripts stage number) (control_after (waits_then config stage (turn scripts stage number)) ++ replies number count ∷ [])) ≡ None
     by_test true = refl
-    by_test false = ap (λ e. moves e (control_after (waits_then config stage e) ++ replies number count ∷ [])) (none number)
-none_move config scripts stage control none = ap (λ e. moves e []) (none (control_number config))
+    by_test false = ap (λ turn_found. moves turn_found (control_after (waits_then config stage turn_found) ++ replies number count ∷ [])) (stage_still number)
+none_move config scripts stage control stage_still = ap (λ turn_found. moves turn_found []) (stage_still (control_number config))
 
 none_first : (scripts : Scripts) (stage : Stage Actor) (numbers : List ℕ) → IsStill scripts stage → first_turn scripts stage numbers ≡ None
-none_first scripts stage [] none = refl
-none_first scripts stage (number ∷ numbers) none = ap (λ e. or_else e (first_turn scripts stage numbers)) (none number) ∙ none_first scripts stage numbers none
+none_first scripts stage [] stage_still = refl
+none_first scripts stage (number ∷ numbers) stage_still = ap (λ turn_found. or_else turn_found (first_turn scripts stage numbers)) (stage_still number) ∙ none_first scripts stage numbers stage_still
 
 none_next : (config : Config) (scripts : Scripts) (stage : Stage Actor) (tasks : List Task) (from : ℕ) → IsStill scripts stage → next_by config scripts stage tasks from ≡ None
-none_next config scripts stage [] from none = ap round_of (none_first scripts stage (numbers_from config from) none)
-none_next config scripts stage (task ∷ tasks) from none = ap (λ m. after_move m tasks from (next_by config scripts stage tasks from)) (none_move config scripts stage task none) ∙ none_next config scripts stage tasks from none
+none_next config scripts stage [] from stage_still = ap round_of (none_first scripts stage (numbers_from config from) stage_still)
+none_next config scripts stage (task ∷ tasks) from stage_still = ap (λ move_found. after_move move_found tasks from (next_by config scripts stage tasks from)) (none_move config scripts stage task stage_still) ∙ none_next config scripts stage tasks from stage_still
 
 -- more steps than lead to such a stage are the same events
 enough : (config : Config) (scripts : Scripts) (few many : ℕ) (todo : Agenda) (stage : Stage Actor) → few ≤ many → IsStill scripts (go (kind pause_image config) stage (scheduled pause_image config scripts few todo stage))
     → scheduled pause_image config scripts many todo stage ≡ scheduled pause_image config scripts few todo stage
 unfolding scheduled
-enough config scripts zero many todo stage le none = scheduled_none config scripts stage todo many (none_next config scripts stage todo.tasks todo.from (subst (IsStill scripts) (go-none (kind pause_image config) stage) none))
-enough config scripts (suc few) zero todo stage le none = absurd (omega (arith, le))
-enough config scripts (suc few) (suc many) todo stage le none = by_next (next config scripts stage todo) (λ later other_stage. enough config scripts few many later other_stage (omega (arith, le))) none
+enough config scripts zero many todo stage fewer stage_still = scheduled_none config scripts stage todo many (none_next config scripts stage todo.tasks todo.from (subst (IsStill scripts) (go-none (kind pause_image config) stage) stage_still))
+enough config scripts (suc few) zero todo stage fewer stage_still = absurd (omega (arith, fewer))
+enough config scripts (suc few) (suc many) todo stage fewer stage_still = by_next (next config scripts stage todo) (λ later other_stage. enough config scripts few many later other_stage (omega (arith, fewer))) stage_still
   where
     by_next : (found : Option Next)
-        → ((later : Agenda) (other_stage : Stage Actor) → IsStill scripts (go (kind pause_image config) other_stage (scheduled pause_image config scripts few later other_stage)) → scheduled pause_image config scripts many later other_stage ≡ scheduled pause_image config scripts few later other_stage)
-        → IsStill scripts (go (kind pause_image config) stage (and_then found (λ x. scheduled pause_image config scripts few x.agenda (act (kind pause_image config) stage x.event))))
-        → and_then found (λ x. scheduled pause_image config scripts many x.agenda (act (kind pause_image config) stage x.event)) ≡ and_then found (λ x. scheduled pause_image config scripts few x.agenda (act (kind pause_image config) stage x.event))
-    by_next None others it = refl
-    by_next (Some x) others it =
-        let later : Stage Actor = act (kind pause_image config) stage x.event in
-        ap (λ events. x.event ∷ events)
-        (others x.agenda later (subst (IsStill scripts) (go-first (kind pause_image config) stage x.event (scheduled pause_image config scripts few x.agenda later)) it))
+        → ((later : Agenda) (later_stage : Stage Actor) → IsStill scripts (go (kind pause_image config) later_stage (scheduled pause_image config scripts few later later_stage)) → scheduled pause_image config scripts many later later_stage ≡ scheduled pause_image config scripts few later later_stage)
+        → IsStill scripts (go (kind pause_image config) stage (and_then found (λ next_move. scheduled pause_image config scripts few next_move.agenda (act (kind pause_image config) stage next_move.event))))
+        → and_then found (λ next_move. scheduled pause_image config scripts many next_move.agenda (act (kind pause_image config) stage next_move.event)) ≡ and_then found (λ next_move. scheduled pause_image config scripts few next_move.agenda (act (kind pause_image config) stage next_move.event))
+    by_next None later_still still_then = refl
+    by_next (Some next_move) later_still still_then =
+        let later : Stage Actor = act (kind pause_image config) stage next_move.event in
+        ap (λ events. next_move.event ∷ events)
+        (later_still next_move.agenda later (subst (IsStill scripts) (go-first (kind pause_image config) stage next_move.event (scheduled pause_image config scripts few next_move.agenda later)) still_then))
 
 -- A trace that is replayed by so many steps is replayed by more, with the same answer.
-pub more_steps : (bytes : List ℕ) (few many : ℕ) (out : List ℕ) → few ≤ many → IsReplayed bytes few out → IsReplayed bytes many out
-more_steps bytes few many out le replayed = record {
+pub more_steps : (bytes : List ℕ) (few many : ℕ) (answer : List ℕ) → few ≤ many → IsReplayed bytes few answer → IsReplayed bytes many answer
+more_steps bytes few many answer fewer replayed = record {
   version = replayed.version;
   config = replayed.config;
   scripts = replayed.scripts;
   items = replayed.items;
   reads = replayed.reads;
   whole = subst (λ events. IsWhole replayed.config replayed.scripts events) (sym same) replayed.whole;
-  text = subst (λ events. IsAnswerText replayed.version replayed.config.mutators (past pause_image replayed.config events) out) (sym same) replayed.text;
+  text = subst (λ events. IsAnswerText replayed.version replayed.config.mutators (past pause_image replayed.config events) answer) (sym same) replayed.text;
 }
   where
     end : ℕ → List (Event Order)
@@ -94,5 +94,5 @@ more_steps bytes few many out le replayed = record {
 
     same : end many ≡ end few
     same =
-        enough replayed.config replayed.scripts few many (agenda_of replayed.items) (opening replayed.config) le
+        enough replayed.config replayed.scripts few many (agenda_of replayed.items) (opening replayed.config) fewer
         (still replayed.config replayed.scripts (go (kind pause_image replayed.config) (opening replayed.config) (end few)) (every_list pause_image heap_pauses replayed.config (end few)).of_heap.machines replayed.whole.idle)

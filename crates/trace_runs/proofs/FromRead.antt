@@ -21,4 +21,4 @@ module _ (bytes : List ℕ) (config : Config) (counts : List ℕ) (graph : Text)
   cut_from limit fits cut = record { read = read_so; fits = fits; cut = cut }
 
   pub too_large : (Fits config graph → ⊥) → IsTooLargeDump bytes
-  too_large large = record { read = read_so; too_large = large }
+  too_large graph_too_large = record { read = read_so; too_large = graph_too_large }

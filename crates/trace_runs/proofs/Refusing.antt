@@ -24,23 +24,23 @@ CameTooMany input = (bytes : List ℕ) × Consumes input.before input.after byte
 
 -- what a fault says of what was read
 abbrev pub IsTold : Reading → Input → TraceFault → Type 0
-IsTold reading input (fault.BadLine n why) = HasRead input (λ bytes. Refuses reading bytes n why)
+IsTold reading input (fault.BadLine line_number why) = HasRead input (λ bytes. Refuses reading bytes line_number why)
 IsTold reading input (fault.TooLong bytes) = CameTooMany input
 IsTold reading input fault.ReadFault = Rose input.faults_before input.faults_after
 IsTold reading input fault.NoMemory = Unit {0}
 
-pub told_by : (reading : Reading) (input : Input) (f : TraceFault) → ((n : ℕ) (why : Why) → f ≡ fault.BadLine n why → HasRead input (λ bytes. Refuses reading bytes n why)) → ((n : ℕ) → f ≡ fault.TooLong n → CameTooMany input)
-    → (f ≡ fault.ReadFault → Rose input.faults_before input.faults_after) → IsTold reading input f
-told_by reading input (fault.BadLine n why) bad long failed = bad n why refl
-told_by reading input (fault.TooLong bytes) bad long failed = long bytes refl
-told_by reading input fault.ReadFault bad long failed = failed refl
-told_by reading input fault.NoMemory bad long failed = tt
+pub told_by : (reading : Reading) (input : Input) (told_fault : TraceFault) → ((number : ℕ) (why : Why) → told_fault ≡ fault.BadLine number why → HasRead input (λ bytes. Refuses reading bytes number why)) → ((number : ℕ) → told_fault ≡ fault.TooLong number → CameTooMany input)
+    → (told_fault ≡ fault.ReadFault → Rose input.faults_before input.faults_after) → IsTold reading input told_fault
+told_by reading input (fault.BadLine number why) bad too_long failed = bad number why refl
+told_by reading input (fault.TooLong bytes) bad too_long failed = too_long bytes refl
+told_by reading input fault.ReadFault bad too_long failed = failed refl
+told_by reading input fault.NoMemory bad too_long failed = tt
 
-pub fault_said : (words : List (List ℕ)) (input : Input) (output : Output) (mode : Mode) (f : TraceFault) (result : Status) → Asks words mode → ReadsInput mode → IsTold (reading_of mode) input f
-    → EndsWith (line_text (fault_line f)) (fault_status f) result output.before output.after → StatusFits words input output result
-fault_said words input output mode (fault.BadLine other_line why) result asked reads told ends =
-    said words input output (line_text (line.BadLine other_line why)) BadTrace result (mode, asked, (reads, inl (record { number = other_line; why = why; refused = told; text = refl }))) ends
-fault_said words input output mode (fault.TooLong bytes) result asked reads told ends =
-    said words input output (line_text line.TooLong) BadTrace result (mode, asked, (reads, inr (inl (record { bytes = told.0; taken = told.1; many = told.2; text = refl })))) ends
-fault_said words input output mode fault.ReadFault result asked reads told ends = said words input output (line_text line.ReadFault) ReadFault result ((mode, asked, reads), told, refl) ends
-fault_said words input output mode fault.NoMemory result asked reads told ends = said words input output (line_text line.NoMemory) NoMemory result ((mode, asked), refl) ends
+pub fault_said : (words : List (List ℕ)) (input : Input) (output : Output) (mode : Mode) (told_fault : TraceFault) (result : Status) → Asks words mode → ReadsInput mode → IsTold (reading_of mode) input told_fault
+    → EndsWith (line_text (fault_line told_fault)) (fault_status told_fault) result output.before output.after → StatusFits words input output result
+fault_said words input output mode (fault.BadLine line_number why) result asked reads is_told ends =
+    said words input output (line_text (line.BadLine line_number why)) BadTrace result (mode, asked, (reads, inl (record { number = line_number; why = why; refused = is_told; text = refl }))) ends
+fault_said words input output mode (fault.TooLong bytes) result asked reads is_told ends =
+    said words input output (line_text line.TooLong) BadTrace result (mode, asked, (reads, inr (inl (record { bytes = is_told.0; taken = is_told.1; many = is_told.2; text = refl })))) ends
+fault_said words input output mode fault.ReadFault result asked reads is_told ends = said words input output (line_text line.ReadFault) ReadFault result ((mode, asked, reads), is_told, refl) ends
+fault_said words input output mode fault.NoMemory result asked reads is_told ends = said words input output (line_text line.NoMemory) NoMemory result ((mode, asked), refl) ends

@@ -19,32 +19,32 @@ count_scripts bytes version config scripts items reads = ap length reads.by_thre
 
 -- a script has no more commands than a trace has bytes, so fewer than there are names
 pub short_script : (bytes : List ℕ) (version : ℕ) (config : Config) (scripts : List (List Command)) (items : List Item) (mutator : ℕ) → Reads bytes version config scripts items → mutator < config.mutators → length (get_or scripts mutator []) ≤ most_bytes
-short_script bytes version config scripts items mutator reads below =
-    let none : List Command = [] in
-    let here = ap (λ (ss : List (List Command)). length (get_or ss mutator none)) reads.by_thread in
+short_script bytes version config scripts items mutator reads mutator_below =
+    let no_commands : List Command = [] in
+    let same_length = ap (λ (given_scripts : List (List Command)). length (get_or given_scripts mutator no_commands)) reads.by_thread in
     let commands = flat_map line reads.lines in
     let turns = flat_map schedule_line reads.turns in
-    omega (arith, here, lines.short_script config.mutators reads.lines mutator below, reads.short, ap length reads.spelled, length-append (header version config) (commands ++ turns), length-append commands turns)
+    omega (arith, same_length, lines.short_script config.mutators reads.lines mutator mutator_below, reads.short, ap length reads.spelled, length-append (header version config) (commands ++ turns), length-append commands turns)
 
 pub runnable_scripts : (bytes : List ℕ) (version : ℕ) (config : Config) (scripts : List (List Command)) (items : List Item) → Reads bytes version config scripts items → All IsRunnable scripts
-runnable_scripts bytes version config scripts items reads = All-from_get_or IsRunnable scripts [] (λ t within.
-    let none : List Command = [] in
+runnable_scripts bytes version config scripts items reads = All-from_get_or IsRunnable scripts [] (λ mutator mutator_within.
+    let no_commands : List Command = [] in
     let count = count_scripts bytes version config scripts items reads in
-    let below : t < config.mutators = omega (arith, within, count) in
-    let few = short_script bytes version config scripts items t reads below in
-    (subst (λ (ss : List (List Command)). All IsValid (get_or ss t none)) (sym reads.by_thread) (lines.valid_script version config.mutators reads.lines t reads.in_range below), omega (arith, few)))
+    let thread_below : mutator < config.mutators = omega (arith, mutator_within, count) in
+    let few_commands = short_script bytes version config scripts items mutator reads thread_below in
+    (subst (λ (given_scripts : List (List Command)). All IsValid (get_or given_scripts mutator no_commands)) (sym reads.by_thread) (lines.valid_script version config.mutators reads.lines mutator reads.in_range thread_below), omega (arith, few_commands)))
 
 -- and all scripts together fewer than a machine word counts
 pub few_in_all : (bytes : List ℕ) (version : ℕ) (config : Config) (scripts : List (List Command)) (items : List Item) → Reads bytes version config scripts items → sum_by length scripts ≤ 34359738360
 few_in_all bytes version config scripts items reads =
-    let total : sum_by length scripts ≤ length scripts * most_objects = sum_by-le length most_objects scripts (λ k d below. let few = (runnable_scripts bytes version config scripts items reads k d below).1 in omega (arith, few)) in
+    let total : sum_by length scripts ≤ length scripts * most_objects = sum_by-le length most_objects scripts (λ index default_script index_below. let few_commands = (runnable_scripts bytes version config scripts items reads index default_script index_below).1 in omega (arith, few_commands)) in
     let count = count_scripts bytes version config scripts items reads in
     omega (arith, total, count)
 
 -- a loop that has come to a script, and to the next one
 pub one_script_more : (scripts : List (List Command)) (index commands : ℕ) (script : List Command) → index < length scripts → commands + sum_by length (drop index scripts) ≡ sum_by length scripts
     → commands + length (get_or scripts index script) + sum_by length (drop (index + 1) scripts) ≡ sum_by length scripts
-one_script_more scripts index commands script below so_far = let next = sum_by-drop_more length scripts index script below in omega (arith, next, so_far)
+one_script_more scripts index commands script index_below so_far = let next_sum = sum_by-drop_more length scripts index script index_below in omega (arith, next_sum, so_far)
 
 pub items_in_seats : (bytes : List ℕ) (version : ℕ) (config : Config) (scripts : List (List Command)) (items : List Item) → Reads bytes version config scripts items → All (IsInSeats config) items
 items_in_seats bytes version config scripts items reads = subst (All (IsInSeats config)) (sym reads.in_order) (lines.items_in_seats config reads.turns reads.turns_in_range)

@@ -60,17 +60,17 @@ use Rattle.trace_runs.specs.Running.{HasFinished}
 -- ---- the entries of each thread
 
 -- the entries of a mutator that has called its script are its calls
-pub entries_called : (config : Config) (scripts : Scripts) (events : List (Event Order)) (t : ℕ) → (called : HasCalled scripts (reached pause_image config events) t) → of_thread (past pause_image config events) (t + 1) ≡ called.actor.calls
-entries_called config scripts events t called = entries_at_rest config (opening_run config events) t called.actor called.here called.called.rest
+pub entries_called : (config : Config) (scripts : Scripts) (events : List (Event Order)) (mutator : ℕ) → (called : HasCalled scripts (reached pause_image config events) mutator) → of_thread (past pause_image config events) (mutator + 1) ≡ called.actor.calls
+entries_called config scripts events mutator called = entries_at_rest config (opening_run config events) mutator called.actor called.here called.called.rest
 
 -- a thread that is none has no entry
 none_of : (threads : ℕ) (entries : List Entry) (thread : ℕ) → All (IsSettled threads) entries → (thread ≡ 0) ⊎ (threads < thread) → of_thread entries thread ≡ []
-none_of threads [] thread all out = refl
-none_of threads (entry ∷ entries) thread all out = rw (other entry.thread (All-head (IsSettled threads) entry entries all).least (All-head (IsSettled threads) entry entries all).most out) (none_of threads entries thread (All-tail (IsSettled threads) entry entries all) out)
+none_of threads [] thread all_settled outside = refl
+none_of threads (entry ∷ entries) thread all_settled outside = rw (other entry.thread (All-head (IsSettled threads) entry entries all_settled).least (All-head (IsSettled threads) entry entries all_settled).most outside) (none_of threads entries thread (All-tail (IsSettled threads) entry entries all_settled) outside)
   where
-    other : (n : ℕ) → 1 ≤ n → n ≤ threads → (thread ≡ 0) ⊎ (threads < thread) → eqb n thread ≡ false
-    other n least most (inl entry) = grind (arith, nat_tests)
-    other n least most (inr lt) = grind (arith, nat_tests)
+    other : (entry_thread : ℕ) → 1 ≤ entry_thread → entry_thread ≤ threads → (thread ≡ 0) ⊎ (threads < thread) → eqb entry_thread thread ≡ false
+    other entry_thread thread_least thread_most (inl entry) = grind (arith, nat_tests)
+    other entry_thread thread_least thread_most (inr thread_past) = grind (arith, nat_tests)
 
 -- ---- the whole history
 
@@ -80,17 +80,17 @@ end_sound config events = every_list pause_image heap_pauses config events
 
 -- a mutator that has called its script has begun these commands
 begun_script : (script : List Command) (actor : Actor) → HasDoneScript script actor → begun_by actor ≡ script
-begun_script script actor done =
-    ap (λ (rests : Bool). commands_of actor.calls ++ (if rests then [] else actor.command ∷ [])) done.rest ∙ append-nil (commands_of actor.calls) ∙ done.commands
+begun_script script actor has_done =
+    ap (λ (rests : Bool). commands_of actor.calls ++ (if rests then [] else actor.command ∷ [])) has_done.rest ∙ append-nil (commands_of actor.calls) ∙ has_done.commands
 
 -- where all have, the commands that were begun are the scripts
 begun_scripts : (config : Config) (scripts : Scripts) (stage : Stage Actor) → length scripts ≡ config.mutators → length stage.machines ≡ seat_count config.mutators config.helpers → AllHaveCalled config scripts stage → scripts_begun config stage ≡ scripts
 begun_scripts config scripts stage count seats all_called =
-    let many : length (scripts_begun config stage) ≡ config.mutators = begun_many config stage seats in
-    ext_get_or [] (scripts_begun config stage) scripts (many ∙ sym count) (λ t within.
-    let below : t < config.mutators = omega (arith, within, many) in
-    let called = all_called t below in
-    begun_is config stage seats t called.actor below called.here ∙ begun_script (get_or scripts t []) called.actor called.called)
+    let same_count : length (scripts_begun config stage) ≡ config.mutators = begun_many config stage seats in
+    ext_get_or [] (scripts_begun config stage) scripts (same_count ∙ sym count) (λ mutator mutator_within.
+    let mutator_below : mutator < config.mutators = omega (arith, mutator_within, same_count) in
+    let called = all_called mutator mutator_below in
+    begun_is config stage seats mutator called.actor mutator_below called.here ∙ begun_script (get_or scripts mutator []) called.actor called.called)
 
 pub whole : (config : Config) (scripts : Scripts) (events : List (Event Order)) → length scripts ≡ config.mutators → AreIdle config scripts (reached pause_image config events) → AllHaveCalled config scripts (reached pause_image config events) → IsWhole config scripts events
 whole config scripts events count idle all_called = record { idle = idle; follows = follows; legal = record { each = each; crowded = crowded } }
@@ -109,22 +109,22 @@ whole config scripts events count idle all_called = record { idle = idle; follow
 
     follows : (thread : ℕ) → commands_of (of_thread (past pause_image config events) thread) ≡ history.script_of scripts thread
     follows zero = ap commands_of (none_of config.mutators (past pause_image config events) 0 sound.entries (inl refl))
-    follows (suc t) = by_thread (cases_lt t config.mutators)
+    follows (suc mutator) = by_thread (cases_lt mutator config.mutators)
       where
-        by_thread : (t < config.mutators) ⊎ (config.mutators ≤ t) → commands_of (of_thread (past pause_image config events) (suc t)) ≡ slice_index_or scripts t []
-        by_thread (inl below) =
-            let called = all_called t below in
-            let next : suc t ≡ t + 1 = omega arith in
-            ap (λ (n : ℕ). commands_of (of_thread (past pause_image config events) n)) next ∙ ap commands_of (entries_called config scripts (events) t called) ∙ called.called.commands
+        by_thread : (mutator < config.mutators) ⊎ (config.mutators ≤ mutator) → commands_of (of_thread (past pause_image config events) (suc mutator)) ≡ slice_index_or scripts mutator []
+        by_thread (inl mutator_below) =
+            let called = all_called mutator mutator_below in
+            let same_successor : suc mutator ≡ mutator + 1 = omega arith in
+            ap (λ (n : ℕ). commands_of (of_thread (past pause_image config events) n)) same_successor ∙ ap commands_of (entries_called config scripts (events) mutator called) ∙ called.called.commands
         by_thread (inr past_all) =
-            ap commands_of (none_of config.mutators (past pause_image config events) (suc t) sound.entries (inr (omega arith))) ∙ sym (get_or_past scripts t [] (omega arith))
+            ap commands_of (none_of config.mutators (past pause_image config events) (suc mutator) sound.entries (inr (omega arith))) ∙ sym (get_or_past scripts mutator [] (omega arith))
 
 -- ---- memory in the end
 
 machine_shown : (plain : Plain) (stage : Stage Actor) (index : ℕ) (actor : Actor) → Shows plain stage → slice_get stage.machines index ≡ Some actor → machine_at plain index ≡ actor.machine
-machine_shown plain stage index actor shows here =
-    sym (ap (λ (ms : List Machine). get_or ms index no_machine) shows.machines_are)
-    ∙ get_or_from_slice_get (map (λ (actor : Actor). actor.machine) stage.machines) index actor.machine no_machine (slice_get-map (λ (actor : Actor). actor.machine) stage.machines index ∙ ap (option_map (λ (actor : Actor). actor.machine)) here)
+machine_shown plain stage index actor shows machine_there =
+    sym (ap (λ (given_machines : List Machine). get_or given_machines index no_machine) shows.machines_are)
+    ∙ get_or_from_slice_get (map (λ (actor : Actor). actor.machine) stage.machines) index actor.machine no_machine (slice_get-map (λ (actor : Actor). actor.machine) stage.machines index ∙ ap (option_map (λ (actor : Actor). actor.machine)) machine_there)
 
 -- an end of the control is no time at which it stores
 gone_stores_none : (spot : ControlSpot) (image : List ℕ) → ◌≡◌ {A = Option Order} (if is_gone spot then None else Some Nothing) None → stored_image spot image ≡ None
@@ -140,90 +140,90 @@ idle_stores_none script calls _ idle = refl
 none_stored : (config : Config) (scripts : Scripts) (stage : Stage Actor) (plain : Plain) → length stage.machines ≡ seat_count config.mutators config.helpers → AreIdle config scripts stage → Shows plain stage → image_read (machine_at plain (control_number config)) ≡ None
 none_stored config scripts stage plain seats idle shows =
     let actor : Actor = get_or stage.machines (control_number config) other in
-    let here : slice_get stage.machines (control_number config) ≡ Some actor = slice_get-get_or stage.machines (control_number config) other (omega (arith, seats)) in
-    let no_turn = ap (turn_of scripts (control_number config)) (sym here) ∙ idle (control_number config) (omega arith) in
-    ap image_read (machine_shown plain stage (control_number config) actor shows here)
+    let machine_there : slice_get stage.machines (control_number config) ≡ Some actor = slice_get-get_or stage.machines (control_number config) other (omega (arith, seats)) in
+    let no_turn = ap (turn_of scripts (control_number config)) (sym machine_there) ∙ idle (control_number config) (omega arith) in
+    ap image_read (machine_shown plain stage (control_number config) actor shows machine_there)
     ∙ idle_stores_none (nth_script scripts (control_number config)) actor.calls actor.machine (none_before_map _ (order_by (nth_script scripts (control_number config)) actor.calls actor.machine) no_turn)
   where
     other : Actor
     other = record { machine = no_machine; command = Gc; calls = [] }
 
 pub all_rest : (config : Config) (scripts : Scripts) (items : List Item) (limit : ℕ) (jobs : Jobs) (plain : Plain) → HasFinished config scripts items limit jobs plain → AllRest plain
-all_rest config scripts items limit jobs plain done = record {
-  mutators = λ t below.
-      let called = done.called t (subst (λ (config : Config). t < config.mutators) done.config below) in
-      ap is_resting (machine_shown plain (end_of config scripts items limit) t called.actor done.shows called.here) ∙ called.called.rest;
-  control = subst (λ (config : Config). image_read (machine_at plain (control_number config)) ≡ None) (sym done.config)
-      (none_stored config scripts (end_of config scripts items limit) plain (end_sound config (events_of config scripts items limit)).of_heap.machines done.idle done.shows);
+all_rest config scripts items limit jobs plain has_finished = record {
+  mutators = λ mutator mutator_below.
+      let called = has_finished.called mutator (subst (λ (config : Config). mutator < config.mutators) has_finished.config mutator_below) in
+      ap is_resting (machine_shown plain (end_of config scripts items limit) mutator called.actor has_finished.shows called.here) ∙ called.called.rest;
+  control = subst (λ (config : Config). image_read (machine_at plain (control_number config)) ≡ None) (sym has_finished.config)
+      (none_stored config scripts (end_of config scripts items limit) plain (end_sound config (events_of config scripts items limit)).of_heap.machines has_finished.idle has_finished.shows);
 }
 
 -- the work has the replies of the history
 replies_shown : (config : Config) (scripts : Scripts) (items : List Item) (limit : ℕ) (jobs : Jobs) (plain : Plain) → HasFinished config scripts items limit jobs plain → (thread : ℕ) → 1 ≤ thread → thread ≤ config.mutators
     → work.replies_of jobs (thread - 1) ≡ history.replies_of (of_thread (history_of config scripts items limit) thread)
-replies_shown config scripts items limit jobs plain done thread low high =
-    let below : thread - 1 < config.mutators = omega arith in
-    let called = done.called (thread - 1) below in
-    let same : thread - 1 + 1 ≡ thread = omega arith in
-    done.tells.replies (thread - 1) called.actor below called.here
-    ∙ sym (ap history.replies_of (ap (of_thread (history_of config scripts items limit)) (sym same) ∙ entries_called config scripts (events_of config scripts items limit) (thread - 1) called))
+replies_shown config scripts items limit jobs plain has_finished thread some_thread thread_at_most =
+    let mutator_below : thread - 1 < config.mutators = omega arith in
+    let called = has_finished.called (thread - 1) mutator_below in
+    let thread_back : thread - 1 + 1 ≡ thread = omega arith in
+    has_finished.tells.replies (thread - 1) called.actor mutator_below called.here
+    ∙ sym (ap history.replies_of (ap (of_thread (history_of config scripts items limit)) (sym thread_back) ∙ entries_called config scripts (events_of config scripts items limit) (thread - 1) called))
 
 -- ---- the text
 
-root_shown : (text : Text) (graph : Graph) (thread other_thread index : ℕ) → 1 ≤ other_thread → other_thread ≤ thread → index < 16 → text.roots ≡ root_rows graph.root thread → root_of text other_thread index ≡ graph.root other_thread index
-root_shown text graph thread other_thread index low high lt same =
-    let none : List Reference = [] in
-    ap (λ (rows : List (List Reference)). get_or (get_or rows (other_thread - 1) none) index None) same
-    ∙ ap (λ (row : List Reference). get_or row index None) (get_or-map-range_with_len (λ thread. map (graph.root thread) (range_with_len 0 16)) 1 thread (other_thread - 1) other_thread none (omega arith) (omega arith))
-    ∙ get_or-map-range_with_len (graph.root other_thread) 0 16 index index None lt (omega arith)
+root_shown : (text : Text) (graph : Graph) (thread asked_thread index : ℕ) → 1 ≤ asked_thread → asked_thread ≤ thread → index < 16 → text.roots ≡ root_rows graph.root thread → root_of text asked_thread index ≡ graph.root asked_thread index
+root_shown text graph thread asked_thread index some_thread asked_at_most index_below same_rows =
+    let no_row : List Reference = [] in
+    ap (λ (rows : List (List Reference)). get_or (get_or rows (asked_thread - 1) no_row) index None) same_rows
+    ∙ ap (λ (row : List Reference). get_or row index None) (get_or-map-range_with_len (λ thread. map (graph.root thread) (range_with_len 0 16)) 1 thread (asked_thread - 1) asked_thread no_row (omega arith) (omega arith))
+    ∙ get_or-map-range_with_len (graph.root asked_thread) 0 16 index index None index_below (omega arith)
 
-pin_shown : (text : Text) (graph : Graph) (n thread index : ℕ) → 1 ≤ thread → thread ≤ n → index < 4 → text.pins ≡ pin_rows (λ thread slot. name_in (graph.pin thread slot)) n → pin_of text thread index ≡ name_in (graph.pin thread index)
-pin_shown text graph n thread index low high lt same =
-    let none : List Reference = [] in
-    ap (λ (rows : List (List Reference)). get_or (get_or rows (thread - 1) none) index None) same
-    ∙ ap (λ (row : List Reference). get_or row index None) (get_or-map-range_with_len (λ thread. map (λ slot. name_in (graph.pin thread slot)) (range_with_len 0 4)) 1 n (thread - 1) thread none (omega arith) (omega arith))
-    ∙ get_or-map-range_with_len (λ slot. name_in (graph.pin thread slot)) 0 4 index index None lt (omega arith)
+pin_shown : (text : Text) (graph : Graph) (thread_count thread index : ℕ) → 1 ≤ thread → thread ≤ thread_count → index < 4 → text.pins ≡ pin_rows (λ thread slot. name_in (graph.pin thread slot)) thread_count → pin_of text thread index ≡ name_in (graph.pin thread index)
+pin_shown text graph thread_count thread index some_thread thread_at_most index_below same_rows =
+    let no_row : List Reference = [] in
+    ap (λ (rows : List (List Reference)). get_or (get_or rows (thread - 1) no_row) index None) same_rows
+    ∙ ap (λ (row : List Reference). get_or row index None) (get_or-map-range_with_len (λ thread. map (λ slot. name_in (graph.pin thread slot)) (range_with_len 0 4)) 1 thread_count (thread - 1) thread no_row (omega arith) (omega arith))
+    ∙ get_or-map-range_with_len (λ slot. name_in (graph.pin thread slot)) 0 4 index index None index_below (omega arith)
 
 pub text_shown : (version threads : ℕ) (jobs : Jobs) (entries : List Entry) (text : Text) → length text.roots ≡ threads → texts.ShowsGraph text threads (after (graph_opening threads) entries)
     → ((thread : ℕ) → 1 ≤ thread → thread ≤ threads → work.replies_of jobs (thread - 1) ≡ history.replies_of (of_thread entries thread))
     → answer_text version (length text.roots) (λ thread. work.replies_of jobs (thread - 1)) text.rows (root_of text) (pin_of text)
     ≡ answer_text version threads (λ thread. history.replies_of (of_thread entries thread)) (map (row_in (after (graph_opening threads) entries)) (names_of text)) (after (graph_opening threads) entries).root (λ thread slot. name_in ((after (graph_opening threads) entries).pin thread slot))
-text_shown version threads jobs entries text count shows told =
-    let g = after (graph_opening threads) entries in
-    let rows : text.rows ≡ map (row_in g) (names_of text) = shows.rows in
-    let pin : ℕ → ℕ → Reference = λ thread slot. name_in (g.pin thread slot) in
+text_shown version threads jobs entries text count shows told_replies =
+    let end_graph = after (graph_opening threads) entries in
+    let rows : text.rows ≡ map (row_in end_graph) (names_of text) = shows.rows in
+    let pin : ℕ → ℕ → Reference = λ thread slot. name_in (end_graph.pin thread slot) in
     ap (λ (threads : ℕ). answer_text version threads (λ thread. work.replies_of jobs (thread - 1)) text.rows (root_of text) (pin_of text)) count
-    ∙ ap (λ (rs : List Row). answer_text version threads (λ thread. work.replies_of jobs (thread - 1)) rs (root_of text) (pin_of text)) rows
-    ∙ answer_text_same version threads (λ thread. work.replies_of jobs (thread - 1)) (λ thread. history.replies_of (of_thread entries thread)) (map (row_in g) (names_of text)) (root_of text) g.root (pin_of text) pin
-    (λ thread low high. told thread (omega arith) (omega arith))
-    (λ thread index low high lt. root_shown text g threads thread index (omega arith) (omega arith) lt shows.roots)
-    (λ thread index low high lt. pin_shown text g threads thread index (omega arith) (omega arith) lt shows.pins)
+    ∙ ap (λ (given_rows : List Row). answer_text version threads (λ thread. work.replies_of jobs (thread - 1)) given_rows (root_of text) (pin_of text)) rows
+    ∙ answer_text_same version threads (λ thread. work.replies_of jobs (thread - 1)) (λ thread. history.replies_of (of_thread entries thread)) (map (row_in end_graph) (names_of text)) (root_of text) end_graph.root (pin_of text) pin
+    (λ thread low high. told_replies thread (omega arith) (omega arith))
+    (λ thread index low high index_below. root_shown text end_graph threads thread index (omega arith) (omega arith) index_below shows.roots)
+    (λ thread index low high index_below. pin_shown text end_graph threads thread index (omega arith) (omega arith) index_below shows.pins)
 
 pub replayed : (bytes : List ℕ) (version : ℕ) (config : Config) (scripts : Scripts) (items : List Item) (limit : ℕ) (jobs : Jobs) (plain : Plain) (text : Text)
     → Reads bytes version config scripts items → length scripts ≡ config.mutators → HasFinished config scripts items limit jobs plain → length text.roots ≡ config.mutators → texts.ShowsGraph text config.mutators (after (first_graph config) (history_of config scripts items limit))
-    → IsReplayed bytes limit (answer_text version (length text.roots) (λ t. work.replies_of jobs (t - 1)) text.rows (root_of text) (pin_of text))
-replayed bytes version config scripts items limit jobs plain text reads count done roots shows = record {
+    → IsReplayed bytes limit (answer_text version (length text.roots) (λ thread. work.replies_of jobs (thread - 1)) text.rows (root_of text) (pin_of text))
+replayed bytes version config scripts items limit jobs plain text reads count has_finished roots shows = record {
   version = version;
   config = config;
   scripts = scripts;
   items = items;
   reads = reads;
-  whole = whole config scripts (events_of config scripts items limit) count done.idle done.called;
-  text = record { names = names_of text; reach = shows.reach; text = text_shown version config.mutators jobs (history_of config scripts items limit) text roots shows (replies_shown config scripts items limit jobs plain done) };
+  whole = whole config scripts (events_of config scripts items limit) count has_finished.idle has_finished.called;
+  text = record { names = names_of text; reach = shows.reach; text = text_shown version config.mutators jobs (history_of config scripts items limit) text roots shows (replies_shown config scripts items limit jobs plain has_finished) };
 }
 
 -- the same, with the history behind it
 pub replayed_noted : (bytes : List ℕ) (version : ℕ) (config : Config) (scripts : Scripts) (items : List Item) (limit : ℕ) (jobs : Jobs) (plain : Plain) (text : Text) (noted : List Entry)
     → Reads bytes version config scripts items → length scripts ≡ config.mutators → HasFinished config scripts items limit jobs plain → length text.roots ≡ config.mutators → texts.ShowsGraph text config.mutators (after (first_graph config) (history_of config scripts items limit))
-    → noted ≡ history_of config scripts items limit → IsReplayedNoted bytes limit (answer_text version (length text.roots) (λ t. work.replies_of jobs (t - 1)) text.rows (root_of text) (pin_of text) ++ history_text noted)
+    → noted ≡ history_of config scripts items limit → IsReplayedNoted bytes limit (answer_text version (length text.roots) (λ thread. work.replies_of jobs (thread - 1)) text.rows (root_of text) (pin_of text) ++ history_text noted)
 unfolding replayed
-replayed_noted bytes version config scripts items limit jobs plain text noted reads count done roots shows are = record {
+replayed_noted bytes version config scripts items limit jobs plain text noted reads count has_finished roots shows noted_is = record {
   version = version;
   config = config;
   scripts = scripts;
   items = items;
   reads = reads;
-  whole = whole config scripts (events_of config scripts items limit) count done.idle done.called;
-  answer = answer_text version (length text.roots) (λ t. work.replies_of jobs (t - 1)) text.rows (root_of text) (pin_of text);
-  text = (replayed bytes version config scripts items limit jobs plain text reads count done roots shows).text;
-  out_is = ap (λ h. answer_text version (length text.roots) (λ t. work.replies_of jobs (t - 1)) text.rows (root_of text) (pin_of text) ++ history_text h) are;
+  whole = whole config scripts (events_of config scripts items limit) count has_finished.idle has_finished.called;
+  answer = answer_text version (length text.roots) (λ thread. work.replies_of jobs (thread - 1)) text.rows (root_of text) (pin_of text);
+  text = (replayed bytes version config scripts items limit jobs plain text reads count has_finished roots shows).text;
+  out_is = ap (λ any_history. answer_text version (length text.roots) (λ thread. work.replies_of jobs (thread - 1)) text.rows (root_of text) (pin_of text) ++ history_text any_history) noted_is;
 }

@@ -14,126 +14,126 @@ use Rattle.trace_runs.specs.Readings.{Reading, ReadNothing, ReadTrace, ReadPair,
 use Rattle.shen_graph.proofs.Numbers.{eqb_itself}
 
 same_from_test : (xs ys : List ℕ) → pointwise eqb xs ys ≡ true → xs ≡ ys
-same_from_test [] [] same = refl
-same_from_test [] (y ∷ ys) same = absurd cc
-same_from_test (x ∷ xs) [] same = absurd cc
-same_from_test (x ∷ xs) (y ∷ ys) same = by_head (eqb x y) refl (same_from_test xs ys) same
+same_from_test [] [] same_test = refl
+same_from_test [] (y ∷ ys) same_test = absurd cc
+same_from_test (x ∷ xs) [] same_test = absurd cc
+same_from_test (x ∷ xs) (y ∷ ys) same_test = by_head (eqb x y) refl (same_from_test xs ys) same_test
   where
     by_head : (holds : Bool) → eqb x y ≡ holds → (pointwise eqb xs ys ≡ true → xs ≡ ys) → (holds && pointwise eqb xs ys) ≡ true → x ∷ xs ≡ y ∷ ys
-    by_head true h rest t = rw (eqb-true x y h) (ap (λ (zs : List ℕ). y ∷ zs) (rest t))
-    by_head false h rest t = absurd cc
+    by_head true heads_equal rest both_equal = rw (eqb-true x y heads_equal) (ap (λ (zs : List ℕ). y ∷ zs) (rest both_equal))
+    by_head false heads_equal rest both_equal = absurd cc
 
 test_itself : (xs : List ℕ) → pointwise eqb xs xs ≡ true
 test_itself [] = refl
 test_itself (x ∷ xs) = rw (eqb_itself x) (test_itself xs)
 
 -- a list of one, and what its one element is
-pub one_word : {X : Type 0} (f : X → List ℕ) (words : List X) (w : X) (text : List ℕ) (holds : Bool) → 1 ≤ length words → length words < 2 → w ≡ get_or words 0 w → holds ≡ pointwise eqb (f w) text
+pub one_word : {X : Type 0} (f : X → List ℕ) (words : List X) (word : X) (text : List ℕ) (holds : Bool) → 1 ≤ length words → length words < 2 → word ≡ get_or words 0 word → holds ≡ pointwise eqb (f word) text
     → (holds ≡ true → map f words ≡ text ∷ []) × (map f words ≡ text ∷ [] → holds ≡ true)
-one_word f [] w text holds positive below is same = absurd (omega arith)
-one_word f (x ∷ []) w text holds positive below is e = (
-  (λ h. ap (λ (t : List ℕ). t ∷ []) (sym (ap f is) ∙ same_from_test (f w) text (sym e ∙ h))),
-  (λ h. let same : f w ≡ text = ap f is ∙ cc in e ∙ ap (λ (t : List ℕ). pointwise eqb t text) same ∙ test_itself text),
+one_word f [] word text holds positive few_words word_is same_text = absurd (omega arith)
+one_word f (x ∷ []) word text holds positive few_words word_is test_is = (
+  (λ h. ap (λ (some_text : List ℕ). some_text ∷ []) (sym (ap f word_is) ∙ same_from_test (f word) text (sym test_is ∙ h))),
+  (λ h. let same_text : f word ≡ text = ap f word_is ∙ cc in test_is ∙ ap (λ (some_text : List ℕ). pointwise eqb some_text text) same_text ∙ test_itself text),
 )
-one_word f (x ∷ y ∷ words) w text holds positive below is same = absurd (omega arith)
+one_word f (x ∷ y ∷ words) word text holds positive few_words word_is same_text = absurd (omega arith)
 
 -- what a test says of that which it tests
 pub decided : (holds : Bool) (P : Type 0) → (holds ≡ true → P) × (P → holds ≡ true) → MatchBool holds P (P → ⊥)
-decided true P both = both.0 refl
-decided false P both = λ p. false≢true (both.1 p)
+decided true P both_ways = both_ways.0 refl
+decided false P both_ways = λ proof. false≢true (both_ways.1 proof)
 
 -- a list of three, of which the first is known
-pub word_and_two : {X : Type 0} (f : X → List ℕ) (words : List X) (a b c : X) (first : List ℕ) → 3 ≤ length words → length words < 4 → a ≡ get_or words 0 a → b ≡ get_or words 1 b → c ≡ get_or words 2 c
-    → true ≡ pointwise eqb (f a) first → map f words ≡ first ∷ f b ∷ f c ∷ []
-word_and_two f [] a b c first at_most below at_a at_b at_c same = absurd (omega arith)
-word_and_two f (x ∷ []) a b c first at_most below at_a at_b at_c same = absurd (omega arith)
-word_and_two f (x ∷ y ∷ []) a b c first at_most below at_a at_b at_c same = absurd (omega arith)
-word_and_two f (x ∷ y ∷ z ∷ []) a b c first at_most below at_a at_b at_c same =
-    ap (λ (t : List ℕ). t ∷ f y ∷ f z ∷ []) (sym (ap f at_a) ∙ same_from_test (f a) first (sym same))
-    ∙ ap (λ (t : List ℕ). first ∷ t ∷ f z ∷ []) (sym (ap f at_b))
-    ∙ ap (λ (t : List ℕ). first ∷ f b ∷ t ∷ []) (sym (ap f at_c))
-word_and_two f (x ∷ y ∷ z ∷ w ∷ words) a b c first at_most below at_a at_b at_c same = absurd (omega arith)
+pub word_and_two : {X : Type 0} (f : X → List ℕ) (words : List X) (first_word second_word third_word : X) (first_text : List ℕ) → 3 ≤ length words → length words < 4 → first_word ≡ get_or words 0 first_word → second_word ≡ get_or words 1 second_word → third_word ≡ get_or words 2 third_word
+    → true ≡ pointwise eqb (f first_word) first_text → map f words ≡ first_text ∷ f second_word ∷ f third_word ∷ []
+word_and_two f [] first_word second_word third_word first_text at_most few_words at_a at_b at_c first_same = absurd (omega arith)
+word_and_two f (x ∷ []) first_word second_word third_word first_text at_most few_words at_a at_b at_c first_same = absurd (omega arith)
+word_and_two f (x ∷ y ∷ []) first_word second_word third_word first_text at_most few_words at_a at_b at_c first_same = absurd (omega arith)
+word_and_two f (x ∷ y ∷ z ∷ []) first_word second_word third_word first_text at_most few_words at_a at_b at_c first_same =
+    ap (λ (some_text : List ℕ). some_text ∷ f y ∷ f z ∷ []) (sym (ap f at_a) ∙ same_from_test (f first_word) first_text (sym first_same))
+    ∙ ap (λ (some_text : List ℕ). first_text ∷ some_text ∷ f z ∷ []) (sym (ap f at_b))
+    ∙ ap (λ (some_text : List ℕ). first_text ∷ f second_word ∷ some_text ∷ []) (sym (ap f at_c))
+word_and_two f (x ∷ y ∷ z ∷ w ∷ words) first_word second_word third_word first_text at_most few_words at_a at_b at_c first_same = absurd (omega arith)
 
 -- a list of two, of which the first is known
-pub word_and_one : {X : Type 0} (f : X → List ℕ) (words : List X) (a b : X) (first : List ℕ) → 2 ≤ length words → length words < 3 → a ≡ get_or words 0 a → b ≡ get_or words 1 b → true ≡ pointwise eqb (f a) first
-    → map f words ≡ first ∷ f b ∷ []
-word_and_one f [] a b first at_most below at_a at_b same = absurd (omega arith)
-word_and_one f (x ∷ []) a b first at_most below at_a at_b same = absurd (omega arith)
-word_and_one f (x ∷ y ∷ []) a b first at_most below at_a at_b same =
-    ap (λ (t : List ℕ). t ∷ f y ∷ []) (sym (ap f at_a) ∙ same_from_test (f a) first (sym same)) ∙ ap (λ (t : List ℕ). first ∷ t ∷ []) (sym (ap f at_b))
-word_and_one f (x ∷ y ∷ z ∷ words) a b first at_most below at_a at_b same = absurd (omega arith)
+pub word_and_one : {X : Type 0} (f : X → List ℕ) (words : List X) (first_word second_word : X) (first_text : List ℕ) → 2 ≤ length words → length words < 3 → first_word ≡ get_or words 0 first_word → second_word ≡ get_or words 1 second_word → true ≡ pointwise eqb (f first_word) first_text
+    → map f words ≡ first_text ∷ f second_word ∷ []
+word_and_one f [] first_word second_word first_text at_most few_words at_a at_b first_same = absurd (omega arith)
+word_and_one f (x ∷ []) first_word second_word first_text at_most few_words at_a at_b first_same = absurd (omega arith)
+word_and_one f (x ∷ y ∷ []) first_word second_word first_text at_most few_words at_a at_b first_same =
+    ap (λ (some_text : List ℕ). some_text ∷ f y ∷ []) (sym (ap f at_a) ∙ same_from_test (f first_word) first_text (sym first_same)) ∙ ap (λ (some_text : List ℕ). first_text ∷ some_text ∷ []) (sym (ap f at_b))
+word_and_one f (x ∷ y ∷ z ∷ words) first_word second_word first_text at_most few_words at_a at_b first_same = absurd (omega arith)
 
 -- a list of three, of which the first two are known
-pub three_words : {X : Type 0} (f : X → List ℕ) (words : List X) (a b c : X) (first second : List ℕ) → 3 ≤ length words → length words < 4 → a ≡ get_or words 0 a → b ≡ get_or words 1 b → c ≡ get_or words 2 c
-    → true ≡ pointwise eqb (f a) first → true ≡ pointwise eqb (f b) second → map f words ≡ first ∷ second ∷ f c ∷ []
-three_words f [] a b c first second at_most below at_a at_b at_c same h = absurd (omega arith)
-three_words f (x ∷ []) a b c first second at_most below at_a at_b at_c same h = absurd (omega arith)
-three_words f (x ∷ y ∷ []) a b c first second at_most below at_a at_b at_c same h = absurd (omega arith)
-three_words f (x ∷ y ∷ z ∷ []) a b c first second at_most below at_a at_b at_c same h =
-    ap (λ (t : List ℕ). t ∷ f y ∷ f z ∷ []) (sym (ap f at_a) ∙ same_from_test (f a) first (sym same))
-    ∙ ap (λ (t : List ℕ). first ∷ t ∷ f z ∷ []) (sym (ap f at_b) ∙ same_from_test (f b) second (sym h))
-    ∙ ap (λ (t : List ℕ). first ∷ second ∷ t ∷ []) (sym (ap f at_c))
-three_words f (x ∷ y ∷ z ∷ w ∷ words) a b c first second at_most below at_a at_b at_c same h = absurd (omega arith)
+pub three_words : {X : Type 0} (f : X → List ℕ) (words : List X) (first_word second_word third_word : X) (first_text second : List ℕ) → 3 ≤ length words → length words < 4 → first_word ≡ get_or words 0 first_word → second_word ≡ get_or words 1 second_word → third_word ≡ get_or words 2 third_word
+    → true ≡ pointwise eqb (f first_word) first_text → true ≡ pointwise eqb (f second_word) second → map f words ≡ first_text ∷ second ∷ f third_word ∷ []
+three_words f [] first_word second_word third_word first_text second at_most few_words at_a at_b at_c first_same second_same = absurd (omega arith)
+three_words f (x ∷ []) first_word second_word third_word first_text second at_most few_words at_a at_b at_c first_same second_same = absurd (omega arith)
+three_words f (x ∷ y ∷ []) first_word second_word third_word first_text second at_most few_words at_a at_b at_c first_same second_same = absurd (omega arith)
+three_words f (x ∷ y ∷ z ∷ []) first_word second_word third_word first_text second at_most few_words at_a at_b at_c first_same second_same =
+    ap (λ (some_text : List ℕ). some_text ∷ f y ∷ f z ∷ []) (sym (ap f at_a) ∙ same_from_test (f first_word) first_text (sym first_same))
+    ∙ ap (λ (some_text : List ℕ). first_text ∷ some_text ∷ f z ∷ []) (sym (ap f at_b) ∙ same_from_test (f second_word) second (sym second_same))
+    ∙ ap (λ (some_text : List ℕ). first_text ∷ second ∷ some_text ∷ []) (sym (ap f at_c))
+three_words f (x ∷ y ∷ z ∷ w ∷ words) first_word second_word third_word first_text second at_most few_words at_a at_b at_c first_same second_same = absurd (omega arith)
 
 -- what the third word says
 pub number_named : (command option : List ℕ) (usual most : ℕ) (words : List (List ℕ)) (number : List ℕ) (found : Option ℕ) → words ≡ command ∷ option ∷ number ∷ []
-    → MatchOption found ((n : ℕ) → IsUpTo most n → number ≡ decimal n → ⊥) (λ n. IsUpTo most n × (number ≡ decimal n))
-    → MatchOption found (((n : ℕ) × IsNumbered command option usual most words n) → ⊥) (IsNumbered command option usual most words)
-number_named command option usual most words number (Some n) are read = inr (are ∙ ap (λ (t : List ℕ). command ∷ option ∷ t ∷ []) read.1, read.0)
-number_named command option usual most words number None are none = λ asked. by_form asked.0 asked.1
+    → MatchOption found ((value : ℕ) → IsUpTo most value → number ≡ decimal value → ⊥) (λ value. IsUpTo most value × (number ≡ decimal value))
+    → MatchOption found (((value : ℕ) × IsNumbered command option usual most words value) → ⊥) (IsNumbered command option usual most words)
+number_named command option usual most words number (Some value) words_are read = inr (words_are ∙ ap (λ (some_text : List ℕ). command ∷ option ∷ some_text ∷ []) read.1, read.0)
+number_named command option usual most words number None words_are number_read = λ asked. by_form asked.0 asked.1
   where
-    third : (a b : List ℕ) → command ∷ option ∷ a ∷ [] ≡ command ∷ option ∷ b ∷ [] → a ≡ b
-    third a b e = ap (λ (ws : List (List ℕ)). get_or ws 2 []) e
+    third : (first_text second_text : List ℕ) → command ∷ option ∷ first_text ∷ [] ≡ command ∷ option ∷ second_text ∷ [] → first_text ≡ second_text
+    third first_text second_text words_same = ap (λ (ws : List (List ℕ)). get_or ws 2 []) words_same
 
-    by_form : (n : ℕ) → IsNumbered command option usual most words n → ⊥
-    by_form n (inl one) = absurd (omega (arith, ap length (sym are ∙ one.0)))
-    by_form n (inr three) = none n three.1 (third number (decimal n) (sym are ∙ three.0))
+    by_form : (read_number : ℕ) → IsNumbered command option usual most words read_number → ⊥
+    by_form read_number (inl one_form) = absurd (omega (arith, ap length (sym words_are ∙ one_form.0)))
+    by_form read_number (inr three_form) = number_read read_number three_form.1 (third number (decimal read_number) (sym words_are ∙ three_form.0))
 
 -- a seed is 0, or a number from 1 on
 
 pub zero_named : (word : List ℕ) → true ≡ pointwise eqb word (codes "0") → (0 ≤ most_seed) × (word ≡ decimal 0)
-zero_named word same = (omega arith, same_from_test word (codes "0") (sym same) ∙ sym (decimal_digit 0 (omega arith)))
+zero_named word zero_test = (omega arith, same_from_test word (codes "0") (sym zero_test) ∙ sym (decimal_digit 0 (omega arith)))
 
-pub seed_named : (word : List ℕ) (found : Option ℕ) → false ≡ pointwise eqb word (codes "0") → MatchOption found ((n : ℕ) → IsUpTo most_seed n → word ≡ decimal n → ⊥) (λ n. IsUpTo most_seed n × (word ≡ decimal n))
-    → MatchOption found ((n : ℕ) → n ≤ most_seed → word ≡ decimal n → ⊥) (λ n. (n ≤ most_seed) × (word ≡ decimal n))
-seed_named word (Some n) other read = (read.0.1, read.1)
-seed_named word None other none = by_number
+pub seed_named : (word : List ℕ) (found : Option ℕ) → false ≡ pointwise eqb word (codes "0") → MatchOption found ((seed : ℕ) → IsUpTo most_seed seed → word ≡ decimal seed → ⊥) (λ seed. IsUpTo most_seed seed × (word ≡ decimal seed))
+    → MatchOption found ((seed : ℕ) → seed ≤ most_seed → word ≡ decimal seed → ⊥) (λ seed. (seed ≤ most_seed) × (word ≡ decimal seed))
+seed_named word (Some seed) not_zero read = (read.0.1, read.1)
+seed_named word None not_zero number_read = by_number
   where
-    by_number : (n : ℕ) → n ≤ most_seed → word ≡ decimal n → ⊥
-    by_number zero small is = false≢true (other ∙ ap (λ (t : List ℕ). pointwise eqb t (codes "0")) (is ∙ decimal_digit 0 (omega arith)) ∙ test_itself (codes "0"))
-    by_number (suc n) small is = none (suc n) (omega arith, small) is
+    by_number : (read_number : ℕ) → read_number ≤ most_seed → word ≡ decimal read_number → ⊥
+    by_number zero small word_is = false≢true (not_zero ∙ ap (λ (some_text : List ℕ). pointwise eqb some_text (codes "0")) (word_is ∙ decimal_digit 0 (omega arith)) ∙ test_itself (codes "0"))
+    by_number (suc read_number) small word_is = number_read (suc read_number) (omega arith, small) word_is
 
 -- words of which both are numbers in their ranges ask for a churn
-pub is_churn : (words : List (List ℕ)) (a b : List ℕ) (seed count : ℕ) → words ≡ codes "churn" ∷ a ∷ b ∷ [] → (seed ≤ most_seed) × (a ≡ decimal seed) → IsUpTo most_rounds count × (b ≡ decimal count) → IsChurn words seed count
-is_churn words a b seed count are first second =
-    (are ∙ ap (λ (t : List ℕ). codes "churn" ∷ t ∷ b ∷ []) first.1 ∙ ap (λ (t : List ℕ). codes "churn" ∷ decimal seed ∷ t ∷ []) second.1, first.0, second.0)
+pub is_churn : (words : List (List ℕ)) (seed_text count_text : List ℕ) (seed count : ℕ) → words ≡ codes "churn" ∷ seed_text ∷ count_text ∷ [] → (seed ≤ most_seed) × (seed_text ≡ decimal seed) → IsUpTo most_rounds count × (count_text ≡ decimal count) → IsChurn words seed count
+is_churn words seed_text count_text seed count words_are seed_right second =
+    (words_are ∙ ap (λ (some_text : List ℕ). codes "churn" ∷ some_text ∷ count_text ∷ []) seed_right.1 ∙ ap (λ (some_text : List ℕ). codes "churn" ∷ decimal seed ∷ some_text ∷ []) second.1, seed_right.0, second.0)
 
 -- words of which the second is a number or none ask for a queue of that number, or for none
 pub queue_named : (words : List (List ℕ)) (number : List ℕ) (found : Option ℕ) → words ≡ codes "queue" ∷ number ∷ []
-    → MatchOption found ((n : ℕ) → IsUpTo most_numbers n → number ≡ decimal n → ⊥) (λ n. IsUpTo most_numbers n × (number ≡ decimal n))
+    → MatchOption found ((read_number : ℕ) → IsUpTo most_numbers read_number → number ≡ decimal read_number → ⊥) (λ read_number. IsUpTo most_numbers read_number × (number ≡ decimal read_number))
     → MatchOption found (((count : ℕ) × IsQueue words count) → ⊥) (IsQueue words)
-queue_named words number (Some n) are read = (are ∙ ap (λ (t : List ℕ). codes "queue" ∷ t ∷ []) read.1, read.0)
-queue_named words number None are none = λ asked. none asked.0 asked.1.1 (ap (λ (ws : List (List ℕ)). get_or ws 1 []) (sym are ∙ asked.1.0))
+queue_named words number (Some read_number) words_are read = (words_are ∙ ap (λ (some_text : List ℕ). codes "queue" ∷ some_text ∷ []) read.1, read.0)
+queue_named words number None words_are number_read = λ asked. number_read asked.0 asked.1.1 (ap (λ (ws : List (List ℕ)). get_or ws 1 []) (sym words_are ∙ asked.1.0))
 
 -- ---- the first word
 
 -- the first word is this one
 abbrev pub BeginWith : List ℕ → List (List ℕ) → Type 0
 BeginWith word [] = ⊥
-BeginWith word (first ∷ words) = first ≡ word
+BeginWith word (head_word ∷ words) = head_word ≡ word
 
-begins_as : (words more : List (List ℕ)) (word : List ℕ) → words ≡ word ∷ more → BeginWith word words
-begins_as words more word are = subst (BeginWith word) (sym are) refl
+begins_as : (words more_words : List (List ℕ)) (word : List ℕ) → words ≡ word ∷ more_words → BeginWith word words
+begins_as words more_words word words_are = subst (BeginWith word) (sym words_are) refl
 
 -- who names a number of a command begins with the command
-pub numbered_begins : (command option : List ℕ) (usual most : ℕ) (words : List (List ℕ)) (n : ℕ) → IsNumbered command option usual most words n → BeginWith command words
-numbered_begins command option usual most words n (inl one) = begins_as words [] command one.0
-numbered_begins command option usual most words n (inr three) = begins_as words (option ∷ decimal n ∷ []) command three.0
+pub numbered_begins : (command option : List ℕ) (usual most : ℕ) (words : List (List ℕ)) (read_number : ℕ) → IsNumbered command option usual most words read_number → BeginWith command words
+numbered_begins command option usual most words read_number (inl one_form) = begins_as words [] command one_form.0
+numbered_begins command option usual most words read_number (inr three_form) = begins_as words (option ∷ decimal read_number ∷ []) command three_form.0
 
 -- what more words stand behind does not change the first one
-begins_longer : (word : List ℕ) (front more : List (List ℕ)) → BeginWith word front → BeginWith word (front ++ more)
-begins_longer word [] more begins = absurd begins
-begins_longer word (first ∷ front) more begins = begins
+begins_longer : (word : List ℕ) (front more_words : List (List ℕ)) → BeginWith word front → BeginWith word (front ++ more_words)
+begins_longer word [] more_words begins = absurd begins
+begins_longer word (head_word ∷ front) more_words begins = begins
 
 replay_begins : (words : List (List ℕ)) (steps : ℕ) → IsReplay words steps → BeginWith (codes "replay") words
 replay_begins words steps asked = numbered_begins (codes "replay") (codes "--steps") usual_steps most_steps words steps asked
@@ -170,9 +170,9 @@ begins_with_name words (Queue count) asked = queue_begins words count asked
 begins_with_name words Check asked = begins_as words [] (codes "check") asked
 
 -- words have one first word
-one_first : (a b : List ℕ) (words : List (List ℕ)) → BeginWith a words → BeginWith b words → a ≡ b
-one_first a b [] begins other = absurd begins
-one_first a b (word ∷ words) begins other = sym begins ∙ other
+one_first : (first_text second_text : List ℕ) (words : List (List ℕ)) → BeginWith first_text words → BeginWith second_text words → first_text ≡ second_text
+one_first first_text second_text [] begins begins_other = absurd begins
+one_first first_text second_text (word ∷ words) begins begins_other = sym begins ∙ begins_other
 
 -- modes that words ask for are of one command
 pub one_name : (words : List (List ℕ)) (mode other_mode : Mode) → Asks words mode → Asks words other_mode → name_of mode ≡ name_of other_mode
@@ -183,7 +183,7 @@ abbrev letters_of : List ℕ → ℕ
 letters_of word = get_or word 0 0 + get_or word 2 0
 
 abbrev reading_at : ℕ → Reading
-reading_at n = if n == letters_of (codes "churn") then ReadNothing else (if n == letters_of (codes "queue") then ReadNothing else (if n == letters_of (codes "check") then ReadPair else (if n == letters_of (codes "resume") then ReadDump else ReadTrace)))
+reading_at number = if number == letters_of (codes "churn") then ReadNothing else (if number == letters_of (codes "queue") then ReadNothing else (if number == letters_of (codes "check") then ReadPair else (if number == letters_of (codes "resume") then ReadDump else ReadTrace)))
 
 reading_named : (mode : Mode) → reading_of mode ≡ reading_at (letters_of (name_of mode))
 reading_named (Replay steps) = refl
@@ -200,73 +200,73 @@ pub one_reading : (words : List (List ℕ)) (mode other_mode : Mode) → Asks wo
 one_reading words mode other_mode asked also = reading_named mode ∙ ap (λ (word : List ℕ). reading_at (letters_of word)) (one_name words mode other_mode asked also) ∙ sym (reading_named other_mode)
 
 -- so words ask for what reads something, or for what reads nothing
-pub asks_alike : (words : List (List ℕ)) (mode b : Mode) → Asks words mode → Asks words b → ReadsInput mode → ReadsNothing b → ⊥
-asks_alike words mode b asked also reads none = subst HasInput (one_reading words mode b asked also ∙ none) reads
+pub asks_alike : (words : List (List ℕ)) (mode silent_mode : Mode) → Asks words mode → Asks words silent_mode → ReadsInput mode → ReadsNothing silent_mode → ⊥
+asks_alike words mode silent_mode asked also reads reads_nothing = subst HasInput (one_reading words mode silent_mode asked also ∙ reads_nothing) reads
 
 -- a list that is not empty begins with its first word
-pub first_word : {X : Type 0} (f : X → List ℕ) (words : List X) (w : X) (text : List ℕ) (holds : Bool) → 1 ≤ length words → w ≡ get_or words 0 w → holds ≡ pointwise eqb (f w) text
+pub first_word : {X : Type 0} (f : X → List ℕ) (words : List X) (word : X) (text : List ℕ) (holds : Bool) → 1 ≤ length words → word ≡ get_or words 0 word → holds ≡ pointwise eqb (f word) text
     → (holds ≡ true → BeginWith text (map f words)) × (BeginWith text (map f words) → holds ≡ true)
-first_word f [] w text holds positive is same = absurd (omega arith)
-first_word f (x ∷ xs) w text holds positive is same = (
-  (λ h. sym (ap f is) ∙ same_from_test (f w) text (sym same ∙ h)),
-  (λ begins. same ∙ ap (λ (t : List ℕ). pointwise eqb t text) (ap f is ∙ begins) ∙ test_itself text),
+first_word f [] word text holds positive word_is test_is = absurd (omega arith)
+first_word f (x ∷ xs) word text holds positive word_is test_is = (
+  (λ test_holds. sym (ap f word_is) ∙ same_from_test (f word) text (sym test_is ∙ test_holds)),
+  (λ begins. test_is ∙ ap (λ (some_text : List ℕ). pointwise eqb some_text text) (ap f word_is ∙ begins) ∙ test_itself text),
 )
 
 -- words of which the second is another one name no number behind an option
-pub other_option : {X : Type 0} (f : X → List ℕ) (command option : List ℕ) (usual most : ℕ) (words : List X) (b : X) (holds : Bool) → 2 ≤ length words → b ≡ get_or words 1 b → holds ≡ pointwise eqb (f b) option → holds ≡ false
-    → (n : ℕ) → IsNumbered command option usual most (map f words) n → ⊥
-other_option f command option usual most [] b holds at_most is same differs n asked = absurd (omega arith)
-other_option f command option usual most (x ∷ []) b holds at_most is same differs n asked = absurd (omega arith)
-other_option f command option usual most (x ∷ y ∷ words) b holds at_most is same differs n (inl one) = absurd (omega (arith, ap length one.0))
-other_option f command option usual most (x ∷ y ∷ words) b holds at_most is same differs n (inr three) =
-    let second : f y ≡ option = ap (λ (ws : List (List ℕ)). get_or ws 1 []) three.0 in
-    false≢true (sym differs ∙ same ∙ ap (λ (t : List ℕ). pointwise eqb t option) (ap f is ∙ second) ∙ test_itself option)
+pub other_option : {X : Type 0} (f : X → List ℕ) (command option : List ℕ) (usual most : ℕ) (words : List X) (second_word : X) (holds : Bool) → 2 ≤ length words → second_word ≡ get_or words 1 second_word → holds ≡ pointwise eqb (f second_word) option → holds ≡ false
+    → (read_number : ℕ) → IsNumbered command option usual most (map f words) read_number → ⊥
+other_option f command option usual most [] second_word holds at_most word_is test_is differs read_number asked = absurd (omega arith)
+other_option f command option usual most (x ∷ []) second_word holds at_most word_is test_is differs read_number asked = absurd (omega arith)
+other_option f command option usual most (x ∷ y ∷ words) second_word holds at_most word_is test_is differs read_number (inl one_form) = absurd (omega (arith, ap length one_form.0))
+other_option f command option usual most (x ∷ y ∷ words) second_word holds at_most word_is test_is differs read_number (inr three_form) =
+    let second : f y ≡ option = ap (λ (ws : List (List ℕ)). get_or ws 1 []) three_form.0 in
+    false≢true (sym differs ∙ test_is ∙ ap (λ (some_text : List ℕ). pointwise eqb some_text option) (ap f word_is ∙ second) ∙ test_itself option)
 
 -- no words have no first word
 pub none_begins : {X : Type 0} (f : X → List ℕ) (words : List X) (text : List ℕ) → length words < 1 → BeginWith text (map f words) → ⊥
-none_begins f [] text below begins = begins
-none_begins f (x ∷ xs) text below begins = absurd (omega arith)
+none_begins f [] text no_words begins = begins
+none_begins f (x ∷ xs) text no_words begins = absurd (omega arith)
 
 -- ---- the last word
 
 -- words of which the last one is this
-last_added : {X : Type 0} (f : X → List ℕ) (words : List X) (w : X) (text : List ℕ) (index : ℕ) → length words ≡ suc index → w ≡ get_or words index w → f w ≡ text → map f words ≡ map f (take index words) ++ text ∷ []
-last_added f [] w text index long is same = absurd (omega arith)
-last_added f (x ∷ []) w text zero long is same = ap (λ (t : List ℕ). t ∷ []) (sym (ap f is) ∙ same)
-last_added f (x ∷ []) w text (suc index) long is same = absurd (omega arith)
-last_added f (x ∷ y ∷ words) w text zero long is same = absurd (omega arith)
-last_added f (x ∷ y ∷ words) w text (suc index) long is same = ap (λ (ws : List (List ℕ)). f x ∷ ws) (last_added f (y ∷ words) w text index (omega arith) is same)
+last_added : {X : Type 0} (f : X → List ℕ) (words : List X) (word : X) (text : List ℕ) (index : ℕ) → length words ≡ suc index → word ≡ get_or words index word → f word ≡ text → map f words ≡ map f (take index words) ++ text ∷ []
+last_added f [] word text index words_length word_is same_text = absurd (omega arith)
+last_added f (x ∷ []) word text zero words_length word_is same_text = ap (λ (some_text : List ℕ). some_text ∷ []) (sym (ap f word_is) ∙ same_text)
+last_added f (x ∷ []) word text (suc index) words_length word_is same_text = absurd (omega arith)
+last_added f (x ∷ y ∷ words) word text zero words_length word_is same_text = absurd (omega arith)
+last_added f (x ∷ y ∷ words) word text (suc index) words_length word_is same_text = ap (λ (ws : List (List ℕ)). f x ∷ ws) (last_added f (y ∷ words) word text index (omega arith) word_is same_text)
 
 -- a front and one word more have this last word, and this front
-last_of : {X : Type 0} (f : X → List ℕ) (words : List X) (w : X) (front : List (List ℕ)) (text : List ℕ) (index : ℕ) → length words ≡ suc index → w ≡ get_or words index w → map f words ≡ front ++ text ∷ []
-    → (f w ≡ text) × (map f (take index words) ≡ front)
-last_of f [] w front text index long is same = absurd (omega arith)
-last_of f (x ∷ []) w [] text zero long is same = (ap f is ∙ ap (λ (ws : List (List ℕ)). get_or ws 0 []) same, refl)
-last_of f (x ∷ []) w (a ∷ front) text zero long is same = absurd (omega (arith, ap length same, length-append front (text ∷ [])))
-last_of f (x ∷ []) w front text (suc index) long is same = absurd (omega arith)
-last_of f (x ∷ y ∷ words) w front text zero long is same = absurd (omega arith)
-last_of f (x ∷ y ∷ words) w [] text (suc index) long is same = absurd (omega (arith, ap length same))
-last_of f (x ∷ y ∷ words) w (a ∷ front) text (suc index) long is same =
-    let rest : map f (y ∷ words) ≡ front ++ text ∷ [] = ap (λ (ws : List (List ℕ)). drop 1 ws) same in
-    let first : f x ≡ a = ap (λ (ws : List (List ℕ)). get_or ws 0 []) same in
-    let both = last_of f (y ∷ words) w front text index (omega arith) is rest in
-    (both.0, ap (λ (t : List ℕ). t ∷ map f (take index (y ∷ words))) first ∙ ap (λ (ws : List (List ℕ)). a ∷ ws) both.1)
+last_of : {X : Type 0} (f : X → List ℕ) (words : List X) (word : X) (front : List (List ℕ)) (text : List ℕ) (index : ℕ) → length words ≡ suc index → word ≡ get_or words index word → map f words ≡ front ++ text ∷ []
+    → (f word ≡ text) × (map f (take index words) ≡ front)
+last_of f [] word front text index words_length word_is same_words = absurd (omega arith)
+last_of f (x ∷ []) word [] text zero words_length word_is same_words = (ap f word_is ∙ ap (λ (ws : List (List ℕ)). get_or ws 0 []) same_words, refl)
+last_of f (x ∷ []) word (front_word ∷ front) text zero words_length word_is same_words = absurd (omega (arith, ap length same_words, length-append front (text ∷ [])))
+last_of f (x ∷ []) word front text (suc index) words_length word_is same_words = absurd (omega arith)
+last_of f (x ∷ y ∷ words) word front text zero words_length word_is same_words = absurd (omega arith)
+last_of f (x ∷ y ∷ words) word [] text (suc index) words_length word_is same_words = absurd (omega (arith, ap length same_words))
+last_of f (x ∷ y ∷ words) word (front_word ∷ front) text (suc index) words_length word_is same_words =
+    let rest : map f (y ∷ words) ≡ front ++ text ∷ [] = ap (λ (ws : List (List ℕ)). drop 1 ws) same_words in
+    let first_same : f x ≡ front_word = ap (λ (ws : List (List ℕ)). get_or ws 0 []) same_words in
+    let both_same = last_of f (y ∷ words) word front text index (omega arith) word_is rest in
+    (both_same.0, ap (λ (some_text : List ℕ). some_text ∷ map f (take index (y ∷ words))) first_same ∙ ap (λ (ws : List (List ℕ)). front_word ∷ ws) both_same.1)
 
 -- what is asked for where this is the last word: a replay by the words before it
-pub then_by_front : {X : Type 0} (f : X → List ℕ) (words front : List X) (w : X) (text : List ℕ) (index : ℕ) (found : Option ℕ) → length words ≡ suc index → w ≡ get_or words index w → front ≡ take index words
-    → true ≡ pointwise eqb (f w) text → MatchOption found (((steps : ℕ) × IsReplay (map f front) steps) → ⊥) (IsReplay (map f front)) → MatchOption found (((steps : ℕ) × IsReplayThen text (map f words) steps) → ⊥) (IsReplayThen text (map f words))
-then_by_front f words front w text index (Some steps) long is are same asked =
-    (map f front, last_added f words w text index long is (same_from_test (f w) text (sym same)) ∙ ap (λ ws. map f ws ++ text ∷ []) (sym are), asked)
-then_by_front f words front w text index None long is are same none = λ asked.
-    let parts = last_of f words w asked.1.0 text index long is asked.1.1 in
-    none (asked.0, subst (λ (ws : List (List ℕ)). IsReplay ws asked.0) (sym parts.1 ∙ ap (λ ws. map f ws) (sym are)) asked.1.2)
+pub then_by_front : {X : Type 0} (f : X → List ℕ) (words front : List X) (word : X) (text : List ℕ) (index : ℕ) (found : Option ℕ) → length words ≡ suc index → word ≡ get_or words index word → front ≡ take index words
+    → true ≡ pointwise eqb (f word) text → MatchOption found (((steps : ℕ) × IsReplay (map f front) steps) → ⊥) (IsReplay (map f front)) → MatchOption found (((steps : ℕ) × IsReplayThen text (map f words) steps) → ⊥) (IsReplayThen text (map f words))
+then_by_front f words front word text index (Some steps) words_length word_is front_is same_text asked =
+    (map f front, last_added f words word text index words_length word_is (same_from_test (f word) text (sym same_text)) ∙ ap (λ ws. map f ws ++ text ∷ []) (sym front_is), asked)
+then_by_front f words front word text index None words_length word_is front_is same_text front_matched = λ asked.
+    let last_parts = last_of f words word asked.1.0 text index words_length word_is asked.1.1 in
+    front_matched (asked.0, subst (λ (ws : List (List ℕ)). IsReplay ws asked.0) (sym last_parts.1 ∙ ap (λ ws. map f ws) (sym front_is)) asked.1.2)
 
 -- nothing is asked for by that last word where the last one differs
-pub then_other : {X : Type 0} (f : X → List ℕ) (words : List X) (w : X) (text : List ℕ) (index : ℕ) (holds : Bool) → length words ≡ suc index → w ≡ get_or words index w → holds ≡ pointwise eqb (f w) text → holds ≡ false
+pub then_other : {X : Type 0} (f : X → List ℕ) (words : List X) (word : X) (text : List ℕ) (index : ℕ) (holds : Bool) → length words ≡ suc index → word ≡ get_or words index word → holds ≡ pointwise eqb (f word) text → holds ≡ false
     → (steps : ℕ) → IsReplayThen text (map f words) steps → ⊥
-then_other f words w text index holds long is same differs steps asked =
-    let parts = last_of f words w asked.0 text index long is asked.1 in
-    false≢true (sym differs ∙ same ∙ ap (λ (t : List ℕ). pointwise eqb t text) parts.0 ∙ test_itself text)
+then_other f words word text index holds words_length word_is test_is differs steps asked =
+    let last_parts = last_of f words word asked.0 text index words_length word_is asked.1 in
+    false≢true (sym differs ∙ test_is ∙ ap (λ (some_text : List ℕ). pointwise eqb some_text text) last_parts.0 ∙ test_itself text)
 
 -- words that ask for none of the modes ask for nothing
 pub none_asked : (words : List (List ℕ)) → ((steps : ℕ) × IsReplay words steps → ⊥) → ((steps : ℕ) × IsReplayThen (codes "--history") words steps → ⊥) → ((n : ℕ) × IsReplayThen (codes "--dump") words n → ⊥) → ((n : ℕ) × IsResume words n → ⊥)
@@ -274,11 +274,11 @@ pub none_asked : (words : List (List ℕ)) → ((steps : ℕ) × IsReplay words 
 none_asked words replay noted dump resume run churn queue check asked = by_mode asked.0 asked.1
   where
     by_mode : (mode : Mode) → Asks words mode → ⊥
-    by_mode (Replay steps) is = replay (steps, is)
-    by_mode (Noted steps) is = noted (steps, is)
-    by_mode (Dump steps) is = dump (steps, is)
-    by_mode (Resume steps) is = resume (steps, is)
-    by_mode (Run workers) is = run (workers, is)
-    by_mode (Churn load) is = churn (load.seed, (load.count, is))
-    by_mode (Queue count) is = queue (count, is)
-    by_mode Check is = check is
+    by_mode (Replay steps) asks_mode = replay (steps, asks_mode)
+    by_mode (Noted steps) asks_mode = noted (steps, asks_mode)
+    by_mode (Dump steps) asks_mode = dump (steps, asks_mode)
+    by_mode (Resume steps) asks_mode = resume (steps, asks_mode)
+    by_mode (Run workers) asks_mode = run (workers, asks_mode)
+    by_mode (Churn load) asks_mode = churn (load.seed, (load.count, asks_mode))
+    by_mode (Queue count) asks_mode = queue (count, asks_mode)
+    by_mode Check asks_mode = check asks_mode

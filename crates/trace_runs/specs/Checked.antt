@@ -15,7 +15,7 @@ use Rattle.trace_text.specs.declared.message.Line.TheVariants as line
 -- the line of a verdict
 abbrev pub verdict_line : Verdict → Line
 verdict_line Yes = line.Yes
-verdict_line (NoEntry at) = line.NoEntry at
+verdict_line (NoEntry entry_number) = line.NoEntry entry_number
 verdict_line (Script thread) = line.NoScript thread
 verdict_line Text = line.NoText
 

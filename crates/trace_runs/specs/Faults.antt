@@ -11,13 +11,13 @@ use Rattle.trace_runs.specs.declared.status.Status.TheVariants.{BadTrace, ReadFa
 
 -- the line, and the status
 abbrev pub fault_line : TraceFault → Line
-fault_line (fault.BadLine n why) = line.BadLine n why
+fault_line (fault.BadLine line_number why) = line.BadLine line_number why
 fault_line (fault.TooLong bytes) = line.TooLong
 fault_line fault.ReadFault = line.ReadFault
 fault_line fault.NoMemory = line.NoMemory
 
 abbrev pub fault_status : TraceFault → Status
-fault_status (fault.BadLine n why) = BadTrace
+fault_status (fault.BadLine line_number why) = BadTrace
 fault_status (fault.TooLong bytes) = BadTrace
 fault_status fault.ReadFault = ReadFault
 fault_status fault.NoMemory = NoMemory

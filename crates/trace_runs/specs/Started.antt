@@ -8,8 +8,8 @@ use Rattle.trace_runs.specs.DealtParts.{Assigned, PartIsReady, IsDone, AreReady}
 
 -- a thread has the part of one bundle, or that part has run
 abbrev pub IsThread : Heap → Assigned → ℕ → ℕ → Thread → Type 0
-IsThread heap assigned workers k (Running handle) = PartIsReady heap assigned workers k (k + 1) handle.promise.0.value
-IsThread heap assigned workers k (Over part) = IsDone heap assigned workers k (k + 1) part
+IsThread heap assigned workers index (Running handle) = PartIsReady heap assigned workers index (index + 1) handle.promise.0.value
+IsThread heap assigned workers index (Over part) = IsDone heap assigned workers index (index + 1) part
 
 -- the parts of the last bundles, the last one first
 abbrev pub AreThreads : Heap → Assigned → ℕ → List Thread → Type 0

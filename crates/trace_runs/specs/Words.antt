@@ -7,9 +7,9 @@ use Rattle.trace_runs.specs.declared.mode.Mode.TheVariants.{Replay, Noted, Dump,
 
 -- the words are a command alone, which goes with its usual number, or the command, an option and a number
 abbrev pub IsNumbered : (command option : List ℕ) → (usual most : ℕ) → List (List ℕ) → ℕ → Type 0
-IsNumbered command option usual most words n =
-    ((words ≡ command ∷ []) × (n ≡ usual))
-    ⊎ ((words ≡ command ∷ option ∷ decimal n ∷ []) × IsUpTo most n)
+IsNumbered command option usual most words number =
+    ((words ≡ command ∷ []) × (number ≡ usual))
+    ⊎ ((words ≡ command ∷ option ∷ decimal number ∷ []) × IsUpTo most number)
 
 -- the steps that a replay may make where the words name no number, and the most that they may name
 abbrev pub usual_steps : ℕ

@@ -26,7 +26,7 @@ name_word name = decimal name.thread ++ codes "." ++ decimal name.count
 -- null is a dash
 abbrev pub reference_word : Reference → List ℕ
 reference_word None = codes "-"
-reference_word (Some n) = name_word n
+reference_word (Some name) = name_word name
 
 abbrev pub reply_word : Reply → List ℕ
 reply_word (Ref name) = name_word name
@@ -34,7 +34,7 @@ reply_word Null = codes "-"
 reply_word Ok = codes "ok"
 reply_word Yes = codes "yes"
 reply_word No = codes "no"
-reply_word (Number n) = decimal n
+reply_word (Number number) = decimal number
 reply_word Bad = codes "bad"
 reply_word Full = codes "full"
 reply_word (At place) = codes "@" ++ decimal place
@@ -79,7 +79,7 @@ answer_text version threads replies rows root pin =
 
 -- the text of an answer in memory
 abbrev pub spelled_answer : Answer → List ℕ
-spelled_answer a = answer_text a.version (length a.graph.roots) (λ t. replies_of a.replies (t - 1)) a.graph.rows (root_of a.graph) (pin_of a.graph)
+spelled_answer answer = answer_text answer.version (length answer.graph.roots) (λ thread. replies_of answer.replies (thread - 1)) answer.graph.rows (root_of answer.graph) (pin_of answer.graph)
 
 -- The text that answers, for a trace of this version, a history of so many threads: what its entries were answered, and the graph
 -- after them, with the objects that can be reached in the order of their names.

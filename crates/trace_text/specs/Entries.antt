@@ -12,7 +12,7 @@ use Rattle.trace_text.specs.History.{entry_line}
 -- the numbers of a reply are no larger than they can be written
 abbrev pub FitsReply : Reply → Type 0
 FitsReply (Ref name) = (name.thread < 2 ^ 32) × (name.count < 2 ^ 32)
-FitsReply (Number n) = n < 2 ^ 64
+FitsReply (Number number) = number < 2 ^ 64
 FitsReply (At place) = place < 2 ^ 64
 FitsReply _ = Unit {0}
 
@@ -33,18 +33,18 @@ BeginsWithNoEntry version threads bytes = (entry : Entry) (rest : List ℕ) → 
 
 -- the reply whose word begins with this byte, and the word
 abbrev pub word_begun_by : ℕ → Option (Reply × List ℕ)
-word_begun_by b =
-    if b == 45 then Some (Null, codes "-") else
-    (if b == 111 then Some (Ok, codes "ok") else
-    (if b == 121 then Some (Yes, codes "yes") else
-    (if b == 110 then Some (No, codes "no") else
-    (if b == 98 then Some (Bad, codes "bad") else
-    (if b == 102 then Some (Full, codes "full") else None)))))
+word_begun_by byte =
+    if byte == 45 then Some (Null, codes "-") else
+    (if byte == 111 then Some (Ok, codes "ok") else
+    (if byte == 121 then Some (Yes, codes "yes") else
+    (if byte == 110 then Some (No, codes "no") else
+    (if byte == 98 then Some (Bad, codes "bad") else
+    (if byte == 102 then Some (Full, codes "full") else None)))))
 
 -- a reply that is a word, which begins with this byte
 unfoldable pub spelled_word : ℕ → List ℕ → Option (Reply × List ℕ)
-spelled_word first bytes = do
-  r ← word_begun_by first
+spelled_word first_byte bytes = do
+  r ← word_begun_by first_byte
   rest ← behind r.1 bytes
   Some (r.0, rest)
 
@@ -56,8 +56,8 @@ count_at thread bytes = do
 
 -- a number, or, where a dot is behind it, a name
 abbrev pub number_or_name : ℕ → List ℕ → Option (List ℕ) → Option (Reply × List ℕ)
-number_or_name n bytes None = Some (Number n, bytes)
-number_or_name n bytes (Some rest) = if nat_lt 4294967295 n then None else count_at n rest
+number_or_name number bytes None = Some (Number number, bytes)
+number_or_name number bytes (Some rest) = if nat_lt 4294967295 number then None else count_at number rest
 
 -- a reply that begins with a number
 unfoldable pub numbered_at : List ℕ → Option (Reply × List ℕ)
@@ -74,7 +74,7 @@ spelled_place bytes = do
 -- the reply at the front
 unfoldable pub spelled_reply : List ℕ → Option (Reply × List ℕ)
 spelled_reply [] = None
-spelled_reply (b ∷ bytes) = if is_ascii_digit b then numbered_at (b ∷ bytes) else (if b == 64 then spelled_place bytes else spelled_word b (b ∷ bytes))
+spelled_reply (byte ∷ bytes) = if is_ascii_digit byte then numbered_at (byte ∷ bytes) else (if byte == 64 then spelled_place bytes else spelled_word byte (byte ∷ bytes))
 
 -- the line of an entry at the front
 unfoldable pub entry_at : (version threads : ℕ) → List ℕ → Option (Entry × List ℕ)

@@ -26,7 +26,7 @@ none_taken version config = record { version = version; config = config; scripts
 -- the line, without its end, is that of a command, which is now the last of its thread
 abbrev pub TakesCommand : Taken → List ℕ → Taken → Type 0
 TakesCommand before text after =
-    (l : TraceLine) × (before.scheduled ≡ false) × IsLine before.version before.config.mutators l × (text ++ newline ∷ [] ≡ line l) × (after ≡ record before { scripts = with_line before.scripts l })
+    (trace_line : TraceLine) × (before.scheduled ≡ false) × IsLine before.version before.config.mutators trace_line × (text ++ newline ∷ [] ≡ line trace_line) × (after ≡ record before { scripts = with_line before.scripts trace_line })
 
 -- the line, without its end, is one of the schedule, whose items are now its last
 abbrev pub TakesItems : Taken → List ℕ → Taken → Type 0
@@ -42,7 +42,7 @@ line_cause taken text = words_cause (body_stage taken.version taken.config taken
 
 -- a line of a command of a version, without its end
 abbrev pub IsCommandText : (version : ℕ) → Config → List ℕ → Type 0
-IsCommandText version config text = (l : TraceLine) × IsLine version config.mutators l × (text ++ newline ∷ [] ≡ line l)
+IsCommandText version config text = (trace_line : TraceLine) × IsLine version config.mutators trace_line × (text ++ newline ∷ [] ≡ line trace_line)
 
 -- a line of the schedule, without its end
 abbrev pub IsItemsText : Config → List ℕ → Type 0

@@ -25,7 +25,7 @@ queue_text count items sum = codes "queue " ++ (decimal count ++ (codes "\nitems
 -- what a line says
 abbrev pub message : Line → List ℕ
 message BadWords = codes "bad words"
-message (BadLine other_line why) = codes "bad line " ++ (decimal other_line ++ (codes ": " ++ text_of why))
+message (BadLine line_number why) = codes "bad line " ++ (decimal line_number ++ (codes ": " ++ text_of why))
 message TooLong = codes "too long: more than 16777216 bytes"
 message HeapTooSmall = codes "heap too small"
 message (Unfinished steps) = codes "unfinished after " ++ decimal steps ++ codes " steps"
@@ -34,7 +34,7 @@ message NoMemory = codes "out of memory"
 message (Churn summary) = summary_text summary
 message (Queue count items sum) = queue_text count items sum
 message Yes = codes "yes"
-message (NoEntry at) = codes "no: entry " ++ decimal at
+message (NoEntry entry_number) = codes "no: entry " ++ decimal entry_number
 message (NoScript thread) = codes "no: script " ++ decimal thread
 message NoText = codes "no: text"
 

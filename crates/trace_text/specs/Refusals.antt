@@ -47,7 +47,7 @@ pub record LacksHistory (bytes behind : List ℕ) (n : ℕ) (why : Why) : Type 0
 abbrev pub wanted_at : List (List ℕ) → Why
 wanted_at [] = EndOfLine
 wanted_at (text ∷ []) = EndOfLine
-wanted_at (text ∷ next ∷ more) = EntryWanted
+wanted_at (text ∷ next_text ∷ rest) = EntryWanted
 
 -- Behind the line `history`, and lines of entries, the first other line is cut, or is none of an entry.
 pub record LacksEntry (version threads : ℕ) (bytes behind : List ℕ) (n : ℕ) (why : Why) : Type 0 where

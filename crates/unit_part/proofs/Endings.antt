@@ -21,19 +21,19 @@ IsWorked spot = spot ≡ Ended Worked
 
 -- of two spots by a test, where one is no end
 where_true : (holds : Bool) (spot other_spot : UpdateSpot) (P : Type 0) → (IsWorked other_spot → ⊥) → (IsWorked spot ↔ P) → (IsWorked (if holds then spot else other_spot) ↔ ((holds ≡ true) × P))
-where_true true spot other_spot P never is = ((λ end. (refl, is.0 end)), (λ both. is.1 both.1))
-where_true false spot other_spot P never is = ((λ end. absurd (never end)), (λ both. absurd (let no = both.0 in cc)))
+where_true true spot other_spot P never spot_ends = ((λ end. (refl, spot_ends.0 end)), (λ test_and_end. spot_ends.1 test_and_end.1))
+where_true false spot other_spot P never spot_ends = ((λ end. absurd (never end)), (λ test_and_end. absurd (let test_false = test_and_end.0 in cc)))
 
 where_false : (holds : Bool) (spot other_spot : UpdateSpot) (P : Type 0) → (IsWorked spot → ⊥) → (IsWorked other_spot ↔ P) → (IsWorked (if holds then spot else other_spot) ↔ ((holds ≡ false) × P))
-where_false true spot other_spot P never is = ((λ end. absurd (never end)), (λ both. absurd (let no = both.0 in cc)))
-where_false false spot other_spot P never is = ((λ end. (refl, is.0 end)), (λ both. is.1 both.1))
+where_false true spot other_spot P never spot_ends = ((λ end. absurd (never end)), (λ test_and_end. absurd (let test_false = test_and_end.0 in cc)))
+where_false false spot other_spot P never spot_ends = ((λ end. (refl, spot_ends.0 end)), (λ test_and_end. spot_ends.1 test_and_end.1))
 
 -- the test in other words
 by_words : (X A B P : Type 0) → (A → B) → (B → A) → (X ↔ (A × P)) → (X ↔ (B × P))
-by_words X A B P to back is = ((λ x. (to (is.0 x).0, (is.0 x).1)), (λ both. is.1 (back both.0, both.1)))
+by_words X A B P forward backward ends_exactly = ((λ x. (forward (ends_exactly.0 x).0, (ends_exactly.0 x).1)), (λ both_parts. ends_exactly.1 (backward both_parts.0, both_parts.1)))
 
 by_words_alone : (X A B : Type 0) → (A → B) → (B → A) → (X ↔ (A × Unit {0})) → (X ↔ B)
-by_words_alone X A B to back is = ((λ x. to (is.0 x).0), (λ b. is.1 (back b, tt)))
+by_words_alone X A B forward backward ends_exactly = ((λ x. forward (ends_exactly.0 x).0), (λ b. ends_exactly.1 (backward b, tt)))
 
 ended : IsWorked (Ended Worked) ↔ Unit {0}
 ended = ((λ end. tt), (λ any. refl))
@@ -45,9 +45,9 @@ object_ends config walk address = by_words_alone _ _ _ (ltb-false address (limit
 first_ends : (config : Config) (walk : Walk) (address : ℕ) (filled : Option ℕ) → IsWorked (after_words config walk address filled) ↔ ((words : ℕ) × (filled ≡ Some words) × (limit_of config walk ≤ address + words))
 first_ends config walk address (Some words) = (
   (λ end. (words, refl, (object_ends config walk (address + words)).0 end)),
-  (λ last. (object_ends config walk (address + words)).1 (subst (λ n. limit_of config walk ≤ address + n) (sym (same_Some words last.0 last.1)) last.2)),
+  (λ last_words. (object_ends config walk (address + words)).1 (subst (λ size. limit_of config walk ≤ address + size) (sym (same_Some words last_words.0 last_words.1)) last_words.2)),
 )
-first_ends config walk address None = ((λ end. cc), (λ last. absurd (none-some last.0 last.1)))
+first_ends config walk address None = ((λ end. cc), (λ last_words. absurd (none-some last_words.0 last_words.1)))
 
 field_ends : (config : Config) (visit : Visit) (field : ℕ) → IsWorked (next_field config visit field) ↔ ((refs_in visit.shape ≤ field) × IsLast config visit)
 field_ends config visit field = by_words _ _ _ _ (ltb-false field (refs_in visit.shape)) (le-ltb _ _)
@@ -88,12 +88,12 @@ worked_is config cset (LoadLimit region) got going = limit_ends config cset regi
 worked_is config cset (LoadTams region limit) got going = ((λ end. cc), (λ never. absurd never))
 worked_is config cset (LoadFirst walk address) got going = first_ends config walk address (filler_words_in got)
 worked_is config cset (LoadShape walk address) got going = shape_ends config (record { walk = walk; address = address; shape = got })
-worked_is config cset (LoadBlack at) got going = black_ends config cset at got
-worked_is config cset (LoadField at field) got going =
-    where_false (names_set config cset got) (LoadHeader at field got) (next_field config at (field + 1)) (IsLastField config at field) (λ end. cc) (field_ends config at (field + 1))
-worked_is config cset (LoadHeader at field found) got going =
-    where_false (is_forwarded got) (ExchangeField at field found (forwardee_in got)) (next_field config at (field + 1)) (IsLastField config at field) (λ end. cc) (field_ends config at (field + 1))
-worked_is config cset (ExchangeField at field found copy) got going = field_ends config at (field + 1)
+worked_is config cset (LoadBlack visit) got going = black_ends config cset visit got
+worked_is config cset (LoadField visit field) got going =
+    where_false (names_set config cset got) (LoadHeader visit field got) (next_field config visit (field + 1)) (IsLastField config visit field) (λ end. cc) (field_ends config visit (field + 1))
+worked_is config cset (LoadHeader visit field found) got going =
+    where_false (is_forwarded got) (ExchangeField visit field found (forwardee_in got)) (next_field config visit (field + 1)) (IsLastField config visit field) (λ end. cc) (field_ends config visit (field + 1))
+worked_is config cset (ExchangeField visit field found copy) got going = field_ends config visit (field + 1)
 worked_is config cset (Ended unit) got going = absurd cc
 
 -- no unit is left there
@@ -144,8 +144,8 @@ none_else config visit field spot never true end = never end
 none_else config visit field spot never false end = none_field config visit field end
 
 claim_none : (config : Config) (got : ℕ) (holds : Bool) → has_unit config got ≡ holds → SaysNone (if holds then ClaimUnit got else Ended NoneLeft) ↔ (config.regions ≤ got)
-claim_none config got true is = ((λ end. absurd (let differ = end in cc)), (λ most. absurd (let less = ltb-true got config.regions is in omega (arith, less, most))))
-claim_none config got false is = ((λ end. ltb-false got config.regions is), (λ most. refl))
+claim_none config got true unit_test = ((λ end. absurd (let differ = end in cc)), (λ none_left. absurd (let unit_left = ltb-true got config.regions unit_test in omega (arith, unit_left, none_left))))
+claim_none config got false unit_test = ((λ end. ltb-false got config.regions unit_test), (λ none_left. refl))
 
 -- no unit is left exactly by these words
 pub none_is : (config : Config) (cset : ℕ) (spot : UpdateSpot) (got : ℕ) → is_ended spot ≡ false → (next_at config cset spot got ≡ Ended NoneLeft) ↔ HasNoneLeft config spot got
@@ -155,9 +155,9 @@ none_is config cset (LoadLimit region) got going = ((λ end. none_limit region g
 none_is config cset (LoadTams region limit) got going = ((λ end. cc), (λ never. absurd never))
 none_is config cset (LoadFirst walk address) got going = ((λ end. none_first config walk address (filler_words_in got) end), (λ never. absurd never))
 none_is config cset (LoadShape walk address) got going = ((λ end. none_shape config (record { walk = walk; address = address; shape = got }) end), (λ never. absurd never))
-none_is config cset (LoadBlack at) got going = ((λ end. none_black config at (bit_at got (mark_bit config at.address) == 1) end), (λ never. absurd never))
-none_is config cset (LoadField at field) got going = ((λ end. none_else config at (field + 1) (LoadHeader at field got) (λ is. (let differ = is in cc)) (names_set config cset got) end), (λ never. absurd never))
-none_is config cset (LoadHeader at field found) got going =
-    ((λ end. none_else config at (field + 1) (ExchangeField at field found (forwardee_in got)) (λ is. (let differ = is in cc)) (is_forwarded got) end), (λ never. absurd never))
-none_is config cset (ExchangeField at field found copy) got going = ((λ end. none_field config at (field + 1) end), (λ never. absurd never))
+none_is config cset (LoadBlack visit) got going = ((λ end. none_black config visit (bit_at got (mark_bit config visit.address) == 1) end), (λ never. absurd never))
+none_is config cset (LoadField visit field) got going = ((λ end. none_else config visit (field + 1) (LoadHeader visit field got) (λ same_end. (let differ = same_end in cc)) (names_set config cset got) end), (λ never. absurd never))
+none_is config cset (LoadHeader visit field found) got going =
+    ((λ end. none_else config visit (field + 1) (ExchangeField visit field found (forwardee_in got)) (λ same_end. (let differ = same_end in cc)) (is_forwarded got) end), (λ never. absurd never))
+none_is config cset (ExchangeField visit field found copy) got going = ((λ end. none_field config visit (field + 1) end), (λ never. absurd never))
 none_is config cset (Ended unit) got going = absurd cc

@@ -22,7 +22,7 @@ module _ (config : Config) where
   scan_ready address = by_test (is_word config (Heap address)) refl
     where
       by_test : (holds : Bool) → is_word config (Heap address) ≡ holds → scans.is_ready config (if holds then LoadGrey (mark_word config address) else LoadClaim) ≡ true
-      by_test true there = lt-ltb (mark_word config address) (bit_words config) (word_inside config address (is_word_true config (Heap address) there))
+      by_test true word_test = lt-ltb (mark_word config address) (bit_words config) (word_inside config address (is_word_true config (Heap address) word_test))
       by_test false outside = refl
 
   scan_goes : (address : ℕ) → scans.is_ended (scans.hinted config address) ≡ false
@@ -33,69 +33,69 @@ module _ (config : Config) where
       by_test false = refl
 
   scan_works : (seat address : ℕ) → is_ready config seat (Scanning (scans.hinted config address)) ≡ true
-  scan_works seat address = and_from _ _ (scan_ready address) (ap (λ b. if b then false else true) (scan_goes address))
+  scan_works seat address = and_from _ _ (scan_ready address) (ap (λ goes. if goes then false else true) (scan_goes address))
 
   -- of a unit
   pub hinted_ready : (hint : Option ℕ) (seat : ℕ) (spot : UnitSpot) → is_ready config seat spot ≡ true → is_ready config seat (hinted_by config hint spot) ≡ true
   hinted_ready None seat spot ready = ready
   hinted_ready (Some address) seat (Scanning LoadClaim) ready = scan_works seat address
-  hinted_ready (Some address) seat (Scanning (ClaimUnit k)) ready = ready
+  hinted_ready (Some address) seat (Scanning (ClaimUnit unit_number)) ready = ready
   hinted_ready (Some address) seat (Scanning (LoadGrey word)) ready = ready
   hinted_ready (Some address) seat (Scanning (LoadBlack word grey)) ready = ready
   hinted_ready (Some address) seat (Scanning (SetBlack other_address)) ready = ready
   hinted_ready (Some address) seat (Scanning (LoadShape other_address)) ready = ready
   hinted_ready (Some address) seat (Scanning (LoadField other_address field refs)) ready = ready
   hinted_ready (Some address) seat (Scanning (SetGrey other_address field refs found)) ready = ready
-  hinted_ready (Some address) seat (Scanning (Ended which)) ready = ready
+  hinted_ready (Some address) seat (Scanning (Ended ending)) ready = ready
   hinted_ready (Some address) seat (Evacuating cset spot) ready = ready
   hinted_ready (Some address) seat (Updating cset spot) ready = ready
-  hinted_ready (Some address) seat (unit.Ended which) ready = ready
+  hinted_ready (Some address) seat (unit.Ended ending) ready = ready
 
   -- who takes no hints goes on as it is
   pub hinted_not : (hint : Option ℕ) (spot : UnitSpot) → takes_hint spot ≡ false → hinted_by config hint spot ≡ spot
-  hinted_not None spot none = refl
-  hinted_not (Some address) (Scanning LoadClaim) none = absurd (cc (none))
-  hinted_not (Some address) (Scanning (ClaimUnit k)) none = refl
-  hinted_not (Some address) (Scanning (LoadGrey word)) none = refl
-  hinted_not (Some address) (Scanning (LoadBlack word grey)) none = refl
-  hinted_not (Some address) (Scanning (SetBlack other_address)) none = refl
-  hinted_not (Some address) (Scanning (LoadShape other_address)) none = refl
-  hinted_not (Some address) (Scanning (LoadField other_address field refs)) none = refl
-  hinted_not (Some address) (Scanning (SetGrey other_address field refs found)) none = refl
-  hinted_not (Some address) (Scanning (Ended which)) none = refl
-  hinted_not (Some address) (Evacuating cset spot) none = refl
-  hinted_not (Some address) (Updating cset spot) none = refl
-  hinted_not (Some address) (unit.Ended which) none = refl
+  hinted_not None spot no_hint = refl
+  hinted_not (Some address) (Scanning LoadClaim) no_hint = absurd (cc (no_hint))
+  hinted_not (Some address) (Scanning (ClaimUnit unit_number)) no_hint = refl
+  hinted_not (Some address) (Scanning (LoadGrey word)) no_hint = refl
+  hinted_not (Some address) (Scanning (LoadBlack word grey)) no_hint = refl
+  hinted_not (Some address) (Scanning (SetBlack other_address)) no_hint = refl
+  hinted_not (Some address) (Scanning (LoadShape other_address)) no_hint = refl
+  hinted_not (Some address) (Scanning (LoadField other_address field refs)) no_hint = refl
+  hinted_not (Some address) (Scanning (SetGrey other_address field refs found)) no_hint = refl
+  hinted_not (Some address) (Scanning (Ended ending)) no_hint = refl
+  hinted_not (Some address) (Evacuating cset spot) no_hint = refl
+  hinted_not (Some address) (Updating cset spot) no_hint = refl
+  hinted_not (Some address) (unit.Ended ending) no_hint = refl
 
   -- a unit that goes on has not ended behind the hint
   ended_same : (hint : Option ℕ) (spot : UnitSpot) → is_ended (hinted_by config hint spot) ≡ is_ended spot
-  ended_same hint at = by_test (takes_hint at) refl
+  ended_same hint asked_spot = by_test (takes_hint asked_spot) refl
     where
-      claims : (address : ℕ) (at : UnitSpot) → takes_hint at ≡ true → is_ended (hinted_by config (Some address) at) ≡ is_ended at
+      claims : (address : ℕ) (unit_spot : UnitSpot) → takes_hint unit_spot ≡ true → is_ended (hinted_by config (Some address) unit_spot) ≡ is_ended unit_spot
       claims address (Scanning LoadClaim) takes = refl
-      claims address (Scanning (ClaimUnit k)) takes = absurd (cc (takes))
+      claims address (Scanning (ClaimUnit unit_number)) takes = absurd (cc (takes))
       claims address (Scanning (LoadGrey word)) takes = absurd (cc (takes))
       claims address (Scanning (LoadBlack word grey)) takes = absurd (cc (takes))
-      claims address (Scanning (SetBlack a)) takes = absurd (cc (takes))
-      claims address (Scanning (LoadShape a)) takes = absurd (cc (takes))
-      claims address (Scanning (LoadField a field refs)) takes = absurd (cc (takes))
-      claims address (Scanning (SetGrey a field refs found)) takes = absurd (cc (takes))
-      claims address (Scanning (Ended which)) takes = absurd (cc (takes))
+      claims address (Scanning (SetBlack other_address)) takes = absurd (cc (takes))
+      claims address (Scanning (LoadShape other_address)) takes = absurd (cc (takes))
+      claims address (Scanning (LoadField other_address field refs)) takes = absurd (cc (takes))
+      claims address (Scanning (SetGrey other_address field refs found)) takes = absurd (cc (takes))
+      claims address (Scanning (Ended ending)) takes = absurd (cc (takes))
       claims address (Evacuating cset evacuates) takes = absurd (cc (takes))
       claims address (Updating cset updates) takes = absurd (cc (takes))
-      claims address (unit.Ended which) takes = absurd (cc (takes))
+      claims address (unit.Ended ending) takes = absurd (cc (takes))
 
-      of_hint : (hint : Option ℕ) → takes_hint at ≡ true → is_ended (hinted_by config hint at) ≡ is_ended at
+      of_hint : (hint : Option ℕ) → takes_hint asked_spot ≡ true → is_ended (hinted_by config hint asked_spot) ≡ is_ended asked_spot
       of_hint None takes = refl
-      of_hint (Some address) takes = claims address at takes
+      of_hint (Some address) takes = claims address asked_spot takes
 
-      by_test : (holds : Bool) → takes_hint at ≡ holds → is_ended (hinted_by config hint at) ≡ is_ended at
+      by_test : (holds : Bool) → takes_hint asked_spot ≡ holds → is_ended (hinted_by config hint asked_spot) ≡ is_ended asked_spot
       by_test true takes = of_hint hint takes
-      by_test false none = ap is_ended (hinted_not hint at none)
+      by_test false hint_test = ap is_ended (hinted_not hint asked_spot hint_test)
 
   -- so it is of who works on one
   pub working : (hint : Option ℕ) (seat : ℕ) (spot : UnitSpot) → (is_ready config seat spot && (if is_ended spot then false else true)) ≡ true
       → (is_ready config seat (hinted_by config hint spot) && (if is_ended (hinted_by config hint spot) then false else true)) ≡ true
   working hint seat spot works =
-      let both = and_parts _ _ works in
-      and_from _ _ (hinted_ready hint seat spot both.0) (ap (λ b. if b then false else true) (ended_same hint spot) ∙ both.1)
+      let work_parts = and_parts _ _ works in
+      and_from _ _ (hinted_ready hint seat spot work_parts.0) (ap (λ has_ended. if has_ended then false else true) (ended_same hint spot) ∙ work_parts.1)

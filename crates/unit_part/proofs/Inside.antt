@@ -32,8 +32,8 @@ unit_inside config seat (Updating cset spot) seated ready = updating_inside conf
 unit_inside config seat (Ended unit) seated ready = tt
 
 pub accesses_inside : AccessesAreInside
-accesses_inside c seat at seated ready = let t = touch_at c seat at in
-    subst (λ k. k < table_words c) (sym (table_index-access_at (word_at c t.word) t.form)) (word_inside c t.word (unit_inside c seat at seated ready))
+accesses_inside config seat value seated ready = let touch = touch_at config seat value in
+    subst (λ place. place < table_words config) (sym (table_index-access_at (word_at config touch.word) touch.form)) (word_inside config touch.word (unit_inside config seat value seated ready))
 
 -- and of words of the image alone
 pub unit_image : (config : Config) (seat : ℕ) (spot : UnitSpot) → is_image (touch_at config seat spot).word ≡ true
@@ -56,7 +56,7 @@ updates_on config seat cset (update.Ended unit) ready = refl
 updates_on config seat cset _ ready = and_from _ _ ready refl
 
 pub stays_ready : StaysReady
-stays_ready c seat (Scanning spot) got ready fit = scans_on c seat (scans.next_at c spot got) fit
-stays_ready c seat (Evacuating cset spot) got ready fit = evacuates_on c seat cset (evacs.next_at c cset spot got) fit.0
-stays_ready c seat (Updating cset spot) got ready fit = updates_on c seat cset (updates.next_at c cset spot got) fit
-stays_ready c seat (Ended unit) got ready fit = refl
+stays_ready config seat (Scanning spot) got ready fit = scans_on config seat (scans.next_at config spot got) fit
+stays_ready config seat (Evacuating cset spot) got ready fit = evacuates_on config seat cset (evacs.next_at config cset spot got) fit.0
+stays_ready config seat (Updating cset spot) got ready fit = updates_on config seat cset (updates.next_at config cset spot got) fit
+stays_ready config seat (Ended unit) got ready fit = refl

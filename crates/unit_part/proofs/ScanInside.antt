@@ -16,7 +16,7 @@ scan_inside config (ClaimUnit unit) ready = tt
 scan_inside config (LoadGrey word) ready = ltb-true _ _ ready
 scan_inside config (LoadBlack word grey) ready = ltb-true _ _ ready
 scan_inside config (SetBlack address) ready = let heap : IsWord config (Heap address) = grind (arith, nat_tests, ready) in word_inside config address heap
-scan_inside config (LoadShape address) ready = let there = (and_parts (is_word config (Heap address)) (is_word config (Heap (address + 1))) ready).1 in grind (arith, nat_tests, there)
+scan_inside config (LoadShape address) ready = let address_there = (and_parts (is_word config (Heap address)) (is_word config (Heap (address + 1))) ready).1 in grind (arith, nat_tests, address_there)
 scan_inside config (LoadField address field refs) ready = grind (arith, nat_tests, ready)
 scan_inside config (SetGrey address field refs found) ready = let heap : IsWord config (Heap found) = grind (arith, nat_tests, ready) in word_inside config found heap
 scan_inside config (Ended unit) ready = tt

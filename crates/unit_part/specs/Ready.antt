@@ -32,8 +32,8 @@ IsFit config seat _ got = ⊤
 
 -- a machine of a seat that can make its access makes it to a word of the table
 abbrev pub AccessesAreInside : Type 0
-AccessesAreInside = (config : Config) (seat : ℕ) (at : UnitSpot) → seat < seat_count config.mutators config.helpers → is_ready config seat at ≡ true → table_index (placed config (touch_at config seat at)) < table_words config
+AccessesAreInside = (config : Config) (seat : ℕ) (spot : UnitSpot) → seat < seat_count config.mutators config.helpers → is_ready config seat spot ≡ true → table_index (placed config (touch_at config seat spot)) < table_words config
 
 -- and where it goes on with a word that is fit it can make the next one
 abbrev pub StaysReady : Type 0
-StaysReady = (config : Config) (seat : ℕ) (at : UnitSpot) (got : ℕ) → is_ready config seat at ≡ true → IsFit config seat at got → is_ready config seat (next_at config at got) ≡ true
+StaysReady = (config : Config) (seat : ℕ) (spot : UnitSpot) (got : ℕ) → is_ready config seat spot ≡ true → IsFit config seat spot got → is_ready config seat (next_at config spot got) ≡ true

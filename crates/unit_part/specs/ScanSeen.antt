@@ -6,11 +6,11 @@ use Rattle.unit_part.specs.declared.scan_unit.ScanUnit.{ScanUnit}
 use Rattle.unit_part.specs.ScanRows.{next_at, is_ready}
 
 abbrev pub config_of : ScanUnit → Config
-config_of s = s.config
+config_of scan_unit = scan_unit.config
 
 -- where it stands
 abbrev pub spot_of : ScanUnit → ScanSpot
-spot_of s = s.spot
+spot_of scan_unit = scan_unit.spot
 
 -- the word is fit: the access that follows can be made
 abbrev pub IsFit : Config → ScanSpot → ℕ → Type 0

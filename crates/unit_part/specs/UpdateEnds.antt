@@ -22,11 +22,11 @@ HasNoneLeft config _ got = ⊥
 
 -- an object is the last one below its region's limit
 abbrev pub IsLast : Config → Visit → Type 0
-IsLast config at = limit_of config at.walk ≤ visit_end at
+IsLast config visit = limit_of config visit.walk ≤ visit_end visit
 
 -- a reference is the last one of the last object
 abbrev pub IsLastField : Config → Visit → ℕ → Type 0
-IsLastField config at field = (refs_in at.shape ≤ field + 1) × IsLast config at
+IsLastField config visit field = (refs_in visit.shape ≤ field + 1) × IsLast config visit
 
 -- The unit is done: at KX its region is in the collection set, at UL its limit is 0, and at UG words that only fill are
 -- the last ones below the limit. Elsewhere the object is the last one: at US it
@@ -37,8 +37,8 @@ IsDoneAt config cset (ClaimUnit unit) got = (got ≡ unit) × IsIn cset unit
 IsDoneAt config cset (LoadLimit region) got = got ≡ 0
 IsDoneAt config cset (LoadFirst walk address) got = (words : ℕ) × (filler_words_in got ≡ Some words) × (limit_of config walk ≤ address + words)
 IsDoneAt config cset (LoadShape walk address) got = (refs_in got ≡ 0) × IsLast config (record { walk = walk; address = address; shape = got })
-IsDoneAt config cset (LoadBlack at) got = (bit_at got (mark_bit config at.address) ≢ 1) × IsLast config at
-IsDoneAt config cset (LoadField at field) got = (names_set config cset got ≡ false) × IsLastField config at field
-IsDoneAt config cset (LoadHeader at field found) got = (is_forwarded got ≡ false) × IsLastField config at field
-IsDoneAt config cset (ExchangeField at field found copy) got = IsLastField config at field
+IsDoneAt config cset (LoadBlack visit) got = (bit_at got (mark_bit config visit.address) ≢ 1) × IsLast config visit
+IsDoneAt config cset (LoadField visit field) got = (names_set config cset got ≡ false) × IsLastField config visit field
+IsDoneAt config cset (LoadHeader visit field found) got = (is_forwarded got ≡ false) × IsLastField config visit field
+IsDoneAt config cset (ExchangeField visit field found copy) got = IsLastField config visit field
 IsDoneAt config cset _ got = ⊥

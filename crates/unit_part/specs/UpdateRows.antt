@@ -37,7 +37,7 @@ tams_of config walk = base_of config walk.region + walk.tams
 
 -- the address behind an object
 abbrev pub visit_end : Visit → ℕ
-visit_end at = at.address + object_words at.shape
+visit_end visit = visit.address + object_words visit.shape
 
 -- the place of the next access. There is none at the end, where it is named as that of one that ends so
 abbrev pub place_at : UpdateSpot → Place
@@ -47,10 +47,10 @@ place_at (LoadLimit region) = place.UL
 place_at (LoadTams region limit) = place.UT
 place_at (LoadFirst walk address) = place.UG
 place_at (LoadShape walk address) = place.US
-place_at (LoadBlack at) = place.UB
-place_at (LoadField at field) = place.UF
-place_at (LoadHeader at field found) = place.UH
-place_at (ExchangeField at field found copy) = place.UX
+place_at (LoadBlack visit) = place.UB
+place_at (LoadField visit field) = place.UF
+place_at (LoadHeader visit field found) = place.UH
+place_at (ExchangeField visit field found copy) = place.UX
 place_at (Ended Worked) = place.UF
 place_at (Ended NoneLeft) = place.UC
 
@@ -62,10 +62,10 @@ touch_at config (LoadLimit region) = touch (Limit region) loads
 touch_at config (LoadTams region limit) = touch (Tams region) loads
 touch_at config (LoadFirst walk address) = touch (Heap address) loads
 touch_at config (LoadShape walk address) = touch (Heap (address + 1)) loads
-touch_at config (LoadBlack at) = touch (Black (mark_word config at.address)) loads
-touch_at config (LoadField at field) = touch (Heap (at.address + 3 + field)) loads
-touch_at config (LoadHeader at field found) = touch (Heap found) loads
-touch_at config (ExchangeField at field found copy) = touch (Heap (at.address + 3 + field)) (exchanges found copy)
+touch_at config (LoadBlack visit) = touch (Black (mark_word config visit.address)) loads
+touch_at config (LoadField visit field) = touch (Heap (visit.address + 3 + field)) loads
+touch_at config (LoadHeader visit field found) = touch (Heap found) loads
+touch_at config (ExchangeField visit field found copy) = touch (Heap (visit.address + 3 + field)) (exchanges found copy)
 touch_at config (Ended unit) = touch Claim loads
 
 -- what follows once all objects below an address are dealt with: the header there, an object's or a filler's, if the limit is not reached
@@ -82,13 +82,13 @@ after_first config walk address got = after_words config walk address (filler_wo
 
 -- what follows once so many of an object's references are dealt with: the next one, or the next object
 abbrev pub next_field : Config → Visit → ℕ → UpdateSpot
-next_field config at field = if nat_lt field (refs_in at.shape) then LoadField at field else next_object config at.walk (visit_end at)
+next_field config visit field = if nat_lt field (refs_in visit.shape) then LoadField visit field else next_object config visit.walk (visit_end visit)
 
 -- what follows once an object's shape is loaded: its mark counts below tams alone, and nothing does where it has no reference
 abbrev pub after_shape : Config → Visit → UpdateSpot
-after_shape config at =
-    if refs_in at.shape == 0 then next_object config at.walk (visit_end at)
-    else (if nat_lt at.address (tams_of config at.walk) then LoadBlack at else LoadField at 0)
+after_shape config visit =
+    if refs_in visit.shape == 0 then next_object config visit.walk (visit_end visit)
+    else (if nat_lt visit.address (tams_of config visit.walk) then LoadBlack visit else LoadField visit 0)
 
 -- what follows, by the collection set and the word that was found
 abbrev pub next_at : Config → ℕ → UpdateSpot → ℕ → UpdateSpot
@@ -98,10 +98,10 @@ next_at config cset (LoadLimit region) got = if got == 0 then Ended Worked else 
 next_at config cset (LoadTams region limit) got = LoadFirst (record { region = region; limit = limit; tams = got }) (base_of config region)
 next_at config cset (LoadFirst walk address) got = after_first config walk address got
 next_at config cset (LoadShape walk address) got = after_shape config (record { walk = walk; address = address; shape = got })
-next_at config cset (LoadBlack at) got = if bit_at got (mark_bit config at.address) == 1 then LoadField at 0 else next_object config at.walk (visit_end at)
-next_at config cset (LoadField at field) got = if names_set config cset got then LoadHeader at field got else next_field config at (field + 1)
-next_at config cset (LoadHeader at field found) got = if is_forwarded got then ExchangeField at field found (forwardee_in got) else next_field config at (field + 1)
-next_at config cset (ExchangeField at field found copy) got = next_field config at (field + 1)
+next_at config cset (LoadBlack visit) got = if bit_at got (mark_bit config visit.address) == 1 then LoadField visit 0 else next_object config visit.walk (visit_end visit)
+next_at config cset (LoadField visit field) got = if names_set config cset got then LoadHeader visit field got else next_field config visit (field + 1)
+next_at config cset (LoadHeader visit field found) got = if is_forwarded got then ExchangeField visit field found (forwardee_in got) else next_field config visit (field + 1)
+next_at config cset (ExchangeField visit field found copy) got = next_field config visit (field + 1)
 next_at config cset (Ended unit) got = Ended unit
 
 -- whether the unit is done, or none was left
@@ -124,11 +124,11 @@ walk_fits config walk = nat_lt walk.region config.regions && (nat_le walk.limit 
 
 -- whether an object's are: it lies in the heap, up to its last reference
 abbrev pub visit_fits : Config → Visit → Bool
-visit_fits config at = walk_fits config at.walk && (is_word config (Heap at.address) && is_word config (Heap (at.address + 2 + refs_in at.shape)))
+visit_fits config visit = walk_fits config visit.walk && (is_word config (Heap visit.address) && is_word config (Heap (visit.address + 2 + refs_in visit.shape)))
 
 -- whether it has a reference of this number
 abbrev pub has_field : Config → Visit → ℕ → Bool
-has_field config at field = visit_fits config at && nat_lt field (refs_in at.shape)
+has_field config visit field = visit_fits config visit && nat_lt field (refs_in visit.shape)
 
 -- whether the numbers of a spot are in range: the next access can be made
 abbrev pub is_ready : Config → UpdateSpot → Bool
@@ -138,8 +138,8 @@ is_ready config (LoadLimit region) = nat_lt region config.regions
 is_ready config (LoadTams region limit) = nat_lt region config.regions && nat_le limit config.region_words
 is_ready config (LoadFirst walk address) = walk_fits config walk && is_word config (Heap address)
 is_ready config (LoadShape walk address) = walk_fits config walk && (is_word config (Heap address) && is_word config (Heap (address + 1)))
-is_ready config (LoadBlack at) = visit_fits config at
-is_ready config (LoadField at field) = has_field config at field
-is_ready config (LoadHeader at field found) = has_field config at field && is_word config (Heap found)
-is_ready config (ExchangeField at field found copy) = has_field config at field
+is_ready config (LoadBlack visit) = visit_fits config visit
+is_ready config (LoadField visit field) = has_field config visit field
+is_ready config (LoadHeader visit field found) = has_field config visit field && is_word config (Heap found)
+is_ready config (ExchangeField visit field found copy) = has_field config visit field
 is_ready config (Ended unit) = true

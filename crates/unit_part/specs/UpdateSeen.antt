@@ -6,15 +6,15 @@ use Rattle.unit_part.specs.declared.update_unit.UpdateUnit.{UpdateUnit}
 use Rattle.unit_part.specs.UpdateRows.{next_at, is_ready}
 
 abbrev pub config_of : UpdateUnit → Config
-config_of u = u.config
+config_of update_unit = update_unit.config
 
 -- the collection set
 abbrev pub set_of : UpdateUnit → ℕ
-set_of u = u.cset
+set_of update_unit = update_unit.cset
 
 -- where it stands
 abbrev pub spot_of : UpdateUnit → UpdateSpot
-spot_of u = u.spot
+spot_of update_unit = update_unit.spot
 
 -- the word is fit: the access that follows can be made
 abbrev pub IsFit : Config → ℕ → UpdateSpot → ℕ → Type 0

@@ -26,12 +26,12 @@ module _ (config : Config) where
   none_limited memory = fun_ext (λ word. none_limited_at memory word)
 
   -- noted limits change no other
-  pub limit_limited : (n r : ℕ) (memory : Word → ℕ) → limit_in config (limited config n memory) r ≡ limit_in config memory r
-  limit_limited n r memory = ap (λ e. if is_chosen memory r then 0 else e) (edges_same config memory (limited config n memory) r (λ q. refl) (λ seat. refl) (seat_count config.mutators config.helpers))
+  pub limit_limited : (count region : ℕ) (memory : Word → ℕ) → limit_in config (limited config count memory) region ≡ limit_in config memory region
+  limit_limited count region memory = ap (λ limit. if is_chosen memory region then 0 else limit) (edges_same config memory (limited config count memory) region (λ q. refl) (λ seat. refl) (seat_count config.mutators config.helpers))
 
   -- one limit more
-  one_more : (before value : ℕ → ℕ) (k j : ℕ) → cond (k == j) (value k) (cond (nat_lt j k) (value j) (before j)) ≡ cond (nat_lt j (k + 1)) (value j) (before j)
-  one_more before value k j = grind (arith, nat_tests)
+  one_more : (before value : ℕ → ℕ) (count number : ℕ) → cond (count == number) (value count) (cond (nat_lt number count) (value number) (before number)) ≡ cond (nat_lt number (count + 1)) (value number) (before number)
+  one_more before value count number = grind (arith, nat_tests)
 
   limited_next_at : (region : ℕ) (memory : Word → ℕ) (word : Word) → write (limited config region memory) (Limit region) (limit_in config memory region) word ≡ limited config (region + 1) memory word
   limited_next_at region memory (Limit other_region) = one_more (λ region. memory (Limit region)) (limit_in config memory) region other_region
@@ -59,13 +59,13 @@ module _ (config : Config) (words : List ℕ) where
 
   -- a region that is not of the heap has no edge and no limit
   none_past : (region : ℕ) → nat_lt region config.regions ≡ false → now (Limit region) ≡ limit_in config now region
-  none_past region past = view_none config words (Limit region) past ∙ either (edge config now region) (edge_zero config now region (view_none config words (Top region) past))
+  none_past region region_past = view_none config words (Limit region) region_past ∙ either (edge config now region) (edge_zero config now region (view_none config words (Top region) region_past))
     where
       either : (least : ℕ) → least ≡ 0 → 0 ≡ cond (is_chosen now region) 0 least
-      either least is = grind (arith, nat_tests)
+      either least least_zero = grind (arith, nat_tests)
 
   begun_at : (word : Word) → update_started (limited config config.regions now) word ≡ updating_begun config now word
-  begun_at (Limit region) = below_and_past region config.regions (limit_in config now region) (now (Limit region)) (limit_in config now region) (λ below. refl) (λ no past. none_past region no)
+  begun_at (Limit region) = below_and_past region config.regions (limit_in config now region) (now (Limit region)) (limit_in config now region) (λ region_below. refl) (λ test_false region_past. none_past region test_false)
   begun_at Phase = refl
   begun_at Evac = refl
   begun_at Claim = refl

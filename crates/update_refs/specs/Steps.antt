@@ -8,7 +8,7 @@ use Rattle.cycle_words.specs.Updating.Changes.{is_chosen}
 
 -- the limit of a region when updating begins
 abbrev pub limit_in : Config → (Word → ℕ) → ℕ → ℕ
-limit_in config memory r = if is_chosen memory r then 0 else edge config memory r
+limit_in config memory region = if is_chosen memory region then 0 else edge config memory region
 
 -- the limits of so many regions are noted
 abbrev pub limited : Config → ℕ → (Word → ℕ) → Word → ℕ

@@ -1,4 +1,5 @@
 -- A pause for which no room is needed is made of a part of the words in phases 0, 2 and 3.
+use Rattle.heap_words.specs.Phases.{marking_phase, evacuation_phase, idle_phase}
 use Rattle.std.proofs.Common.{◌≡◌, ◌≢◌, ℕ, Bool, true, false, ⊎_elim, refl, sym, ap, ◌∙◌, subst}
 use Rattle.std.specs.Prelude.{◌==◌, ◌&&◌, ◌||◌, if◌then◌else◌}
 use Rattle.std.specs.Int.{bit_at}
@@ -16,54 +17,54 @@ use Rattle.cycle_pauses.proofs.Brief.EachPause.{init_marked_made, init_updated_m
 
 -- whether room is needed is told by three words
 abbrev need_by : (ask phase evac : ℕ) → Bool
-need_by ask phase evac = (bit_at ask 1 == 1) || ((phase == 2) && is_out_of_room evac)
+need_by ask phase evac = (bit_at ask 1 == 1) || ((phase == evacuation_phase) && is_out_of_room evac)
 
-pub need_same : (memory other_memory : Word → ℕ) → memory Ask ≡ other_memory Ask → memory Phase ≡ other_memory Phase → memory Evac ≡ other_memory Evac → is_room_needed memory ≡ is_room_needed other_memory
-need_same memory other_memory ask phase evac =
-    ap (λ ask. need_by ask (memory Phase) (memory Evac)) ask ∙ ap (λ phase. need_by (other_memory Ask) phase (memory Evac)) phase ∙ ap (λ evac. need_by (other_memory Ask) (other_memory Phase) evac) evac
+pub need_same : (memory second_memory : Word → ℕ) → memory Ask ≡ second_memory Ask → memory Phase ≡ second_memory Phase → memory Evac ≡ second_memory Evac → is_room_needed memory ≡ is_room_needed second_memory
+need_same memory second_memory ask phase evac =
+    ap (λ ask. need_by ask (memory Phase) (memory Evac)) ask ∙ ap (λ phase. need_by (second_memory Ask) phase (memory Evac)) phase ∙ ap (λ evac. need_by (second_memory Ask) (second_memory Phase) evac) evac
 
 -- without need of room the cycle goes on
-module _ (config : Config) (memory : Word → ℕ) (calm : is_room_needed memory ≡ false) where
+module _ (config : Config) (memory : Word → ℕ) (no_room_needed : is_room_needed memory ≡ false) where
   goes_on : (word : Word) → collected config memory word ≡ next_in_cycle config memory word
-  goes_on word = cond-false (is_room_needed memory) (room_made config memory word) (next_in_cycle config memory word) calm
+  goes_on word = cond-false (is_room_needed memory) (room_made config memory word) (next_in_cycle config memory word) no_room_needed
 
-  pub marks : memory Phase ≡ 0 → collected config memory ≡ init_marked config memory
+  pub marks : memory Phase ≡ idle_phase → collected config memory ≡ init_marked config memory
   marks zero_phase = fun_ext (λ word. goes_on word
-      ∙ cond-true (memory Phase == 0) (init_marked config memory word) (if memory Phase == 1 then evac_next config memory word else (if memory Phase == 2 then init_updated config memory word else final_updated config memory word)) (eq-eqb (memory Phase) 0 zero_phase))
+      ∙ cond-true (memory Phase == idle_phase) (init_marked config memory word) (if memory Phase == marking_phase then evac_next config memory word else (if memory Phase == evacuation_phase then init_updated config memory word else final_updated config memory word)) (eq-eqb (memory Phase) 0 zero_phase))
 
-  pub later : memory Phase ≢ 0 → memory Phase ≢ 1 → (word : Word) → collected config memory word ≡ (if memory Phase == 2 then init_updated config memory word else final_updated config memory word)
-  later not_0 not_1 word = goes_on word
-      ∙ cond-false (memory Phase == 0) (init_marked config memory word) (if memory Phase == 1 then evac_next config memory word else (if memory Phase == 2 then init_updated config memory word else final_updated config memory word)) (ne_eqb (memory Phase) 0 not_0)
-      ∙ cond-false (memory Phase == 1) (evac_next config memory word) (if memory Phase == 2 then init_updated config memory word else final_updated config memory word) (ne_eqb (memory Phase) 1 not_1)
+  pub later : memory Phase ≢ idle_phase → memory Phase ≢ marking_phase → (word : Word) → collected config memory word ≡ (if memory Phase == evacuation_phase then init_updated config memory word else final_updated config memory word)
+  later not_idle not_marking word = goes_on word
+      ∙ cond-false (memory Phase == idle_phase) (init_marked config memory word) (if memory Phase == marking_phase then evac_next config memory word else (if memory Phase == evacuation_phase then init_updated config memory word else final_updated config memory word)) (ne_eqb (memory Phase) 0 not_idle)
+      ∙ cond-false (memory Phase == marking_phase) (evac_next config memory word) (if memory Phase == evacuation_phase then init_updated config memory word else final_updated config memory word) (ne_eqb (memory Phase) 1 not_marking)
 
-  pub begins_updating : memory Phase ≢ 0 → memory Phase ≢ 1 → (memory Phase == 2) ≡ true → collected config memory ≡ init_updated config memory
-  begins_updating not_0 not_1 two = fun_ext (λ word. later not_0 not_1 word ∙ cond-true (memory Phase == 2) (init_updated config memory word) (final_updated config memory word) two)
+  pub begins_updating : memory Phase ≢ idle_phase → memory Phase ≢ marking_phase → (memory Phase == evacuation_phase) ≡ true → collected config memory ≡ init_updated config memory
+  begins_updating not_idle not_marking phase_two = fun_ext (λ word. later not_idle not_marking word ∙ cond-true (memory Phase == evacuation_phase) (init_updated config memory word) (final_updated config memory word) phase_two)
 
-  pub ends_updating : memory Phase ≢ 0 → memory Phase ≢ 1 → (memory Phase == 2) ≡ false → collected config memory ≡ final_updated config memory
-  ends_updating not_0 not_1 other = fun_ext (λ word. later not_0 not_1 word ∙ cond-false (memory Phase == 2) (init_updated config memory word) (final_updated config memory word) other)
+  pub ends_updating : memory Phase ≢ idle_phase → memory Phase ≢ marking_phase → (memory Phase == evacuation_phase) ≡ false → collected config memory ≡ final_updated config memory
+  ends_updating not_idle not_marking other_phase = fun_ext (λ word. later not_idle not_marking word ∙ cond-false (memory Phase == evacuation_phase) (init_updated config memory word) (final_updated config memory word) other_phase)
 
 -- what is made of both alike
-made_as : (inside : Word → Bool) (whole m n k l : Word → ℕ) → m ≡ k → n ≡ l → IsMadeOfPart inside whole k l → IsMadeOfPart inside whole m n
-made_as inside whole memory other_memory k l one other made = subst (λ made. IsMadeOfPart inside whole made other_memory) (sym one) (subst (λ part_made. IsMadeOfPart inside whole k part_made) (sym other) made)
+made_as : (inside : Word → Bool) (whole_memory whole_result part_result second_whole second_part : Word → ℕ) → whole_result ≡ second_whole → part_result ≡ second_part → IsMadeOfPart inside whole_memory second_whole second_part → IsMadeOfPart inside whole_memory whole_result part_result
+made_as inside whole_memory memory made_of_part second_whole second_part same_whole same_part second_made = subst (λ second_made. IsMadeOfPart inside whole_memory second_made made_of_part) (sym same_whole) (subst (λ part_made. IsMadeOfPart inside whole_memory second_whole part_made) (sym same_part) second_made)
 
-pub begins : (config : Config) (whole part : Word → ℕ) → IsPartOf is_off_heap whole part → is_room_needed part ≡ false → part Phase ≡ 0 → IsMadeOfPart is_off_heap whole (collected config whole) (collected config part)
-begins config whole part part_of calm zero_phase =
-    let calm_whole : is_room_needed whole ≡ false = need_same whole part (part_of.same Ask refl) (part_of.same Phase refl) (part_of.same Evac refl) ∙ calm in
-    made_as is_off_heap whole (collected config whole) (collected config part) (init_marked config whole) (init_marked config part)
-    (marks config whole calm_whole (part_of.same Phase refl ∙ zero_phase)) (marks config part calm zero_phase) (init_marked_made config whole part part_of)
+pub begins : (config : Config) (whole_memory part_memory : Word → ℕ) → IsPartOf is_off_heap whole_memory part_memory → is_room_needed part_memory ≡ false → part_memory Phase ≡ idle_phase → IsMadeOfPart is_off_heap whole_memory (collected config whole_memory) (collected config part_memory)
+begins config whole_memory part_memory part_of no_room_needed zero_phase =
+    let calm_whole : is_room_needed whole_memory ≡ false = need_same whole_memory part_memory (part_of.same Ask refl) (part_of.same Phase refl) (part_of.same Evac refl) ∙ no_room_needed in
+    made_as is_off_heap whole_memory (collected config whole_memory) (collected config part_memory) (init_marked config whole_memory) (init_marked config part_memory)
+    (marks config whole_memory calm_whole (part_of.same Phase refl ∙ zero_phase)) (marks config part_memory no_room_needed zero_phase) (init_marked_made config whole_memory part_memory part_of)
 
-pub updates : (config : Config) (whole part : Word → ℕ) → IsPartOf is_ahead whole part → is_room_needed part ≡ false → part Phase ≢ 0 → part Phase ≢ 1 → IsMadeOfPart is_ahead whole (collected config whole) (collected config part)
-updates config whole part part_of calm not_0 not_1 =
-    let phase : whole Phase ≡ part Phase = part_of.same Phase refl in
-    let calm_whole : is_room_needed whole ≡ false = need_same whole part (part_of.same Ask refl) phase (part_of.same Evac refl) ∙ calm in
-    let other_0 : whole Phase ≢ 0 = λ e. not_0 (sym phase ∙ e) in
-    let other_1 : whole Phase ≢ 1 = λ e. not_1 (sym phase ∙ e) in
+pub updates : (config : Config) (whole_memory part_memory : Word → ℕ) → IsPartOf is_ahead whole_memory part_memory → is_room_needed part_memory ≡ false → part_memory Phase ≢ idle_phase → part_memory Phase ≢ marking_phase → IsMadeOfPart is_ahead whole_memory (collected config whole_memory) (collected config part_memory)
+updates config whole_memory part_memory part_of no_room_needed not_idle not_marking =
+    let phase : whole_memory Phase ≡ part_memory Phase = part_of.same Phase refl in
+    let calm_whole : is_room_needed whole_memory ≡ false = need_same whole_memory part_memory (part_of.same Ask refl) phase (part_of.same Evac refl) ∙ no_room_needed in
+    let whole_not_idle : whole_memory Phase ≢ idle_phase = λ in_phase. not_idle (sym phase ∙ in_phase) in
+    let whole_not_marking : whole_memory Phase ≢ marking_phase = λ in_phase. not_marking (sym phase ∙ in_phase) in
     ⊎_elim
-    (λ (two : (part Phase == 2) ≡ true). made_as is_ahead whole (collected config whole) (collected config part) (init_updated config whole) (init_updated config part)
-    (begins_updating config whole calm_whole other_0 other_1 (ap (λ k. k == 2) phase ∙ two)) (begins_updating config part calm not_0 not_1 two) (init_updated_made config whole part part_of))
-    (λ (three : (part Phase == 2) ≡ false). made_as is_ahead whole (collected config whole) (collected config part) (final_updated config whole) (final_updated config part)
-    (ends_updating config whole calm_whole other_0 other_1 (ap (λ k. k == 2) phase ∙ three)) (ends_updating config part calm not_0 not_1 three) (final_updated_made config whole part part_of))
-    (cases_Bool (part Phase == 2))
+    (λ (phase_two : (part_memory Phase == evacuation_phase) ≡ true). made_as is_ahead whole_memory (collected config whole_memory) (collected config part_memory) (init_updated config whole_memory) (init_updated config part_memory)
+    (begins_updating config whole_memory calm_whole whole_not_idle whole_not_marking (ap (λ phase_value. phase_value == 2) phase ∙ phase_two)) (begins_updating config part_memory no_room_needed not_idle not_marking phase_two) (init_updated_made config whole_memory part_memory part_of))
+    (λ (other_phase : (part_memory Phase == evacuation_phase) ≡ false). made_as is_ahead whole_memory (collected config whole_memory) (collected config part_memory) (final_updated config whole_memory) (final_updated config part_memory)
+    (ends_updating config whole_memory calm_whole whole_not_idle whole_not_marking (ap (λ phase_value. phase_value == 2) phase ∙ other_phase)) (ends_updating config part_memory no_room_needed not_idle not_marking other_phase) (final_updated_made config whole_memory part_memory part_of))
+    (cases_Bool (part_memory Phase == evacuation_phase))
 
 pub collects_by_part : CollectsByPart
 collects_by_part = record { begins = begins; updates = updates }

@@ -19,88 +19,88 @@ use Rattle.cycle_pauses.specs.Brief.{is_off_heap, is_ahead, IsPartOf, IsMadeOfPa
 use Rattle.cycle_pauses.proofs.Brief.Settled.{first_made, settled_made}
 
 -- the edges of two memories of which one is made of a part of the other
-edge_same : (config : Config) (inside : Word → Bool) (whole memory other_memory : Word → ℕ) → IsMadeOfPart inside whole memory other_memory → ((region : ℕ) → inside (Top region) ≡ true) → ((seat : ℕ) → inside (Current seat) ≡ true)
-    → (region : ℕ) → edge config memory region ≡ edge config other_memory region
-edge_same config inside whole memory other_memory made tops currents region =
-    edges_same config other_memory memory region (λ region. made.within (Top region) (tops region)) (λ seat. made.within (Current seat) (currents seat)) (seat_count config.mutators config.helpers)
+edge_same : (config : Config) (inside : Word → Bool) (whole_memory memory part_made : Word → ℕ) → IsMadeOfPart inside whole_memory memory part_made → ((region : ℕ) → inside (Top region) ≡ true) → ((seat : ℕ) → inside (Current seat) ≡ true)
+    → (region : ℕ) → edge config memory region ≡ edge config part_made region
+edge_same config inside whole_memory memory part_made made_of_part tops currents region =
+    edges_same config part_made memory region (λ region. made_of_part.within (Top region) (tops region)) (λ seat. made_of_part.within (Current seat) (currents seat)) (seat_count config.mutators config.helpers)
 
 -- the beginning of marking, of settled buffers
-module _ (config : Config) (whole memory other_memory : Word → ℕ) (made : IsMadeOfPart is_off_heap whole memory other_memory) where
-  marks_within : (word : Word) → is_off_heap word ≡ true → marking_begun config memory word ≡ marking_begun config other_memory word
-  marks_within (Grey number) is =
-      ap (λ xs. mark_bits config (has xs) number) (same_held_words other_memory memory (λ mutator index. made.within (Root mutator index) refl) (λ mutator. made.within (Answer mutator) refl) (λ mutator slot. made.within (Pin mutator slot) refl) config)
-  marks_within (Black number) is = refl
-  marks_within (Tams region) is = edge_same config is_off_heap whole memory other_memory made (λ q. refl) (λ seat. refl) region
-  marks_within (Count mutator) is = refl
-  marks_within Claim is = refl
-  marks_within Ask is = refl
-  marks_within Phase is = refl
-  marks_within word is = made.within word is
+module _ (config : Config) (whole_memory memory part_made : Word → ℕ) (made_of_part : IsMadeOfPart is_off_heap whole_memory memory part_made) where
+  marks_within : (word : Word) → is_off_heap word ≡ true → marking_begun config memory word ≡ marking_begun config part_made word
+  marks_within (Grey number) off_heap_word =
+      ap (λ addresses. mark_bits config (has addresses) number) (same_held_words part_made memory (λ mutator index. made_of_part.within (Root mutator index) refl) (λ mutator. made_of_part.within (Answer mutator) refl) (λ mutator slot. made_of_part.within (Pin mutator slot) refl) config)
+  marks_within (Black number) off_heap_word = refl
+  marks_within (Tams region) off_heap_word = edge_same config is_off_heap whole_memory memory part_made made_of_part (λ q. refl) (λ seat. refl) region
+  marks_within (Count mutator) off_heap_word = refl
+  marks_within Claim off_heap_word = refl
+  marks_within Ask off_heap_word = refl
+  marks_within Phase off_heap_word = refl
+  marks_within word off_heap_word = made_of_part.within word off_heap_word
 
-  marks_outside : (word : Word) → is_off_heap word ≡ false → marking_begun config memory word ≡ (if marking_begun config other_memory word == 0 then whole word else marking_begun config other_memory word)
-  marks_outside (Heap address) other = made.outside (Heap address) other
-  marks_outside _ other = absurd (true≢false other)
+  marks_outside : (word : Word) → is_off_heap word ≡ false → marking_begun config memory word ≡ (if marking_begun config part_made word == 0 then whole_memory word else marking_begun config part_made word)
+  marks_outside (Heap address) on_heap = made_of_part.outside (Heap address) on_heap
+  marks_outside _ on_heap = absurd (true≢false on_heap)
 
-pub init_marked_made : (config : Config) (whole part : Word → ℕ) → IsPartOf is_off_heap whole part → IsMadeOfPart is_off_heap whole (init_marked config whole) (init_marked config part)
-init_marked_made config whole part part_of =
-    let settled = settled_made is_off_heap whole config (λ seat. refl) (λ r. refl) part part_of in
+pub init_marked_made : (config : Config) (whole_memory part_memory : Word → ℕ) → IsPartOf is_off_heap whole_memory part_memory → IsMadeOfPart is_off_heap whole_memory (init_marked config whole_memory) (init_marked config part_memory)
+init_marked_made config whole_memory part_memory part_of =
+    let memory_settled = settled_made is_off_heap whole_memory config (λ seat. refl) (λ r. refl) part_memory part_of in
     record {
-      within = marks_within config whole (buffers_settled config whole) (buffers_settled config part) settled;
-      outside = marks_outside config whole (buffers_settled config whole) (buffers_settled config part) settled;
+      within = marks_within config whole_memory (buffers_settled config whole_memory) (buffers_settled config part_memory) memory_settled;
+      outside = marks_outside config whole_memory (buffers_settled config whole_memory) (buffers_settled config part_memory) memory_settled;
     }
 
 -- the beginning of updating, of settled buffers, and its end
-module _ (config : Config) (whole memory other_memory : Word → ℕ) (made : IsMadeOfPart is_ahead whole memory other_memory) where
-  chosen_same : (r : ℕ) → is_chosen memory r ≡ is_chosen other_memory r
-  chosen_same r = ap (λ set. bit_at set r == 1) (made.within Cset refl)
+module _ (config : Config) (whole_memory memory part_made : Word → ℕ) (made_of_part : IsMadeOfPart is_ahead whole_memory memory part_made) where
+  chosen_same : (region : ℕ) → is_chosen memory region ≡ is_chosen part_made region
+  chosen_same region = ap (λ some_set. bit_at some_set region == 1) (made_of_part.within Cset refl)
 
-  limits_within : (word : Word) → is_ahead word ≡ true → updating_begun config memory word ≡ updating_begun config other_memory word
-  limits_within Phase is = refl
-  limits_within Evac is = refl
-  limits_within Claim is = refl
-  limits_within (Limit region) is =
-      ap (λ b. if b then 0 else edge config memory region) (chosen_same region)
-      ∙ ap (λ k. if is_chosen other_memory region then 0 else k) (edge_same config is_ahead whole memory other_memory made (λ q. refl) (λ seat. refl) region)
-  limits_within word is = made.within word is
+  limits_within : (word : Word) → is_ahead word ≡ true → updating_begun config memory word ≡ updating_begun config part_made word
+  limits_within Phase ahead_word = refl
+  limits_within Evac ahead_word = refl
+  limits_within Claim ahead_word = refl
+  limits_within (Limit region) ahead_word =
+      ap (λ chosen. if chosen then 0 else edge config memory region) (chosen_same region)
+      ∙ ap (λ edge_there. if is_chosen part_made region then 0 else edge_there) (edge_same config is_ahead whole_memory memory part_made made_of_part (λ q. refl) (λ seat. refl) region)
+  limits_within word ahead_word = made_of_part.within word ahead_word
 
-  limits_outside : (word : Word) → is_ahead word ≡ false → updating_begun config memory word ≡ (if updating_begun config other_memory word == 0 then whole word else updating_begun config other_memory word)
-  limits_outside Phase other = absurd (true≢false other)
-  limits_outside Evac other = absurd (true≢false other)
-  limits_outside Claim other = absurd (true≢false other)
-  limits_outside (Limit region) other = absurd (true≢false other)
-  limits_outside word other = made.outside word other
+  limits_outside : (word : Word) → is_ahead word ≡ false → updating_begun config memory word ≡ (if updating_begun config part_made word == 0 then whole_memory word else updating_begun config part_made word)
+  limits_outside Phase not_ahead = absurd (true≢false not_ahead)
+  limits_outside Evac not_ahead = absurd (true≢false not_ahead)
+  limits_outside Claim not_ahead = absurd (true≢false not_ahead)
+  limits_outside (Limit region) not_ahead = absurd (true≢false not_ahead)
+  limits_outside word not_ahead = made_of_part.outside word not_ahead
 
-  ends_within : (word : Word) → is_ahead word ≡ true → final_updated config memory word ≡ final_updated config other_memory word
-  ends_within Phase is = refl
-  ends_within Cset is = refl
-  ends_within Claim is = refl
-  ends_within Free is =
-      ap (λ free. bit_or free (bits_of (is_chosen memory) 0 config.regions)) (made.within Free refl)
-      ∙ ap (λ set. bit_or (other_memory Free) (bits_of (λ r. bit_at set r == 1) 0 config.regions)) (made.within Cset refl)
-  ends_within (Top region) is = ap (λ b. if b then 0 else memory (Top region)) (chosen_same region) ∙ ap (λ k. if is_chosen other_memory region then 0 else k) (made.within (Top region) refl)
-  ends_within (Tams region) is = ap (λ b. if b then 0 else memory (Tams region)) (chosen_same region) ∙ ap (λ k. if is_chosen other_memory region then 0 else k) (made.within (Tams region) refl)
-  ends_within (Limit region) is = ap (λ b. if b then 0 else memory (Limit region)) (chosen_same region) ∙ ap (λ k. if is_chosen other_memory region then 0 else k) (made.within (Limit region) refl)
-  ends_within word is = made.within word is
+  ends_within : (word : Word) → is_ahead word ≡ true → final_updated config memory word ≡ final_updated config part_made word
+  ends_within Phase ahead_word = refl
+  ends_within Cset ahead_word = refl
+  ends_within Claim ahead_word = refl
+  ends_within Free ahead_word =
+      ap (λ free_bits. bit_or free_bits (bits_of (is_chosen memory) 0 config.regions)) (made_of_part.within Free refl)
+      ∙ ap (λ some_set. bit_or (part_made Free) (bits_of (λ asked_region. bit_at some_set asked_region == 1) 0 config.regions)) (made_of_part.within Cset refl)
+  ends_within (Top region) ahead_word = ap (λ chosen. if chosen then 0 else memory (Top region)) (chosen_same region) ∙ ap (λ kept_value. if is_chosen part_made region then 0 else kept_value) (made_of_part.within (Top region) refl)
+  ends_within (Tams region) ahead_word = ap (λ chosen. if chosen then 0 else memory (Tams region)) (chosen_same region) ∙ ap (λ kept_value. if is_chosen part_made region then 0 else kept_value) (made_of_part.within (Tams region) refl)
+  ends_within (Limit region) ahead_word = ap (λ chosen. if chosen then 0 else memory (Limit region)) (chosen_same region) ∙ ap (λ kept_value. if is_chosen part_made region then 0 else kept_value) (made_of_part.within (Limit region) refl)
+  ends_within word ahead_word = made_of_part.within word ahead_word
 
-  ends_outside : (word : Word) → is_ahead word ≡ false → final_updated config memory word ≡ (if final_updated config other_memory word == 0 then whole word else final_updated config other_memory word)
-  ends_outside Phase other = absurd (true≢false other)
-  ends_outside Cset other = absurd (true≢false other)
-  ends_outside Claim other = absurd (true≢false other)
-  ends_outside Free other = absurd (true≢false other)
-  ends_outside (Top region) other = absurd (true≢false other)
-  ends_outside (Tams region) other = absurd (true≢false other)
-  ends_outside (Limit region) other = absurd (true≢false other)
-  ends_outside word other = made.outside word other
+  ends_outside : (word : Word) → is_ahead word ≡ false → final_updated config memory word ≡ (if final_updated config part_made word == 0 then whole_memory word else final_updated config part_made word)
+  ends_outside Phase not_ahead = absurd (true≢false not_ahead)
+  ends_outside Cset not_ahead = absurd (true≢false not_ahead)
+  ends_outside Claim not_ahead = absurd (true≢false not_ahead)
+  ends_outside Free not_ahead = absurd (true≢false not_ahead)
+  ends_outside (Top region) not_ahead = absurd (true≢false not_ahead)
+  ends_outside (Tams region) not_ahead = absurd (true≢false not_ahead)
+  ends_outside (Limit region) not_ahead = absurd (true≢false not_ahead)
+  ends_outside word not_ahead = made_of_part.outside word not_ahead
 
-pub init_updated_made : (config : Config) (whole part : Word → ℕ) → IsPartOf is_ahead whole part → IsMadeOfPart is_ahead whole (init_updated config whole) (init_updated config part)
-init_updated_made config whole part part_of =
-    let settled = settled_made is_ahead whole config (λ seat. refl) (λ r. refl) part part_of in
+pub init_updated_made : (config : Config) (whole_memory part_memory : Word → ℕ) → IsPartOf is_ahead whole_memory part_memory → IsMadeOfPart is_ahead whole_memory (init_updated config whole_memory) (init_updated config part_memory)
+init_updated_made config whole_memory part_memory part_of =
+    let memory_settled = settled_made is_ahead whole_memory config (λ seat. refl) (λ r. refl) part_memory part_of in
     record {
-      within = limits_within config whole (buffers_settled config whole) (buffers_settled config part) settled;
-      outside = limits_outside config whole (buffers_settled config whole) (buffers_settled config part) settled;
+      within = limits_within config whole_memory (buffers_settled config whole_memory) (buffers_settled config part_memory) memory_settled;
+      outside = limits_outside config whole_memory (buffers_settled config whole_memory) (buffers_settled config part_memory) memory_settled;
     }
 
-pub final_updated_made : (config : Config) (whole part : Word → ℕ) → IsPartOf is_ahead whole part → IsMadeOfPart is_ahead whole (final_updated config whole) (final_updated config part)
-final_updated_made config whole part part_of =
-    let first = first_made is_ahead whole part part_of in
-    record { within = ends_within config whole whole part first; outside = ends_outside config whole whole part first }
+pub final_updated_made : (config : Config) (whole_memory part_memory : Word → ℕ) → IsPartOf is_ahead whole_memory part_memory → IsMadeOfPart is_ahead whole_memory (final_updated config whole_memory) (final_updated config part_memory)
+final_updated_made config whole_memory part_memory part_of =
+    let made_at_first = first_made is_ahead whole_memory part_memory part_of in
+    record { within = ends_within config whole_memory whole_memory part_memory made_at_first; outside = ends_outside config whole_memory whole_memory part_memory made_at_first }

@@ -23,7 +23,7 @@ off_heap_at config Pause word image = absurd (false≢true image)
 off_heap_at config Left word image = absurd (false≢true image)
 off_heap_at config End word image = absurd (false≢true image)
 off_heap_at config (State seat) word image = absurd (false≢true image)
-off_heap_at config word h image = off_before (heap_index config) (heap_size config) (word_at config word - image_start config) (omega arith)
+off_heap_at config word word_is image = off_before (heap_index config) (heap_size config) (word_at config word - image_start config) (omega arith)
 
 pub ahead_at : (config : Config) (word : Word) → IsWord config word → is_image word ≡ true → is_of_extent config Ahead (word_at config word - image_start config) ≡ is_ahead word
 ahead_at config Pause word image = absurd (false≢true image)
@@ -40,30 +40,30 @@ ahead_at config (Top region) word image = lt-ltb _ _ (omega arith)
 ahead_at config (Tams region) word image = lt-ltb _ _ (omega arith)
 ahead_at config (Limit region) word image = lt-ltb _ _ (omega arith)
 ahead_at config (Current seat) word image = lt-ltb _ _ (omega arith)
-ahead_at config word h image = le-ltb _ _ (omega arith)
+ahead_at config word word_is image = le-ltb _ _ (omega arith)
 
 -- what a word of an image reads
 pub image_reads : (config : Config) (image : List ℕ) (word : Word) → IsWord config word → is_image word ≡ true → image_view config image word ≡ slice_index image (word_at config word - image_start config)
-image_reads config image word is in_image =
-    view_word config (replicate (image_start config) 0 ++ image) word is
-    ∙ inside_word config image (word_at config word) (leb-true (image_start config) (word_at config word) (sym (is_image-word_at config word is) ∙ in_image))
+image_reads config image word inside_table in_image =
+    view_word config (replicate (image_start config) 0 ++ image) word inside_table
+    ∙ inside_word config image (word_at config word) (leb-true (image_start config) (word_at config word) (sym (is_image-word_at config word inside_table) ∙ in_image))
 
 -- the word at an index of the image
-module _ (config : Config) (index : ℕ) (less : index < image_words config) where
+module _ (config : Config) (index : ℕ) (index_below : index < image_words config) where
   abbrev pub word_here : Word
   word_here = name_of config (image_start config + index)
 
   in_table : image_start config + index < table_words config
-  in_table = omega (arith, less)
+  in_table = omega (arith, index_below)
 
   pub here_is : IsWord config word_here
   here_is = are_named.is_word config (image_start config + index) in_table
 
   pub here_at : word_at config word_here - image_start config ≡ index
-  here_at = (let at = are_named.there config (image_start config + index) in_table in omega (arith, at))
+  here_at = (let named_there = are_named.there config (image_start config + index) in_table in omega (arith, named_there))
 
   pub here_image : is_image word_here ≡ true
-  here_image = is_image-word_at config word_here here_is ∙ le-leb (image_start config) (word_at config word_here) (let at = are_named.there config (image_start config + index) in_table in omega (arith, at))
+  here_image = is_image-word_at config word_here here_is ∙ le-leb (image_start config) (word_at config word_here) (let named_there = are_named.there config (image_start config + index) in_table in omega (arith, named_there))
 
-  pub here_reads : (xs : List ℕ) → image_view config xs word_here ≡ slice_index xs index
-  here_reads xs = image_reads config xs word_here here_is here_image ∙ ap (λ index. slice_index xs index) here_at
+  pub here_reads : (image : List ℕ) → image_view config image word_here ≡ slice_index image index
+  here_reads image = image_reads config image word_here here_is here_image ∙ ap (λ index. slice_index image index) here_at

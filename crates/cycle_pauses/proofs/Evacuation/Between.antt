@@ -43,52 +43,52 @@ IsLive _ = ⊥
 
 -- what is left of it where it was
 abbrev pub old_of : Block → ℕ → Block
-old_of (thing name refs nums) to = moved name refs nums to
-old_of (moved name refs nums at) to = moved name refs nums to
-old_of piece to = spent (words_of piece) to
+old_of (thing name refs nums) copy_address = moved name refs nums copy_address
+old_of (moved name refs nums moved_to) copy_address = moved name refs nums copy_address
+old_of piece copy_address = spent (words_of piece) copy_address
 
-pub old_words : (piece : Block) (to : ℕ) → words_of (old_of piece to) ≡ words_of piece
-old_words (thing name refs nums) to = refl
-old_words (moved name refs nums at) to = refl
-old_words _ to = refl
+pub old_words : (piece : Block) (copy_address : ℕ) → words_of (old_of piece copy_address) ≡ words_of piece
+old_words (thing name refs nums) copy_address = refl
+old_words (moved name refs nums moved_to) copy_address = refl
+old_words _ copy_address = refl
 
-pub old_name : (piece : Block) (to : ℕ) → IsLive piece → name_at (Some (old_of piece to)) ≡ name_at (Some piece)
-old_name (thing name refs nums) to live = refl
-old_name (promised seat words) to live = refl
-old_name _ to live = absurd live
+pub old_name : (piece : Block) (copy_address : ℕ) → IsLive piece → name_at (Some (old_of piece copy_address)) ≡ name_at (Some piece)
+old_name (thing name refs nums) copy_address live = refl
+old_name (promised seat words) copy_address live = refl
+old_name _ copy_address live = absurd live
 
 -- an old copy is none of these
-pub old_is_old : (piece : Block) (to : ℕ) → ((name : Name) (refs nums : ℕ) → old_of piece to ≡ thing name refs nums → ⊥) × ((seat words : ℕ) → old_of piece to ≡ promised seat words → ⊥)
-    × (room_of (old_of piece to) ≡ None) × ((words : ℕ) → old_of piece to ≡ dead words → ⊥) × ((words : ℕ) → old_of piece to ≡ filler words → ⊥)
-old_is_old (thing other_name other_refs other_nums) to = (λ name refs nums is. cc, λ seat words is. cc, refl, λ words is. cc, λ words is. cc)
-old_is_old (moved other_name other_refs other_nums at) to = (λ name refs nums is. cc, λ seat words is. cc, refl, λ words is. cc, λ words is. cc)
-old_is_old _ to = (λ name refs nums is. cc, λ seat words is. cc, refl, λ words is. cc, λ words is. cc)
+pub old_is_old : (piece : Block) (copy_address : ℕ) → ((name : Name) (refs nums : ℕ) → old_of piece copy_address ≡ thing name refs nums → ⊥) × ((seat words : ℕ) → old_of piece copy_address ≡ promised seat words → ⊥)
+    × (room_of (old_of piece copy_address) ≡ None) × ((words : ℕ) → old_of piece copy_address ≡ dead words → ⊥) × ((words : ℕ) → old_of piece copy_address ≡ filler words → ⊥)
+old_is_old (thing piece_name piece_refs piece_nums) copy_address = (λ name refs nums same_piece. cc, λ seat words same_piece. cc, refl, λ words same_piece. cc, λ words same_piece. cc)
+old_is_old (moved piece_name piece_refs piece_nums moved_to) copy_address = (λ name refs nums same_piece. cc, λ seat words same_piece. cc, refl, λ words same_piece. cc, λ words same_piece. cc)
+old_is_old _ copy_address = (λ name refs nums same_piece. cc, λ seat words same_piece. cc, refl, λ words same_piece. cc, λ words same_piece. cc)
 
 -- where it is one of an object, the object was there; where it is one of an object that was promised, that was
-pub was_thing : (piece : Block) (to : ℕ) → IsLive piece → (name : Name) (refs nums at : ℕ) → old_of piece to ≡ moved name refs nums at → (piece ≡ thing name refs nums) × (at ≡ to)
-was_thing (thing other_name other_refs other_nums) to live name refs nums at is = (cc, cc)
-was_thing (promised seat words) to live name refs nums at is = cc
-was_thing _ to live name refs nums at is = absurd live
+pub was_thing : (piece : Block) (copy_address : ℕ) → IsLive piece → (name : Name) (refs nums moved_to : ℕ) → old_of piece copy_address ≡ moved name refs nums moved_to → (piece ≡ thing name refs nums) × (moved_to ≡ copy_address)
+was_thing (thing piece_name piece_refs piece_nums) copy_address live name refs nums moved_to same_piece = (cc, cc)
+was_thing (promised seat words) copy_address live name refs nums moved_to same_piece = cc
+was_thing _ copy_address live name refs nums moved_to same_piece = absurd live
 
-pub was_promised : (piece : Block) (to : ℕ) → IsLive piece → (words at : ℕ) → old_of piece to ≡ spent words at → (seat : ℕ) × (piece ≡ promised seat words) × (at ≡ to)
-was_promised (thing name refs nums) to live words at is = cc
-was_promised (promised seat other_words) to live words at is = (seat, cc, cc)
-was_promised _ to live words at is = absurd live
+pub was_promised : (piece : Block) (copy_address : ℕ) → IsLive piece → (words moved_to : ℕ) → old_of piece copy_address ≡ spent words moved_to → (seat : ℕ) × (piece ≡ promised seat words) × (moved_to ≡ copy_address)
+was_promised (thing name refs nums) copy_address live words moved_to same_piece = cc
+was_promised (promised seat piece_words) copy_address live words moved_to same_piece = (seat, cc, cc)
+was_promised _ copy_address live words moved_to same_piece = absurd live
 
 -- a live piece is none of these
-pub live_is_live : (piece : Block) → IsLive piece → ((name : Name) (refs nums to : ℕ) → piece ≡ moved name refs nums to → ⊥) × ((words to : ℕ) → piece ≡ spent words to → ⊥)
+pub live_is_live : (piece : Block) → IsLive piece → ((name : Name) (refs nums moved_to : ℕ) → piece ≡ moved name refs nums moved_to → ⊥) × ((words moved_to : ℕ) → piece ≡ spent words moved_to → ⊥)
     × (room_of piece ≡ None) × ((words : ℕ) → piece ≡ dead words → ⊥) × ((words : ℕ) → piece ≡ filler words → ⊥)
-live_is_live (thing other_name other_refs other_nums) live = (λ name refs nums to is. cc, λ words to is. cc, refl, λ words is. cc, λ words is. cc)
-live_is_live (promised seat other_words) live = (λ name refs nums to is. cc, λ words to is. cc, refl, λ words is. cc, λ words is. cc)
+live_is_live (thing piece_name piece_refs piece_nums) live = (λ name refs nums moved_to same_piece. cc, λ words moved_to same_piece. cc, refl, λ words same_piece. cc, λ words same_piece. cc)
+live_is_live (promised seat piece_words) live = (λ name refs nums moved_to same_piece. cc, λ words moved_to same_piece. cc, refl, λ words same_piece. cc, λ words same_piece. cc)
 live_is_live _ live = absurd live
 
 -- it may be marked, and what is left of it is a copy
 pub live_markable : (block : Plot) (address : ℕ) (piece : Block) → IsLive piece → block address ≡ Some piece → IsMarkable block address
-live_markable block address (thing name refs nums) live is = IsMarkable.object name refs nums is
-live_markable block address (promised seat words) live is = IsMarkable.to_come seat words is
-live_markable block address _ live is = absurd live
+live_markable block address (thing name refs nums) live has_piece = IsMarkable.object name refs nums has_piece
+live_markable block address (promised seat words) live has_piece = IsMarkable.to_come seat words has_piece
+live_markable block address _ live has_piece = absurd live
 
-pub old_has_copy : (block : Plot) (address to : ℕ) (piece : Block) → IsLive piece → block address ≡ Some (old_of piece to) → HasCopy block address
-old_has_copy block address to (thing name refs nums) live is = HasCopy.copy (record { name = name; refs = refs; nums = nums }) (ap body_at is)
-old_has_copy block address to (promised seat words) live is = HasCopy.spent_copy words to is
-old_has_copy block address to _ live is = absurd live
+pub old_has_copy : (block : Plot) (address copy_address : ℕ) (piece : Block) → IsLive piece → block address ≡ Some (old_of piece copy_address) → HasCopy block address
+old_has_copy block address copy_address (thing name refs nums) live has_old = HasCopy.copy (record { name = name; refs = refs; nums = nums }) (ap body_at has_old)
+old_has_copy block address copy_address (promised seat words) live has_old = HasCopy.spent_copy words copy_address has_old
+old_has_copy block address copy_address _ live has_old = absurd live

@@ -27,146 +27,146 @@ use Rattle.cycle_pauses.proofs.Evacuation.ClearingInTurn.{is_first, is_later}
 
 -- a word of the table is one
 no_word : (config : Config) (region address : ℕ) → region < config.regions → IsOf config region address → is_word config (Heap address) ≡ false → ⊥
-no_word config region address below is_of other = true≢false (sym (is_word_from config (Heap address) (regions_tile.in_heap config region address below is_of)) ∙ other)
+no_word config region address region_below is_of not_word = true≢false (sym (is_word_from config (Heap address) (regions_tile.in_heap config region address region_below is_of)) ∙ not_word)
 
 -- a place is a word of the table
 no_place : (config : Config) (place : Word) → IsPlace config place → is_word config place ≡ false → ⊥
-no_place config (Root mutator index) place other = true≢false (sym (is_word_from config (Root mutator index) place) ∙ other)
-no_place config (Answer mutator) place other = true≢false (sym (is_word_from config (Answer mutator) place) ∙ other)
-no_place config _ place other = place
+no_place config (Root mutator index) place not_word = true≢false (sym (is_word_from config (Root mutator index) place) ∙ not_word)
+no_place config (Answer mutator) place not_word = true≢false (sym (is_word_from config (Answer mutator) place) ∙ not_word)
+no_place config _ place not_word = place
 
 -- one object is copied out
-module _ (config : Config) (memory : Word → ℕ) (address : ℕ) (can : CanCopyOut config memory address) (out : IsCopiedOut config memory (copied_out config memory address) address) (nothing : IsZeroOutside config memory) where
-  other_heap : (x : ℕ) → is_word config (Heap x) ≡ false → (x ≢ address) × ((x < top_address config memory out.region) ⊎ (top_address config memory out.region + words_at memory address ≤ x))
-  other_heap x other = (
-    λ same.
-        (let first : address + 0 ≡ x = omega (arith, same) in
-        no_word config (region_with config address) x can.of_region
-        (subst (IsOf config (region_with config address)) first (of_its_region config address 0 can.above (let inside = mod_below address config.region_words (some_words config) in omega (arith, inside)))) other),
+module _ (config : Config) (memory : Word → ℕ) (address : ℕ) (can_copy : CanCopyOut config memory address) (copying : IsCopiedOut config memory (copied_out config memory address) address) (nothing : IsZeroOutside config memory) where
+  other_heap : (asked_address : ℕ) → is_word config (Heap asked_address) ≡ false → (asked_address ≢ address) × ((asked_address < top_address config memory copying.region) ⊎ (top_address config memory copying.region + words_at memory address ≤ asked_address))
+  other_heap asked_address not_word = (
+    λ same_address.
+        (let first_address : address + 0 ≡ asked_address = omega (arith, same_address) in
+        no_word config (region_with config address) asked_address can_copy.of_region
+        (subst (IsOf config (region_with config address)) first_address (of_its_region config address 0 can_copy.above (let offset_below = mod_below address config.region_words (some_words config) in omega (arith, offset_below)))) not_word),
     ⊎_elim
-        (λ (before : x < top_address config memory out.region). inl before)
-        (λ (least : top_address config memory out.region ≤ x). ⊎_elim
-        (λ (within : x < top_address config memory out.region + words_at memory address).
-        let room = out.room in absurd (no_word config out.region x out.below (record { from = omega (arith, least); before = omega (arith, within, room) }) other))
-        (λ (behind : top_address config memory out.region + words_at memory address ≤ x). inr behind)
-        (cases_lt x (top_address config memory out.region + words_at memory address)))
-        (cases_lt x (top_address config memory out.region)),
+        (λ (address_before : asked_address < top_address config memory copying.region). inl address_before)
+        (λ (above_top : top_address config memory copying.region ≤ asked_address). ⊎_elim
+        (λ (address_within : asked_address < top_address config memory copying.region + words_at memory address).
+        let room = copying.room in absurd (no_word config copying.region asked_address copying.below (record { from = omega (arith, above_top); before = omega (arith, address_within, room) }) not_word))
+        (λ (behind_copy : top_address config memory copying.region + words_at memory address ≤ asked_address). inr behind_copy)
+        (cases_lt asked_address (top_address config memory copying.region + words_at memory address)))
+        (cases_lt asked_address (top_address config memory copying.region)),
   )
 
   pub copied_outside : IsZeroOutside config (copied_out config memory address)
-  copied_outside (Heap x) other = let apart = other_heap x other in out.copied.elsewhere x apart.0 apart.1 ∙ nothing (Heap x) other
-  copied_outside (Top region) other =
-      out.copied.other_tops region (λ same. true≢false (sym (is_word_from config (Top region) (let below = out.below in omega (arith, below, same))) ∙ other)) ∙ nothing (Top region) other
-  copied_outside Free other = absurd (true≢false other)
-  copied_outside word other = out.copied.others word (λ never. never) ∙ nothing word other
+  copied_outside (Heap word_address) not_word = let heap_apart = other_heap word_address not_word in copying.copied.elsewhere word_address heap_apart.0 heap_apart.1 ∙ nothing (Heap word_address) not_word
+  copied_outside (Top region) not_word =
+      copying.copied.other_tops region (λ same_region. true≢false (sym (is_word_from config (Top region) (let region_below = copying.below in omega (arith, region_below, same_region))) ∙ not_word)) ∙ nothing (Top region) not_word
+  copied_outside Free not_word = absurd (true≢false not_word)
+  copied_outside word not_word = copying.copied.others word (λ never. never) ∙ nothing word not_word
 
 -- one place is cleared
 place_outside : (config : Config) (memory : Word → ℕ) (place : Word) → IsPlace config place → CanClear config memory (memory place) → IsZeroOutside config memory → IsZeroOutside config (cleared_at config memory place)
-place_outside config memory place at can nothing word other = ⊎_elim
-    (λ (collected : is_collected config memory (memory place) ≡ true).
-    ap (λ (memory : Word → ℕ). memory word) (cleared_is config memory place collected)
+place_outside config memory place is_place can_clear nothing word not_word = ⊎_elim
+    (λ (object_collected : is_collected config memory (memory place) ≡ true).
+    ap (λ (memory : Word → ℕ). memory word) (cleared_is config memory place object_collected)
     ∙ ⊎_elim
-    (λ (here : same_word place word ≡ true). absurd (no_place config place at (ap (is_word config) (same_word_true place word here) ∙ other)))
-    (λ (differs : same_word place word ≡ false).
-    cond-false (same_word place word) (now_in (moved_out config memory (memory place)) (memory place)) (moved_out config memory (memory place) word) differs
+    (λ (at_place : same_word place word ≡ true). absurd (no_place config place is_place (ap (is_word config) (same_word_true place word at_place) ∙ not_word)))
+    (λ (words_differ : same_word place word ≡ false).
+    cond-false (same_word place word) (now_in (moved_out config memory (memory place)) (memory place)) (moved_out config memory (memory place) word) words_differ
     ∙ ⊎_elim
-    (λ (forwarded : is_forwarded (memory (Heap (memory place))) ≡ true). cond-true (is_forwarded (memory (Heap (memory place)))) (memory word) (copied_out config memory (memory place) word) forwarded ∙ nothing word other)
-    (λ (plain : is_forwarded (memory (Heap (memory place))) ≡ false).
-    let object = can.object collected plain in
-    cond-false (is_forwarded (memory (Heap (memory place)))) (memory word) (copied_out config memory (memory place) word) plain
-    ∙ copied_outside config memory (memory place) object (copies_out config memory (memory place) object.above object.in_set (can.room collected plain)) nothing word other)
+    (λ (object_forwarded : is_forwarded (memory (Heap (memory place))) ≡ true). cond-true (is_forwarded (memory (Heap (memory place)))) (memory word) (copied_out config memory (memory place) word) object_forwarded ∙ nothing word not_word)
+    (λ (header_plain : is_forwarded (memory (Heap (memory place))) ≡ false).
+    let object = can_clear.object object_collected header_plain in
+    cond-false (is_forwarded (memory (Heap (memory place)))) (memory word) (copied_out config memory (memory place) word) header_plain
+    ∙ copied_outside config memory (memory place) object (copies_out config memory (memory place) object.above object.in_set (can_clear.room object_collected header_plain)) nothing word not_word)
     (cases_Bool (is_forwarded (memory (Heap (memory place))))))
     (cases_Bool (same_word place word)))
-    (λ (spared : is_collected config memory (memory place) ≡ false). ap (λ (memory : Word → ℕ). memory word) (spared_is config memory place spared) ∙ nothing word other)
+    (λ (spared : is_collected config memory (memory place) ≡ false). ap (λ (memory : Word → ℕ). memory word) (spared_is config memory place spared) ∙ nothing word not_word)
     (cases_Bool (is_collected config memory (memory place)))
 
 -- and all are
 places_outside : (config : Config) (places : List Word) (memory : Word → ℕ) → ((word : Word) → Contains places word → IsPlace config word) → CanClearInTurn config memory places → IsZeroOutside config memory → IsZeroOutside config (cleared_in_turn config memory places)
 unfolding cleared_in_turn CanClearInTurn
-places_outside config [] memory are can nothing = nothing
-places_outside config (place ∷ places) memory are can nothing =
-    places_outside config places (cleared_at config memory place) (λ word has. are word (is_later place places word has)) can.1
-    (place_outside config memory place (are place (is_first place places)) can.0 nothing)
+places_outside config [] memory all_places can_clear nothing = nothing
+places_outside config (place ∷ places) memory all_places can_clear nothing =
+    places_outside config places (cleared_at config memory place) (λ word contained. all_places word (is_later place places word contained)) can_clear.1
+    (place_outside config memory place (all_places place (is_first place places)) can_clear.0 nothing)
 
 started_outside : (config : Config) (memory : Word → ℕ) → IsZeroOutside config memory → IsZeroOutside config (evac_started memory)
-started_outside config memory nothing Phase other = absurd (true≢false other)
-started_outside config memory nothing Evac other = refl
-started_outside config memory nothing Claim other = refl
-started_outside config memory nothing word other = nothing word other
+started_outside config memory nothing Phase not_word = absurd (true≢false not_word)
+started_outside config memory nothing Evac not_word = refl
+started_outside config memory nothing Claim not_word = refl
+started_outside config memory nothing word not_word = nothing word not_word
 
 spared_outside : (config : Config) (memory : Word → ℕ) → IsZeroOutside config memory → IsZeroOutside config (evac_spared memory)
-spared_outside config memory nothing Phase other = refl
-spared_outside config memory nothing Cset other = refl
-spared_outside config memory nothing Claim other = refl
-spared_outside config memory nothing word other = nothing word other
+spared_outside config memory nothing Phase not_word = refl
+spared_outside config memory nothing Cset not_word = refl
+spared_outside config memory nothing Claim not_word = refl
+spared_outside config memory nothing word not_word = nothing word not_word
 
 with_set_outside : (config : Config) (memory : Word → ℕ) (set : ℕ) → IsZeroOutside config memory → IsZeroOutside config (with_set memory set)
-with_set_outside config memory set nothing Cset other = absurd (true≢false other)
-with_set_outside config memory set nothing word other = nothing word other
+with_set_outside config memory set nothing Cset not_word = absurd (true≢false not_word)
+with_set_outside config memory set nothing word not_word = nothing word not_word
 
 pub begun_outside : (config : Config) (memory : Word → ℕ) (set : ℕ) → CanClearInTurn config (with_set memory set) (naming_places config) → IsZeroOutside config memory → IsZeroOutside config (evac_begun config memory set)
-begun_outside config memory set can nothing word other = ⊎_elim
-    (λ (none : (set == 0) ≡ true).
-    cond-true (set == 0) (evac_spared memory word) (evac_started (cleared_in_turn config (with_set memory set) (naming_places config)) word) none ∙ spared_outside config memory nothing word other)
-    (λ (some : (set == 0) ≡ false).
-    cond-false (set == 0) (evac_spared memory word) (evac_started (cleared_in_turn config (with_set memory set) (naming_places config)) word) some
+begun_outside config memory set can_clear nothing word not_word = ⊎_elim
+    (λ (no_set : (set == 0) ≡ true).
+    cond-true (set == 0) (evac_spared memory word) (evac_started (cleared_in_turn config (with_set memory set) (naming_places config)) word) no_set ∙ spared_outside config memory nothing word not_word)
+    (λ (some_set : (set == 0) ≡ false).
+    cond-false (set == 0) (evac_spared memory word) (evac_started (cleared_in_turn config (with_set memory set) (naming_places config)) word) some_set
     ∙ started_outside config (cleared_in_turn config (with_set memory set) (naming_places config))
-    (places_outside config (naming_places config) (with_set memory set) (are_places config) can (with_set_outside config memory set nothing)) word other)
+    (places_outside config (naming_places config) (with_set memory set) (are_places config) can_clear (with_set_outside config memory set nothing)) word not_word)
     (cases_Bool (set == 0))
 
 -- Words before the image stay, whatever is copied.
 to_same : (config : Config) (memory : Word → ℕ) (address region : ℕ) (word : Word) → (MayChange word → ⊥) → copied_to config memory address region word ≡ memory word
 unfolding copied_to
-to_same config memory address region (Heap other_address) stays = absurd (stays tt)
-to_same config memory address region (Top other_region) stays = absurd (stays tt)
-to_same config memory address region Free stays = absurd (stays tt)
-to_same config memory address region word stays = refl
+to_same config memory address region (Heap word_address) word_stays = absurd (word_stays tt)
+to_same config memory address region (Top word_region) word_stays = absurd (word_stays tt)
+to_same config memory address region Free word_stays = absurd (word_stays tt)
+to_same config memory address region word word_stays = refl
 
 pub copied_same : (config : Config) (memory : Word → ℕ) (address : ℕ) (word : Word) → (MayChange word → ⊥) → copied_out config memory address word ≡ memory word
 copied_same config memory address word fixed = by_room (copy_room config memory address)
   where
     by_room : (found : Option ℕ) → copied_in config memory address found word ≡ memory word
     by_room None = refl
-    by_room (Some r) = to_same config memory address r word fixed
+    by_room (Some found_region) = to_same config memory address found_region word fixed
 
 place_same : (config : Config) (memory : Word → ℕ) (place word : Word) → IsPlace config place → (MayChange word → ⊥) → (IsPlace config word → ⊥) → cleared_at config memory place word ≡ memory word
-place_same config memory place word at fixed other = ⊎_elim
-    (λ (collected : is_collected config memory (memory place) ≡ true).
-    ap (λ (memory : Word → ℕ). memory word) (cleared_is config memory place collected)
+place_same config memory place word is_place fixed not_place = ⊎_elim
+    (λ (object_collected : is_collected config memory (memory place) ≡ true).
+    ap (λ (memory : Word → ℕ). memory word) (cleared_is config memory place object_collected)
     ∙ ⊎_elim
-    (λ (here : same_word place word ≡ true). absurd (other (subst (IsPlace config) (same_word_true place word here) at)))
-    (λ (differs : same_word place word ≡ false).
-    cond-false (same_word place word) (now_in (moved_out config memory (memory place)) (memory place)) (moved_out config memory (memory place) word) differs
+    (λ (at_place : same_word place word ≡ true). absurd (not_place (subst (IsPlace config) (same_word_true place word at_place) is_place)))
+    (λ (words_differ : same_word place word ≡ false).
+    cond-false (same_word place word) (now_in (moved_out config memory (memory place)) (memory place)) (moved_out config memory (memory place) word) words_differ
     ∙ ⊎_elim
-    (λ (forwarded : is_forwarded (memory (Heap (memory place))) ≡ true). cond-true (is_forwarded (memory (Heap (memory place)))) (memory word) (copied_out config memory (memory place) word) forwarded)
-    (λ (plain : is_forwarded (memory (Heap (memory place))) ≡ false).
-    cond-false (is_forwarded (memory (Heap (memory place)))) (memory word) (copied_out config memory (memory place) word) plain ∙ copied_same config memory (memory place) word fixed)
+    (λ (object_forwarded : is_forwarded (memory (Heap (memory place))) ≡ true). cond-true (is_forwarded (memory (Heap (memory place)))) (memory word) (copied_out config memory (memory place) word) object_forwarded)
+    (λ (header_plain : is_forwarded (memory (Heap (memory place))) ≡ false).
+    cond-false (is_forwarded (memory (Heap (memory place)))) (memory word) (copied_out config memory (memory place) word) header_plain ∙ copied_same config memory (memory place) word fixed)
     (cases_Bool (is_forwarded (memory (Heap (memory place))))))
     (cases_Bool (same_word place word)))
     (λ (spared : is_collected config memory (memory place) ≡ false). ap (λ (memory : Word → ℕ). memory word) (spared_is config memory place spared))
     (cases_Bool (is_collected config memory (memory place)))
 
-places_same : (config : Config) (places : List Word) (memory : Word → ℕ) (word : Word) → ((other_word : Word) → Contains places other_word → IsPlace config other_word) → (MayChange word → ⊥) → (IsPlace config word → ⊥)
+places_same : (config : Config) (places : List Word) (memory : Word → ℕ) (word : Word) → ((asked_word : Word) → Contains places asked_word → IsPlace config asked_word) → (MayChange word → ⊥) → (IsPlace config word → ⊥)
     → cleared_in_turn config memory places word ≡ memory word
 unfolding cleared_in_turn
-places_same config [] memory word are fixed other = refl
-places_same config (place ∷ places) memory word are fixed other =
-    places_same config places (cleared_at config memory place) word (λ other_word has. are other_word (is_later place places other_word has)) fixed other
-    ∙ place_same config memory place word (are place (is_first place places)) fixed other
+places_same config [] memory word all_places fixed not_place = refl
+places_same config (place ∷ places) memory word all_places fixed not_place =
+    places_same config places (cleared_at config memory place) word (λ asked_word contained. all_places asked_word (is_later place places asked_word contained)) fixed not_place
+    ∙ place_same config memory place word (all_places place (is_first place places)) fixed not_place
 
-begun_before : (config : Config) (memory : Word → ℕ) (set : ℕ) (word : Word) → (evac_spared memory word ≡ memory word) → ((other_memory : Word → ℕ) → evac_started other_memory word ≡ other_memory word) → with_set memory set word ≡ memory word
+begun_before : (config : Config) (memory : Word → ℕ) (set : ℕ) (word : Word) → (evac_spared memory word ≡ memory word) → ((memory_then : Word → ℕ) → evac_started memory_then word ≡ memory_then word) → with_set memory set word ≡ memory word
     → (MayChange word → ⊥) → (IsPlace config word → ⊥) → evac_begun config memory set word ≡ memory word
-begun_before config memory set word spared started same fixed other =
+begun_before config memory set word spared start_keeps set_spared fixed not_place =
     either_is (set == 0) (evac_spared memory word) (evac_started (cleared_in_turn config (with_set memory set) (naming_places config)) word) (memory word) spared
-    (started (cleared_in_turn config (with_set memory set) (naming_places config)) ∙ places_same config (naming_places config) (with_set memory set) word (are_places config) fixed other ∙ same)
+    (start_keeps (cleared_in_turn config (with_set memory set) (naming_places config)) ∙ places_same config (naming_places config) (with_set memory set) word (are_places config) fixed not_place ∙ set_spared)
 
 -- the end of marking and the beginning of evacuation leave the words before the image
 pub next_before : (config : Config) (memory : Word → ℕ) (word : Word) → is_image word ≡ false → evac_next config memory word ≡ memory word
-next_before config memory Pause other = begun_before config (final_marked config memory) (chosen config (final_marked config memory)) Pause refl (λ n. refl) refl (λ never. never) (λ never. never)
-next_before config memory Left other = begun_before config (final_marked config memory) (chosen config (final_marked config memory)) Left refl (λ n. refl) refl (λ never. never) (λ never. never)
-next_before config memory End other = begun_before config (final_marked config memory) (chosen config (final_marked config memory)) End refl (λ n. refl) refl (λ never. never) (λ never. never)
-next_before config memory (State seat) other = begun_before config (final_marked config memory) (chosen config (final_marked config memory)) (State seat) refl (λ n. refl) refl (λ never. never) (λ never. never)
-next_before config memory _ other = absurd (true≢false other)
+next_before config memory Pause not_image = begun_before config (final_marked config memory) (chosen config (final_marked config memory)) Pause refl (λ n. refl) refl (λ never. never) (λ never. never)
+next_before config memory Left not_image = begun_before config (final_marked config memory) (chosen config (final_marked config memory)) Left refl (λ n. refl) refl (λ never. never) (λ never. never)
+next_before config memory End not_image = begun_before config (final_marked config memory) (chosen config (final_marked config memory)) End refl (λ n. refl) refl (λ never. never) (λ never. never)
+next_before config memory (State seat) not_image = begun_before config (final_marked config memory) (chosen config (final_marked config memory)) (State seat) refl (λ n. refl) refl (λ never. never) (λ never. never)
+next_before config memory _ not_image = absurd (true≢false not_image)
 
 -- and the words of buffers
 pub next_current : (config : Config) (memory : Word → ℕ) (seat : ℕ) → evac_next config memory (Current seat) ≡ memory (Current seat)

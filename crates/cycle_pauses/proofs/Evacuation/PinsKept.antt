@@ -5,13 +5,13 @@ use Rattle.shen_graph.specs.declared.pin.Pinned.{Pinned}
 use Rattle.heap_world.specs.World.{Block, thing, Plot, PinStands}
 
 -- where what stands at the word stays
-pub pin_kept : (config : Config) (cset evac : ℕ) (block now : Plot) (word : ℕ) (held : Option Pinned) → ((piece : Block) → block word ≡ Some piece → now word ≡ Some piece)
-    → PinStands config cset evac block word held → PinStands config cset evac now word held
-pin_kept config cset evac block now word None stays is = is
-pin_kept config cset evac block now word (Some pinned) stays is = (is.0, is.1, is.2, record { piece = stays (thing pinned.name is.1 is.2) is.3.piece; safe = is.3.safe })
+pub pin_kept : (config : Config) (cset evac : ℕ) (block new_plot : Plot) (word : ℕ) (held : Option Pinned) → ((piece : Block) → block word ≡ Some piece → new_plot word ≡ Some piece)
+    → PinStands config cset evac block word held → PinStands config cset evac new_plot word held
+pin_kept config cset evac block new_plot word None piece_stays pin_stands = pin_stands
+pin_kept config cset evac block new_plot word (Some pinned) piece_stays pin_stands = (pin_stands.0, pin_stands.1, pin_stands.2, record { piece = piece_stays (thing pinned.name pin_stands.1 pin_stands.2) pin_stands.3.piece; safe = pin_stands.3.safe })
 
 -- and where the words are the same
-pub pin_same : (config : Config) (cset evac new_cset new_evac : ℕ) (block : Plot) (word new_word : ℕ) (held : Option Pinned) → cset ≡ new_cset → evac ≡ new_evac → word ≡ new_word
-    → PinStands config cset evac block word held → PinStands config new_cset new_evac block new_word held
-pin_same config cset evac new_cset new_evac block word new_word held set copiers here is =
-    subst (λ v. PinStands config new_cset new_evac block v held) here (subst (λ evac. PinStands config new_cset evac block word held) copiers (subst (λ cset. PinStands config cset evac block word held) set is))
+pub pin_same : (config : Config) (cset evac new_cset new_evac : ℕ) (block : Plot) (word new_word : ℕ) (pinned : Option Pinned) → cset ≡ new_cset → evac ≡ new_evac → word ≡ new_word
+    → PinStands config cset evac block word pinned → PinStands config new_cset new_evac block new_word pinned
+pin_same config cset evac new_cset new_evac block word new_word pinned same_cset copiers same_word pin_stands =
+    subst (λ pin_word. PinStands config new_cset new_evac block pin_word pinned) same_word (subst (λ evac. PinStands config new_cset evac block word pinned) copiers (subst (λ cset. PinStands config cset evac block word pinned) same_cset pin_stands))

@@ -34,21 +34,21 @@ use Rattle.cycle_pauses.proofs.Full.Sizes.{pieces_sized}
 use Rattle.cycle_pauses.proofs.Finishing.CopyingKeeps.{copying_begins, copying_keeps, left_can_be_copied, left_pinned}
 
 -- a number whose bits are all below another one is small
-few_bits : (x n : ℕ) → ((i : ℕ) → bit_at x i ≡ 1 → i < n) → x < 2 ^ n
-few_bits x n each =
+few_bits : (x n : ℕ) → ((bit_index : ℕ) → bit_at x bit_index ≡ 1 → bit_index < n) → x < 2 ^ n
+few_bits x n bits_below =
     let low : x % 2 ^ n < 2 ^ n = mod_below x (2 ^ n) (pow_pos n) in
     let split : x / 2 ^ n * 2 ^ n + x % 2 ^ n ≡ x = div-add-mod' x (2 ^ n) in
-    let same : x ≡ x % 2 ^ n = same_from_bits x (x % 2 ^ n) (λ i. ⊎_elim
-    (λ (inside : i < n). ap (λ k. bit_at k i) (sym split) ∙ bit_at_cat_low (x / 2 ^ n) n (x % 2 ^ n) i inside)
-    (λ (past : n ≤ i). ⊎_elim
-    (λ (is : bit_at x i ≡ 1). absurd (let below = each i is in omega (arith, below, past)))
-    (λ (other : bit_at x i ≢ 1).
-    let few = bit_at-lt x i in
-    let none : bit_at x i ≡ 0 = omega (arith, few, other) in
-    none ∙ sym (bit_at_above (x % 2 ^ n) n i low past))
-    (cases_eq (bit_at x i) 1))
-    (cases_lt i n)) in
-    omega (arith, same, low)
+    let same_number : x ≡ x % 2 ^ n = same_from_bits x (x % 2 ^ n) (λ bit_index. ⊎_elim
+    (λ (inside : bit_index < n). ap (λ bits. bit_at bits bit_index) (sym split) ∙ bit_at_cat_low (x / 2 ^ n) n (x % 2 ^ n) bit_index inside)
+    (λ (bit_past : n ≤ bit_index). ⊎_elim
+    (λ (bit_set : bit_at x bit_index ≡ 1). absurd (let bit_below = bits_below bit_index bit_set in omega (arith, bit_below, bit_past)))
+    (λ (bit_clear : bit_at x bit_index ≢ 1).
+    let few = bit_at-lt x bit_index in
+    let bit_zero : bit_at x bit_index ≡ 0 = omega (arith, few, bit_clear) in
+    bit_zero ∙ sym (bit_at_above (x % 2 ^ n) n bit_index low bit_past))
+    (cases_eq (bit_at x bit_index) 1))
+    (cases_lt bit_index n)) in
+    omega (arith, same_number, low)
 
 module _ (config : Config) (memory : Word → ℕ) (graph : Graph) (asking : ℕ → Asking) (represents_by_copies : RepresentsByCopies config memory graph asking) (bare : HasNoBuffers config memory) where
   some : (address : ℕ) (piece : Block) → represents_by_copies.block address ≡ Some piece → 1 ≤ words_of piece
@@ -62,43 +62,43 @@ module _ (config : Config) (memory : Word → ℕ) (graph : Graph) (asking : ℕ
   small = few_bits (memory Cset) config.regions represents_by_copies.shared.evacuated.aside.in_heap
 
   can_update : CanUpdateAll config memory
-  can_update = updates.can_update config memory represents_by_copies.block represents_by_copies.shared.parsable.plotted represents_by_copies.shared.parsable.filled some (λ address piece is stay. strides memory represents_by_copies.block sized (none_have_room config memory graph asking represents_by_copies bare) address piece is) small
+  can_update = updates.can_update config memory represents_by_copies.block represents_by_copies.shared.parsable.plotted represents_by_copies.shared.parsable.filled some (λ address piece piece_there stay. strides memory represents_by_copies.block sized (none_have_room config memory graph asking represents_by_copies bare) address piece piece_there) small
 
   -- then what has moved can be filled over, where objects of the set lie in pinned regions
-  module _ (pinned : (a refs nums : ℕ) (name : Name) → represents_by_copies.block a ≡ Some (thing name refs nums) → IsCollected config (memory Cset) a → is_pinned config memory (region_with config a) ≡ true) where
+  module _ (pinned : (thing_address refs nums : ℕ) (name : Name) → represents_by_copies.block thing_address ≡ Some (thing name refs nums) → IsCollected config (memory Cset) thing_address → is_pinned config memory (region_with config thing_address) ≡ true) where
     abbrev now : Word → ℕ
     now = all_updated config memory
 
     filled_there : (region : ℕ) → region < config.regions → 2 ≤ memory Phase → CanFill config now region
-    filled_there region inside two =
+    filled_there region inside phase_high =
         let no_room = none_have_room config memory graph asking represents_by_copies bare in
-        let again = sized_again config memory memory represents_by_copies.block represents_by_copies.ghost.owner graph asking config.region_words (copying_begins config memory graph asking represents_by_copies two) pinned no_room in
+        let sized_still = sized_again config memory memory represents_by_copies.block represents_by_copies.ghost.owner graph asking config.region_words (copying_begins config memory graph asking represents_by_copies phase_high) pinned no_room in
         record {
           within = represents_by_copies.shared.parsable.plotted.tops region inside;
-          ends = updates.end_inside config (all_updated config memory) represents_by_copies.block represents_by_copies.shared.parsable.plotted represents_by_copies.shared.parsable.filled some (λ k. Unit {0}) (λ address piece is any. strides (all_updated config memory) represents_by_copies.block again no_room address piece is) region inside tt;
+          ends = updates.end_inside config (all_updated config memory) represents_by_copies.block represents_by_copies.shared.parsable.plotted represents_by_copies.shared.parsable.filled some (λ k. Unit {0}) (λ address piece piece_there any. strides (all_updated config memory) represents_by_copies.block sized_still no_room address piece piece_there) region inside tt;
         }
 
     can_free : CanFree config now
     can_free = record {
       set = small;
-      fills = λ q inside stay.
-          let member : IsIn (memory Cset) q = in_set memory q (and_parts (is_chosen memory q) (is_pinned config memory q) stay).0 in
+      fills = λ region inside stay.
+          let member : IsIn (memory Cset) region = in_set memory region (and_parts (is_chosen memory region) (is_pinned config memory region) stay).0 in
           ⊎_elim
-          (λ (low : memory Phase < 2). absurd (none_is_in q (subst (λ set. IsIn set q) (represents_by_copies.shared.phased.cset_is low) member)))
-          (λ (two : 2 ≤ memory Phase). filled_there q inside two)
+          (λ (low : memory Phase < 2). absurd (none_is_in region (subst (λ set. IsIn set region) (represents_by_copies.shared.phased.cset_is low) member)))
+          (λ (phase_high : 2 ≤ memory Phase). filled_there region inside phase_high)
           (cases_lt (memory Phase) 2);
     }
 
 pub representing_can_finish : RepresentingCanFinish
-representing_can_finish c m g asking r seats =
-    let gone = (letting_go_keeps c m g asking seats).represents r in
-    let copied = copying_keeps c (let_go c m) g asking gone in
+representing_can_finish config memory graph asking represents seats =
+    let buffers_gone = (letting_go_keeps config memory graph asking seats).represents represents in
+    let copied = copying_keeps config (let_go config memory) graph asking buffers_gone in
     record {
-      buffers = buffers_inside c m r.block r.shared.parsable.plotted r.shared.owned.buffers;
-      copies = left_can_be_copied c (let_go c m) g asking gone;
-      updates = λ room. can_update c (all_copied c (let_go c m)) g asking copied.stands
-          (λ seat below. copied.same (Current seat) (λ never. never) ∙ letting_go_leaves c m seat below);
-      frees = λ room. can_free c (all_copied c (let_go c m)) g asking copied.stands
-          (λ seat below. copied.same (Current seat) (λ never. never) ∙ letting_go_leaves c m seat below)
-          (left_pinned c (let_go c m) g asking copied room);
+      buffers = buffers_inside config memory represents.block represents.shared.parsable.plotted represents.shared.owned.buffers;
+      copies = left_can_be_copied config (let_go config memory) graph asking buffers_gone;
+      updates = λ room. can_update config (all_copied config (let_go config memory)) graph asking copied.stands
+          (λ seat seat_below. copied.same (Current seat) (λ never. never) ∙ letting_go_leaves config memory seat seat_below);
+      frees = λ room. can_free config (all_copied config (let_go config memory)) graph asking copied.stands
+          (λ seat seat_below. copied.same (Current seat) (λ never. never) ∙ letting_go_leaves config memory seat seat_below)
+          (left_pinned config (let_go config memory) graph asking copied room);
     }

@@ -1,4 +1,5 @@
 -- What is left of the collection set is copied out, one object after the other: the words stand for the same graph meanwhile.
+use Rattle.heap_words.specs.Phases.{evacuation_phase}
 use Rattle.std.proofs.Common.{◌≡◌, ◌≢◌, ℕ, ◌+◌, ◌<◌, ◌≤◌, ◌==◌, ◌&&◌, nat_le, true, false, Option, Some, zero, suc, inl, inr, ⊎_elim, sym, ap, ◌∙◌, subst, arith}
 use Rattle.std.specs.Prelude.{not}
 use Rattle.std.specs.Int.{bit_at}
@@ -45,7 +46,7 @@ pub record IsCopying (config : Config) (first memory : Word → ℕ) (block : Pl
   pub no_promises : (address seat words : ℕ) → block address ≡ Some (promised seat words) → IsCollected config (memory Cset) address → ⊥
   pub pinned : (mutator index : ℕ) → mutator < config.mutators → index < 4 → PinStands config (first Cset) (first Evac) block (first (Pin mutator index)) (graph.pin (mutator + 1) index)
   pub swept : (address refs nums : ℕ) (name : Name) → block address ≡ Some (thing name refs nums) → IsCollected config (memory Cset) address → is_pinned config first (region_with config address) ≡ false → passed ≤ address
-  pub units : memory Phase ≡ 2 → (region : ℕ) → region < memory Claim → IsIn (memory Cset) region → IsSweptTo config (memory Evac) block region (base_of config (region + 1))
+  pub units : memory Phase ≡ evacuation_phase → (region : ℕ) → region < memory Claim → IsIn (memory Cset) region → IsSweptTo config (memory Evac) block region (base_of config (region + 1))
 
 -- what is left at an address
 record IsLeft (config : Config) (memory : Word → ℕ) (address : ℕ) : Type 0 where
@@ -56,86 +57,86 @@ record IsLeft (config : Config) (memory : Word → ℕ) (address : ℕ) : Type 0
   plain : is_forwarded (memory (Heap address)) ≡ false
 
 left_parts : (config : Config) (memory : Word → ℕ) (address : ℕ) → is_left config memory address ≡ true → IsLeft config memory address
-left_parts config memory address is =
-    let three = and_parts (is_collected config memory address && not (is_pinned config memory (region_with config address)) && is_black config memory address) (not (is_forwarded (memory (Heap address)))) is in
-    let two = and_parts (is_collected config memory address && not (is_pinned config memory (region_with config address))) (is_black config memory address) three.0 in
-    let one = and_parts (is_collected config memory address) (not (is_pinned config memory (region_with config address))) two.0 in
-    let collected = and_parts (nat_le config.region_words address) (bit_at (memory Cset) (region_with config address) == 1) one.0 in
-    let black = and_parts (nat_le config.region_words address) (bit_at (memory (Black (mark_word config address))) (mark_bit config address) == 1) two.1 in
+left_parts config memory address left_told =
+    let outer_parts = and_parts (is_collected config memory address && not (is_pinned config memory (region_with config address)) && is_black config memory address) (not (is_forwarded (memory (Heap address)))) left_told in
+    let middle_parts = and_parts (is_collected config memory address && not (is_pinned config memory (region_with config address))) (is_black config memory address) outer_parts.0 in
+    let inner_parts = and_parts (is_collected config memory address) (not (is_pinned config memory (region_with config address))) middle_parts.0 in
+    let collected = and_parts (nat_le config.region_words address) (bit_at (memory Cset) (region_with config address) == 1) inner_parts.0 in
+    let black = and_parts (nat_le config.region_words address) (bit_at (memory (Black (mark_word config address))) (mark_bit config address) == 1) middle_parts.1 in
     record {
       above = leb-true config.region_words address collected.0;
       inside = eqb-true (bit_at (memory Cset) (region_with config address)) 1 collected.1;
-      unpinned = not-true (is_pinned config memory (region_with config address)) one.1;
+      unpinned = not-true (is_pinned config memory (region_with config address)) inner_parts.1;
       mark = eqb-true (bit_at (memory (Black (mark_word config address))) (mark_bit config address)) 1 black.1;
-      plain = not-true (is_forwarded (memory (Heap address))) three.1;
+      plain = not-true (is_forwarded (memory (Heap address))) outer_parts.1;
     }
 
 is_left_from : (config : Config) (memory : Word → ℕ) (address : ℕ) → config.region_words ≤ address → IsCollected config (memory Cset) address → is_pinned config memory (region_with config address) ≡ false → HasMark config (λ number. memory (Black number)) address
     → is_forwarded (memory (Heap address)) ≡ false → is_left config memory address ≡ true
-is_left_from config memory address above inside unpinned mark plain =
+is_left_from config memory address address_high inside unpinned mark plain =
     and_from (is_collected config memory address && not (is_pinned config memory (region_with config address)) && is_black config memory address) (not (is_forwarded (memory (Heap address))))
     (and_from (is_collected config memory address && not (is_pinned config memory (region_with config address))) (is_black config memory address)
     (and_from (is_collected config memory address) (not (is_pinned config memory (region_with config address)))
-    (and_from (nat_le config.region_words address) (bit_at (memory Cset) (region_with config address) == 1) (le-leb config.region_words address above) (eq-eqb (bit_at (memory Cset) (region_with config address)) 1 inside))
+    (and_from (nat_le config.region_words address) (bit_at (memory Cset) (region_with config address) == 1) (le-leb config.region_words address address_high) (eq-eqb (bit_at (memory Cset) (region_with config address)) 1 inside))
     (not_from_false (is_pinned config memory (region_with config address)) unpinned))
-    (and_from (nat_le config.region_words address) (bit_at (memory (Black (mark_word config address))) (mark_bit config address) == 1) (le-leb config.region_words address above) (eq-eqb (bit_at (memory (Black (mark_word config address))) (mark_bit config address)) 1 mark)))
+    (and_from (nat_le config.region_words address) (bit_at (memory (Black (mark_word config address))) (mark_bit config address) == 1) (le-leb config.region_words address address_high) (eq-eqb (bit_at (memory (Black (mark_word config address))) (mark_bit config address)) 1 mark)))
     (not_from_false (is_forwarded (memory (Heap address))) plain)
 
 module _ (config : Config) (memory : Word → ℕ) (block : Plot) (owner : ℕ → Option ℕ) (graph : Graph) (between : AreBetween config memory block owner graph) where
   -- an object of the set is marked
   pub thing_marked : (address refs nums : ℕ) (name : Name) → block address ≡ Some (thing name refs nums) → IsCollected config (memory Cset) address → HasMark config (λ number. memory (Black number)) address
-  thing_marked address refs nums name is inside = ⊎_elim
+  thing_marked address refs nums name thing_there inside = ⊎_elim
       (λ (mark : HasMark config (λ number. memory (Black number)) address). mark)
       (λ (young : IsYoung config (λ region. memory (Tams region)) address).
-      let at = below_top config (λ region. memory (Top region)) block between.parsable.plotted address (thing name refs nums) is (omega arith) in
+      let top_above = below_top config (λ region. memory (Top region)) block between.parsable.plotted address (thing name refs nums) thing_there (omega arith) in
       let old = between.no_new (region_with config address) inside in
-      absurd (omega (arith, young, at.2, old)))
-      (between.marked address (IsMarkable.object name refs nums is))
+      absurd (omega (arith, young, top_above.2, old)))
+      (between.marked address (IsMarkable.object name refs nums thing_there))
 
   -- where something is marked in the set a piece is
   pub piece_marked : (address : ℕ) → config.region_words ≤ address → HasMark config (λ number. memory (Black number)) address → IsCollected config (memory Cset) address → (piece : Block) × (block address ≡ Some piece)
-  piece_marked address above mark inside = ⊎_elim of_markable of_copy (between.only address above mark inside)
+  piece_marked address address_high mark inside = ⊎_elim of_markable of_copy (between.only address address_high mark inside)
     where
-      of_markable : IsMarkable block address → (z : Block) × (block address ≡ Some z)
-      of_markable (IsMarkable.object name refs nums is) = (thing name refs nums, is)
-      of_markable (IsMarkable.to_come seat words is) = (promised seat words, is)
+      of_markable : IsMarkable block address → (found_piece : Block) × (block address ≡ Some found_piece)
+      of_markable (IsMarkable.object name refs nums piece_there) = (thing name refs nums, piece_there)
+      of_markable (IsMarkable.to_come seat words piece_there) = (promised seat words, piece_there)
 
-      of_copy : HasCopy block address → (z : Block) × (block address ≡ Some z)
-      of_copy (HasCopy.copy body is) = let piece = body_piece (block address) body is in (piece.0, piece.1)
-      of_copy (HasCopy.spent_copy words to is) = (spent words to, is)
+      of_copy : HasCopy block address → (found_piece : Block) × (block address ≡ Some found_piece)
+      of_copy (HasCopy.copy body piece_there) = let piece = body_piece (block address) body piece_there in (piece.0, piece.1)
+      of_copy (HasCopy.spent_copy words target piece_there) = (spent words target, piece_there)
 
   -- an object has a plain header, and as many words as its shape word says
   pub thing_words : (address refs nums : ℕ) (name : Name) → block address ≡ Some (thing name refs nums) → (memory (Heap address) ≡ plain_header) × (words_at memory address ≡ 3 + refs + nums)
-  thing_words address refs nums name is =
-      let o = between.contents.objects.each address refs nums name is in
-      let few_refs = o.2.few_refs in
-      let few_nums = o.2.few_nums in
-      (o.2.header, ap object_words o.2.shape ∙ omega (arith, few_refs, few_nums))
+  thing_words address refs nums name thing_there =
+      let graph_object = between.contents.objects.each address refs nums name thing_there in
+      let few_refs = graph_object.2.few_refs in
+      let few_nums = graph_object.2.few_nums in
+      (graph_object.2.header, ap object_words graph_object.2.shape ∙ omega (arith, few_refs, few_nums))
 
-module _ (config : Config) (first memory : Word → ℕ) (block : Plot) (owner : ℕ → Option ℕ) (graph : Graph) (asking : ℕ → Asking) (address : ℕ) (copying : IsCopying config first memory block owner graph asking address) where
-  pins_same : (mutator index : ℕ) → memory (Pin mutator index) ≡ first (Pin mutator index)
+module _ (config : Config) (first_memory memory : Word → ℕ) (block : Plot) (owner : ℕ → Option ℕ) (graph : Graph) (asking : ℕ → Asking) (address : ℕ) (copying : IsCopying config first_memory memory block owner graph asking address) where
+  pins_same : (mutator index : ℕ) → memory (Pin mutator index) ≡ first_memory (Pin mutator index)
   pins_same mutator index = copying.same (Pin mutator index) (λ never. never)
 
   -- What is left at the address is an object.
-  module _ (left : is_left config memory address ≡ true) where
+  module _ (object_left : is_left config memory address ≡ true) where
     is : IsLeft config memory address
-    is = left_parts config memory address left
+    is = left_parts config memory address object_left
 
     here : (name : Name) × (refs : ℕ) × (nums : ℕ) × (block address ≡ Some (thing name refs nums))
     here = ⊎_elim of_markable of_copy (copying.between.only address is.above is.mark is.inside)
       where
         of_markable : IsMarkable block address → (name : Name) × (refs : ℕ) × (nums : ℕ) × (block address ≡ Some (thing name refs nums))
-        of_markable (IsMarkable.object name refs nums there) = (name, refs, nums, there)
-        of_markable (IsMarkable.to_come seat words there) = absurd (copying.no_promises address seat words there is.inside)
+        of_markable (IsMarkable.object name refs nums piece_there) = (name, refs, nums, piece_there)
+        of_markable (IsMarkable.to_come seat words piece_there) = absurd (copying.no_promises address seat words piece_there is.inside)
 
         of_copy : HasCopy block address → (name : Name) × (refs : ℕ) × (nums : ℕ) × (block address ≡ Some (thing name refs nums))
-        of_copy (HasCopy.copy body there) = ⊎_elim
-            (λ (now : block address ≡ Some (thing body.name body.refs body.nums)). (body.name, body.refs, body.nums, now))
-            (λ (old : (to : ℕ) × (block address ≡ Some (moved body.name body.refs body.nums to))).
+        of_copy (HasCopy.copy body piece_there) = ⊎_elim
+            (λ (now_thing : block address ≡ Some (thing body.name body.refs body.nums)). (body.name, body.refs, body.nums, now_thing))
+            (λ (old : (target : ℕ) × (block address ≡ Some (moved body.name body.refs body.nums target))).
             absurd (true≢false (sym (led_is_forwarded (memory (Heap address)) old.0 (copying.between.moves.moveds address body.refs body.nums old.0 body.name old.1).header) ∙ is.plain)))
-            (copy_cases (block address) body there)
-        of_copy (HasCopy.spent_copy words to there) =
-            absurd (true≢false (sym (led_is_forwarded (memory (Heap address)) to (copying.between.moves.spents address words to there).header) ∙ is.plain))
+            (copy_cases (block address) body piece_there)
+        of_copy (HasCopy.spent_copy words target piece_there) =
+            absurd (true≢false (sym (led_is_forwarded (memory (Heap address)) target (copying.between.moves.spents address words target piece_there).header) ∙ is.plain))
 
     abbrev x : Block
     x = thing here.0 here.1 here.2
@@ -145,15 +146,15 @@ module _ (config : Config) (first memory : Word → ℕ) (block : Plot) (owner :
 
     pub can_copy_out : CanCopyOut config memory address
     can_copy_out =
-        let at = below_top config (λ region. memory (Top region)) block copying.between.parsable.plotted address x here.3 (omega arith) in
-        let most = copying.between.parsable.plotted.tops (region_with config address) at.0 in
-        let long = config.in_range.least_words in
-        let again = from_base config.region_words address (omega (arith, long)) is.above in
+        let top_above = below_top config (λ region. memory (Top region)) block copying.between.parsable.plotted address x here.3 (omega arith) in
+        let top_low = copying.between.parsable.plotted.tops (region_with config address) top_above.0 in
+        let enough_words = config.in_range.least_words in
+        let base_again = from_base config.region_words address (omega (arith, enough_words)) is.above in
         record {
           above = is.above;
-          of_region = at.0;
+          of_region = top_above.0;
           in_set = is.inside;
-          lies = omega (arith, again, at.2, most, words_are.1);
+          lies = omega (arith, base_again, top_above.2, top_low, words_are.1);
           tops = copying.between.parsable.plotted.tops;
         }
 
@@ -161,7 +162,7 @@ module _ (config : Config) (first memory : Word → ℕ) (block : Plot) (owner :
       copies : IsCopiedOut config memory (copied_out config memory address) address
       copies = copies_out config memory address is.above is.inside (room_found config memory address room)
 
-      at : (to : ℕ) × (plot : Plot) × HasCopied config memory (copied_out config memory address) block plot owner graph address to x
+      at : (copy_address : ℕ) × (plot : Plot) × HasCopied config memory (copied_out config memory address) block plot owner graph address copy_address x
       at = copied_out_of config memory block owner graph copying.between address x here.3 tt is.inside words_are.0 words_are.1 copies
 
       abbrev memory_then : Word → ℕ
@@ -170,136 +171,136 @@ module _ (config : Config) (first memory : Word → ℕ) (block : Plot) (owner :
       abbrev plot : Plot
       plot = at.1
 
-      no_promise : (seat p words : ℕ) → block p ≡ Some (promised seat words) → p ≢ address
-      no_promise seat p words promise same =
-          let both : thing here.0 here.1 here.2 ≡ promised seat words = same_Some x (promised seat words) (sym here.3 ∙ ap block (sym same) ∙ promise) in cc
+      no_promise : (seat promise_address words : ℕ) → block promise_address ≡ Some (promised seat words) → promise_address ≢ address
+      no_promise seat promise_address words promise same_address =
+          let both_pieces : thing here.0 here.1 here.2 ≡ promised seat words = same_Some x (promised seat words) (sym here.3 ∙ ap block (sym same_address) ∙ promise) in cc
 
-      promise_was : (p seat words : ℕ) → plot p ≡ Some (promised seat words) → block p ≡ Some (promised seat words)
-      promise_was p seat words promise = ⊎_elim
-          (λ (new : (p ≡ at.0) × (x ≡ promised seat words)). let differ = new.1 in cc)
-          (λ (stood : (p ≢ address) × (block p ≡ Some (promised seat words))). stood.1)
-          (at.2.promises p seat words promise)
+      promise_was : (promise_address seat words : ℕ) → plot promise_address ≡ Some (promised seat words) → block promise_address ≡ Some (promised seat words)
+      promise_was promise_address seat words promise = ⊎_elim
+          (λ (new : (promise_address ≡ at.0) × (x ≡ promised seat words)). let differ = new.1 in cc)
+          (λ (stood : (promise_address ≢ address) × (block promise_address ≡ Some (promised seat words))). stood.1)
+          (at.2.promises promise_address seat words promise)
 
       set_same : memory_then Cset ≡ memory Cset
       set_same = at.2.same Cset (λ never. never)
 
       -- an object of the set stood there, and is another one
-      thing_was : (p refs nums : ℕ) (name : Name) → plot p ≡ Some (thing name refs nums) → IsCollected config (memory_then Cset) p → (p ≢ address) × (block p ≡ Some (thing name refs nums))
-      thing_was p refs nums name there inside =
-          let now = at.2.between in
-          let mark = thing_marked config memory_then plot owner graph now p refs nums name there inside in
-          let above = piece_inside config (λ region. memory_then (Top region)) plot now.parsable.plotted p (thing name refs nums) there in
-          let was_mark : HasMark config (λ number. memory (Black number)) p = sym (ap (λ k. bit_at k (mark_bit config p)) (at.2.same (Black (mark_word config p)) (λ never. never))) ∙ mark in
-          let piece = piece_marked config memory block owner graph copying.between p above.0 was_mark (subst (λ set. IsCollected config set p) set_same inside) in
-          let other : p ≢ address = λ same. true≢false (sym (led_is_forwarded (memory_then (Heap p)) at.0 (ap (λ address. memory_then (Heap address)) same ∙ at.2.header))
-          ∙ plain_is_plain (memory_then (Heap p)) (thing_words config memory_then plot owner graph now p refs nums name there).0) in
-          (other, piece.1 ∙ sym (at.2.stays p piece.0 other piece.1) ∙ there)
+      thing_was : (thing_address refs nums : ℕ) (name : Name) → plot thing_address ≡ Some (thing name refs nums) → IsCollected config (memory_then Cset) thing_address → (thing_address ≢ address) × (block thing_address ≡ Some (thing name refs nums))
+      thing_was thing_address refs nums name thing_there inside =
+          let between_now = at.2.between in
+          let mark = thing_marked config memory_then plot owner graph between_now thing_address refs nums name thing_there inside in
+          let lies_inside = piece_inside config (λ region. memory_then (Top region)) plot between_now.parsable.plotted thing_address (thing name refs nums) thing_there in
+          let was_mark : HasMark config (λ number. memory (Black number)) thing_address = sym (ap (λ marks. bit_at marks (mark_bit config thing_address)) (at.2.same (Black (mark_word config thing_address)) (λ never. never))) ∙ mark in
+          let piece = piece_marked config memory block owner graph copying.between thing_address lies_inside.0 was_mark (subst (λ set. IsCollected config set thing_address) set_same inside) in
+          let address_differs : thing_address ≢ address = λ same_address. true≢false (sym (led_is_forwarded (memory_then (Heap thing_address)) at.0 (ap (λ address. memory_then (Heap address)) same_address ∙ at.2.header))
+          ∙ plain_is_plain (memory_then (Heap thing_address)) (thing_words config memory_then plot owner graph between_now thing_address refs nums name thing_there).0) in
+          (address_differs, piece.1 ∙ sym (at.2.stays thing_address piece.0 address_differs piece.1) ∙ thing_there)
 
       -- no slot holds what is left, so what slots hold stays
-      pins_stay_here : (mutator index : ℕ) → mutator < config.mutators → index < 4 → PinStands config (first Cset) (first Evac) plot (first (Pin mutator index)) (graph.pin (mutator + 1) index)
-      pins_stay_here mutator index inside below =
-          let other : first (Pin mutator index) ≢ address = λ same. unpinned_there config memory address is.above is.unpinned mutator index inside below (pins_same mutator index ∙ same) in
-          pin_kept config (first Cset) (first Evac) block plot (first (Pin mutator index)) (graph.pin (mutator + 1) index) (λ z is_there. at.2.stays (first (Pin mutator index)) z other is_there) (copying.pinned mutator index inside below)
+      pins_stay_here : (mutator index : ℕ) → mutator < config.mutators → index < 4 → PinStands config (first_memory Cset) (first_memory Evac) plot (first_memory (Pin mutator index)) (graph.pin (mutator + 1) index)
+      pins_stay_here mutator index inside index_low =
+          let address_differs : first_memory (Pin mutator index) ≢ address = λ same_address. unpinned_there config memory address is.above is.unpinned mutator index inside index_low (pins_same mutator index ∙ same_address) in
+          pin_kept config (first_memory Cset) (first_memory Evac) block plot (first_memory (Pin mutator index)) (graph.pin (mutator + 1) index) (λ piece is_there. at.2.stays (first_memory (Pin mutator index)) piece address_differs is_there) (copying.pinned mutator index inside index_low)
 
       -- so a unit that was swept is swept still
       swept_still : (region : ℕ) → IsIn (memory Cset) region → IsSweptTo config (memory Evac) block region (base_of config (region + 1)) → IsSweptTo config (memory_then Evac) plot region (base_of config (region + 1))
-      swept_still region member (inl full) = inl (ap is_out_of_room (at.2.same Evac (λ never. never)) ∙ full)
-      swept_still r member (inr none) = inr (λ p refs nums name from before there.
-          let region : region_with config p ≡ r = regions_tile.of_no_other config r p (record { from = from; before = omega (arith, before) }) in
-          let inside : IsIn (memory_then Cset) r = subst (λ set. IsIn set r) (sym set_same) member in
-          none p refs nums name from before (thing_was p refs nums name there (subst (IsIn (memory_then Cset)) (sym region) inside)).1)
+      swept_still region member (inl swept_full) = inl (ap is_out_of_room (at.2.same Evac (λ never. never)) ∙ swept_full)
+      swept_still given_region member (inr none_left) = inr (λ asked_address refs nums name from before thing_there.
+          let region : region_with config asked_address ≡ given_region = regions_tile.of_no_other config given_region asked_address (record { from = from; before = omega (arith, before) }) in
+          let inside : IsIn (memory_then Cset) given_region = subst (λ set. IsIn set given_region) (sym set_same) member in
+          none_left asked_address refs nums name from before (thing_was asked_address refs nums name thing_there (subst (IsIn (memory_then Cset)) (sym region) inside)).1)
 
-      pub one_copied : (new_plot : Plot) × IsCopying config first (copied_out config memory address) new_plot owner graph asking (address + 1)
+      pub one_copied : (new_plot : Plot) × IsCopying config first_memory (copied_out config memory address) new_plot owner graph asking (address + 1)
       one_copied = (
         plot,
         record {
           between = at.2.between;
-          roots = λ t i inside few.
-              subst (λ v. Points plot v (graph.root (t + 1) i)) (sym (at.2.same (Root t i) (λ never. never)))
-              (points_stay block plot at.2.names (memory (Root t i)) (graph.root (t + 1) i) (copying.roots t i inside few));
-          asked = λ t inside.
-              asked_stays memory memory_then block plot graph.count t (at.2.same (Wait t) (λ never. never)) (at.2.same (Answer t) (λ never. never))
-              (λ p words k promise below. at.2.kept p k (promised t words) (no_promise t p words promise) promise below)
-              (λ p words promise. at.2.stays p (promised t words) (no_promise t p words promise) promise)
-              (λ p words promise. promise_was p t words promise)
-              (asking t) (copying.asked t inside);
+          roots = λ mutator index inside few.
+              subst (λ root_word. Points plot root_word (graph.root (mutator + 1) index)) (sym (at.2.same (Root mutator index) (λ never. never)))
+              (points_stay block plot at.2.names (memory (Root mutator index)) (graph.root (mutator + 1) index) (copying.roots mutator index inside few));
+          asked = λ mutator inside.
+              asked_stays memory memory_then block plot graph.count mutator (at.2.same (Wait mutator) (λ never. never)) (at.2.same (Answer mutator) (λ never. never))
+              (λ place words offset promise below. at.2.kept place offset (promised mutator words) (no_promise mutator place words promise) promise below)
+              (λ place words promise. at.2.stays place (promised mutator words) (no_promise mutator place words promise) promise)
+              (λ place words promise. promise_was place mutator words promise)
+              (asking mutator) (copying.asked mutator inside);
           same = λ word fixed. at.2.same word fixed ∙ copying.same word fixed;
           no_promises = λ address seat words promise inside. copying.no_promises address seat words (promise_was address seat words promise) (subst (λ set. IsCollected config set address) set_same inside);
           pinned = pins_stay_here;
-          swept = λ p refs nums name there inside unpinned.
-              let was = thing_was p refs nums name there inside in
-              let least = copying.swept p refs nums name was.1 (subst (λ set. IsCollected config set p) set_same inside) unpinned in
-              omega (arith, least, was.0);
-          units = λ on r below member.
-              let was : IsIn (memory Cset) r = subst (λ set. IsIn set r) set_same member in
+          swept = λ place refs nums name thing_there inside unpinned.
+              let was = thing_was place refs nums name thing_there inside in
+              let still_ahead = copying.swept place refs nums name was.1 (subst (λ set. IsCollected config set place) set_same inside) unpinned in
+              omega (arith, still_ahead, was.0);
+          units = λ evacuating region below member.
+              let was : IsIn (memory Cset) region = subst (λ set. IsIn set region) set_same member in
               let claim = at.2.same Claim (λ never. never) in
-              swept_still r was (copying.units (sym (at.2.same Phase (λ never. never)) ∙ on) r (omega (arith, below, claim)) was);
+              swept_still region was (copying.units (sym (at.2.same Phase (λ never. never)) ∙ evacuating) region (omega (arith, below, claim)) was);
         },
       )
 
   -- Where nothing is left at the address, it is passed.
-  pub one_passed : is_left config memory address ≡ false → IsCopying config first memory block owner graph asking (address + 1)
-  one_passed none = record {
+  pub one_passed : is_left config memory address ≡ false → IsCopying config first_memory memory block owner graph asking (address + 1)
+  one_passed none_left = record {
     between = copying.between;
     roots = copying.roots;
     asked = copying.asked;
     same = copying.same;
     no_promises = copying.no_promises;
     pinned = copying.pinned;
-    swept = λ p refs nums name there inside unpinned.
-        let least = copying.swept p refs nums name there inside unpinned in
+    swept = λ object_address refs nums name thing_there inside unpinned.
+        let still_ahead = copying.swept object_address refs nums name thing_there inside unpinned in
         ⊎_elim
-        (λ (same : p ≡ address).
-        let above = piece_inside config (λ region. memory (Top region)) block copying.between.parsable.plotted p (thing name refs nums) there in
-        let left = is_left_from config memory p above.0 inside (same_pinned config first memory pins_same (region_with config p) ∙ unpinned) (thing_marked config memory block owner graph copying.between p refs nums name there inside)
-        (plain_is_plain (memory (Heap p)) (thing_words config memory block owner graph copying.between p refs nums name there).0) in
-        absurd (true≢false (sym left ∙ ap (is_left config memory) same ∙ none)))
-        (λ (other : p ≢ address). omega (arith, least, other))
-        (cases_eq p address);
+        (λ (same_address : object_address ≡ address).
+        let lies_inside = piece_inside config (λ region. memory (Top region)) block copying.between.parsable.plotted object_address (thing name refs nums) thing_there in
+        let object_left = is_left_from config memory object_address lies_inside.0 inside (same_pinned config first_memory memory pins_same (region_with config object_address) ∙ unpinned) (thing_marked config memory block owner graph copying.between object_address refs nums name thing_there inside)
+        (plain_is_plain (memory (Heap object_address)) (thing_words config memory block owner graph copying.between object_address refs nums name thing_there).0) in
+        absurd (true≢false (sym object_left ∙ ap (is_left config memory) same_address ∙ none_left)))
+        (λ (address_differs : object_address ≢ address). omega (arith, still_ahead, address_differs))
+        (cases_eq object_address address);
     units = copying.units;
   }
 
 -- After so many addresses, or up to the first object without room.
-pub all_passed : (config : Config) (first : Word → ℕ) (owner : ℕ → Option ℕ) (graph : Graph) (asking : ℕ → Asking) (addresses : ℕ) (memory : Word → ℕ) (block : Plot) (address : ℕ)
-    → IsCopying config first memory block owner graph asking address
-    → (plot : Plot) × (passed : ℕ) × IsCopying config first (copied_from config memory address addresses) plot owner graph asking passed × (is_room_from config memory address addresses ≡ true → passed ≡ address + addresses)
-all_passed config first owner graph asking zero memory block address copying =
-    (block, address, subst (λ memory. IsCopying config first memory block owner graph asking address) (sym (copied_none config memory address zero)) copying, λ room. omega arith)
-all_passed config first owner graph asking (suc addresses) memory block address copying = ⊎_elim
-    (λ (left : is_left config memory address ≡ true). ⊎_elim
+pub all_passed : (config : Config) (first_memory : Word → ℕ) (owner : ℕ → Option ℕ) (graph : Graph) (asking : ℕ → Asking) (addresses : ℕ) (memory : Word → ℕ) (block : Plot) (address : ℕ)
+    → IsCopying config first_memory memory block owner graph asking address
+    → (plot : Plot) × (passed : ℕ) × IsCopying config first_memory (copied_from config memory address addresses) plot owner graph asking passed × (is_room_from config memory address addresses ≡ true → passed ≡ address + addresses)
+all_passed config first_memory owner graph asking zero memory block address copying =
+    (block, address, subst (λ memory. IsCopying config first_memory memory block owner graph asking address) (sym (copied_none config memory address zero)) copying, λ room. omega arith)
+all_passed config first_memory owner graph asking (suc addresses) memory block address copying = ⊎_elim
+    (λ (object_left : is_left config memory address ≡ true). ⊎_elim
     (λ (room : has_copy_room config memory address ≡ true).
-    let one = one_copied config first memory block owner graph asking address copying left room in
-    let rest = all_passed config first owner graph asking addresses (copied_out config memory address) one.0 (address + 1) one.1 in (
+    let one_out = one_copied config first_memory memory block owner graph asking address copying object_left room in
+    let rest = all_passed config first_memory owner graph asking addresses (copied_out config memory address) one_out.0 (address + 1) one_out.1 in (
       rest.0,
       rest.1,
-      subst (λ memory. IsCopying config first memory rest.0 owner graph asking rest.1) (sym (copied_next config memory address addresses left room)) rest.2,
-      λ all. let end = rest.3 (room_if config memory address addresses left all).1 in omega (arith, end),
+      subst (λ memory. IsCopying config first_memory memory rest.0 owner graph asking rest.1) (sym (copied_next config memory address addresses object_left room)) rest.2,
+      λ all_room. let end = rest.3 (room_if config memory address addresses object_left all_room).1 in omega (arith, end),
     ))
-    (λ (full : has_copy_room config memory address ≡ false). (
+    (λ (no_room : has_copy_room config memory address ≡ false). (
       block,
       address,
-      subst (λ memory. IsCopying config first memory block owner graph asking address) (sym (copied_stuck config memory address addresses left full)) copying,
-      λ all. absurd (true≢false (sym (room_if config memory address addresses left all).0 ∙ full)),
+      subst (λ memory. IsCopying config first_memory memory block owner graph asking address) (sym (copied_stuck config memory address addresses object_left no_room)) copying,
+      λ all_room. absurd (true≢false (sym (room_if config memory address addresses object_left all_room).0 ∙ no_room)),
     ))
     (cases_Bool (has_copy_room config memory address)))
-    (λ (none : is_left config memory address ≡ false).
-    let rest = all_passed config first owner graph asking addresses memory block (address + 1) (one_passed config first memory block owner graph asking address copying none) in (
+    (λ (not_left : is_left config memory address ≡ false).
+    let rest = all_passed config first_memory owner graph asking addresses memory block (address + 1) (one_passed config first_memory memory block owner graph asking address copying not_left) in (
       rest.0,
       rest.1,
-      subst (λ memory. IsCopying config first memory rest.0 owner graph asking rest.1) (sym (copied_skips config memory address addresses none)) rest.2,
-      λ all. let end = rest.3 (room_skips config memory address addresses none all) in omega (arith, end),
+      subst (λ memory. IsCopying config first_memory memory rest.0 owner graph asking rest.1) (sym (copied_skips config memory address addresses not_left)) rest.2,
+      λ all_room. let end = rest.3 (room_skips config memory address addresses not_left all_room) in omega (arith, end),
     ))
     (cases_Bool (is_left config memory address))
 
 -- and each of them can be copied out at its turn
-pub can_copy_from : (config : Config) (first : Word → ℕ) (owner : ℕ → Option ℕ) (graph : Graph) (asking : ℕ → Asking) (addresses : ℕ) (memory : Word → ℕ) (block : Plot) (address : ℕ)
-    → IsCopying config first memory block owner graph asking address → CanCopyFrom config memory address addresses
+pub can_copy_from : (config : Config) (first_memory : Word → ℕ) (owner : ℕ → Option ℕ) (graph : Graph) (asking : ℕ → Asking) (addresses : ℕ) (memory : Word → ℕ) (block : Plot) (address : ℕ)
+    → IsCopying config first_memory memory block owner graph asking address → CanCopyFrom config memory address addresses
 unfolding CanCopyFrom
-can_copy_from config first owner graph asking zero memory block address copying = tt
-can_copy_from config first owner graph asking (suc addresses) memory block address copying = (
-  λ left. (
-    can_copy_out config first memory block owner graph asking address copying left,
-    λ room. let one = one_copied config first memory block owner graph asking address copying left room in can_copy_from config first owner graph asking addresses (copied_out config memory address) one.0 (address + 1) one.1,
+can_copy_from config first_memory owner graph asking zero memory block address copying = tt
+can_copy_from config first_memory owner graph asking (suc addresses) memory block address copying = (
+  λ object_left. (
+    can_copy_out config first_memory memory block owner graph asking address copying object_left,
+    λ room. let one_out = one_copied config first_memory memory block owner graph asking address copying object_left room in can_copy_from config first_memory owner graph asking addresses (copied_out config memory address) one_out.0 (address + 1) one_out.1,
   ),
-  λ none. can_copy_from config first owner graph asking addresses memory block (address + 1) (one_passed config first memory block owner graph asking address copying none),
+  λ not_left. can_copy_from config first_memory owner graph asking addresses memory block (address + 1) (one_passed config first_memory memory block owner graph asking address copying not_left),
 )

@@ -1,4 +1,5 @@
 -- Words that represent a graph do so by copies once all that is left in the collection set was copied out, or what found room.
+use Rattle.heap_words.specs.Phases.{evacuation_phase, updating_phase}
 use Rattle.std.proofs.Common.{◌≡◌, ◌≢◌, ℕ, ◌+◌, ◌*◌, ◌≤◌, ◌==◌, ◌⊎◌, Bool, true, false, Some, inl, inr, ⊎_elim, refl, sym, ap, ◌∙◌, subst, arith}
 use Rattle.std.specs.Int.{bit_at}
 use Rattle.std.proofs.Math.Path.{fun_ext}
@@ -31,7 +32,7 @@ record StandsByCopies (config : Config) (memory after : Word → ℕ) (room : Bo
   same : (word : Word) → (MayChange word → ⊥) → after word ≡ memory word
 
 -- Words that represent a graph by copies, in phases 2 and 3, are as before the first object is copied.
-module _ (config : Config) (memory : Word → ℕ) (graph : Graph) (asking : ℕ → Asking) (represents_by_copies : RepresentsByCopies config memory graph asking) (two : 2 ≤ memory Phase) where
+module _ (config : Config) (memory : Word → ℕ) (graph : Graph) (asking : ℕ → Asking) (represents_by_copies : RepresentsByCopies config memory graph asking) (phase_high : 2 ≤ memory Phase) where
   abbrev evacuated : IsEvacuating config (memory Phase) (memory Cset) (memory Evac) (memory Claim) (memory Free) (λ region. memory (Top region)) (λ region. memory (Tams region)) (λ address. memory (Heap address)) (λ number. memory (Black number)) represents_by_copies.block represents_by_copies.ghost.owner represents_by_copies.ghost.copying represents_by_copies.ghost.working
   evacuated = represents_by_copies.shared.evacuated
 
@@ -56,27 +57,27 @@ module _ (config : Config) (memory : Word → ℕ) (graph : Graph) (asking : ℕ
       used = evacuated.aside.in_use;
       nobodys = evacuated.aside.nobodys;
       no_new = evacuated.aside.no_new;
-      marked = (evacuated.kept two).objects;
-      young = (evacuated.kept two).young;
-      floors = (evacuated.kept two).floors;
-      unmarked = (evacuated.kept two).unmarked;
-      deads = (evacuated.kept two).deads;
-      only = λ a above mark inside. inr ((evacuated.kept two).only a above mark inside);
+      marked = (evacuated.kept phase_high).objects;
+      young = (evacuated.kept phase_high).young;
+      floors = (evacuated.kept phase_high).floors;
+      unmarked = (evacuated.kept phase_high).unmarked;
+      deads = (evacuated.kept phase_high).deads;
+      only = λ address address_high mark inside. inr ((evacuated.kept phase_high).only address address_high mark inside);
     };
     roots = represents_by_copies.roots;
     asked = represents_by_copies.asked;
     same = λ word fixed. refl;
     no_promises = evacuated.aside.no_promises;
     pinned = represents_by_copies.shared.pinned;
-    swept = λ a refs nums name is member unpinned. (piece_inside config (λ region. memory (Top region)) represents_by_copies.block represents_by_copies.shared.parsable.plotted a (thing name refs nums) is).0;
-    units = λ on region below member. swept_of region (evacuated.units on region below member);
+    swept = λ address refs nums name thing_there member unpinned. (piece_inside config (λ region. memory (Top region)) represents_by_copies.block represents_by_copies.shared.parsable.plotted address (thing name refs nums) thing_there).0;
+    units = λ evacuating region region_below member. swept_of region (evacuated.units evacuating region region_below member);
   }
 
 module _ (config : Config) (memory : Word → ℕ) (graph : Graph) (asking : ℕ → Asking) (represents : Represents config memory graph asking) where
   -- While objects are evacuated, what is left is copied.
-  module _ (on : memory Phase ≡ 2) where
+  module _ (evacuating : memory Phase ≡ evacuation_phase) where
     begins : IsCopying config memory memory represents.block represents.ghost.owner graph asking config.region_words
-    begins = copying_begins config memory graph asking (by_copies config memory graph asking represents) (omega (arith, on))
+    begins = copying_begins config memory graph asking (by_copies config memory graph asking represents) (omega (arith, evacuating))
 
     abbrev room : Bool
     room = is_room_from config memory config.region_words (config.regions * config.region_words)
@@ -104,13 +105,13 @@ module _ (config : Config) (memory : Word → ℕ) (graph : Graph) (asking : ℕ
       working = represents.ghost.working;
     }
 
-    on_still : now Phase ≡ 2
-    on_still = copying.same Phase (λ never. never) ∙ on
+    on_still : now Phase ≡ evacuation_phase
+    on_still = copying.same Phase (λ never. never) ∙ evacuating
 
     has_copy : (address : ℕ) → IsCollected config (now Cset) address → IsMarkable plot address ⊎ HasCopy plot address → HasCopy plot address
-    has_copy address inside (inl (IsMarkable.object name refs nums is)) = HasCopy.copy (body_of name refs nums) (ap body_at is)
-    has_copy address inside (inl (IsMarkable.to_come seat words is)) = absurd (copying.no_promises address seat words is inside)
-    has_copy address inside (inr kept) = kept
+    has_copy address inside (inl (IsMarkable.object name refs nums markable_there)) = HasCopy.copy (body_of name refs nums) (ap body_at markable_there)
+    has_copy address inside (inl (IsMarkable.to_come seat words markable_there)) = absurd (copying.no_promises address seat words markable_there inside)
+    has_copy address inside (inr copy_kept) = copy_kept
 
     evacuated_still : IsEvacuating config (now Phase) (now Cset) (now Evac) (now Claim) (now Free) (λ region. now (Top region)) (λ region. now (Tams region)) (λ address. now (Heap address)) (λ number. now (Black number)) plot represents.ghost.owner represents.ghost.copying represents.ghost.working
     evacuated_still = record {
@@ -130,9 +131,9 @@ module _ (config : Config) (memory : Word → ℕ) (graph : Graph) (asking : ℕ
         floors = copying.between.floors;
         unmarked = copying.between.unmarked;
         deads = copying.between.deads;
-        only = λ address above mark inside. has_copy address inside (copying.between.only address above mark inside);
+        only = λ address address_high mark inside. has_copy address inside (copying.between.only address address_high mark inside);
       };
-      units = λ high q below member. inl (copying.units on_still q below member);
+      units = λ high asked_region region_below member. inl (copying.units on_still asked_region region_below member);
     }
 
     stands_by_copies : RepresentsByCopies config now graph asking
@@ -143,22 +144,22 @@ module _ (config : Config) (memory : Word → ℕ) (graph : Graph) (asking : ℕ
         parsable = copying.between.parsable;
         contents = copying.between.contents;
         owned = copying.between.owned;
-        phased = record { phase_is = omega (arith, on_still); cset_is = λ low. absurd (omega (arith, low, on_still)); evac_is = λ other. absurd (other on_still) };
+        phased = record { phase_is = omega (arith, on_still); cset_is = λ low. absurd (omega (arith, low, on_still)); evac_is = λ not_evacuating. absurd (not_evacuating on_still) };
         unwritten = copying.between.unwritten;
         marked = none_marked_in config (now Phase) (λ number. now (Grey number)) (λ number. now (Black number)) (λ mutator. now (Count mutator)) (λ mutator entry. now (Buffer mutator entry)) (λ region. now (Top region)) (λ region. now (Tams region)) (λ address. now (Heap address)) plot
             represents.ghost.recording represents.ghost.scanning (λ is. omega (arith, is, on_still));
         evacuated = evacuated_still;
         updated = λ high. absurd (omega (arith, high, on_still));
-        pinned = λ t i inside few.
-            pin_same config (memory Cset) (memory Evac) (now Cset) (now Evac) plot (memory (Pin t i)) (now (Pin t i)) (graph.pin (t + 1) i) (sym (copying.same Cset (λ never. never))) (sym (copying.same Evac (λ never. never)))
-            (sym (copying.same (Pin t i) (λ never. never))) (copying.pinned t i inside few);
+        pinned = λ seat slot inside few.
+            pin_same config (memory Cset) (memory Evac) (now Cset) (now Evac) plot (memory (Pin seat slot)) (now (Pin seat slot)) (graph.pin (seat + 1) slot) (sym (copying.same Cset (λ never. never))) (sym (copying.same Evac (λ never. never)))
+            (sym (copying.same (Pin seat slot) (λ never. never))) (copying.pinned seat slot inside few);
       };
       roots = copying.roots;
       usable = tt;
       none = copying.between.unheld;
       uncarved = copying.between.uncarved;
       asked = copying.asked;
-      heard = λ t refs nums inside is. ap (λ k. bit_at k 1) (copying.same Ask (λ never. never)) ∙ represents.heard t refs nums inside is;
+      heard = λ seat refs nums inside is. ap (λ ask_bits. bit_at ask_bits 1) (copying.same Ask (λ never. never)) ∙ represents.heard seat refs nums inside is;
       promised_to = copying.between.promised_to;
       unmarking = record { records_none = represents.unmarking.records_none; scans_none = represents.unmarking.scans_none };
       uncopying = record { copies_none = represents.uncopying.copies_none; works_none = represents.uncopying.works_none };
@@ -170,14 +171,14 @@ module _ (config : Config) (memory : Word → ℕ) (graph : Graph) (asking : ℕ
     unfolding stands_by_copies
     copied_then = record {
       stands = stands_by_copies;
-      none_left = λ all a refs nums name is member. ⊎_elim
-          (λ (pinned : is_pinned config memory (region_with config a) ≡ true). pinned)
-          (λ (unpinned : is_pinned config memory (region_with config a) ≡ false).
-          let inside = piece_inside config (λ region. now (Top region)) plot copying.between.parsable.plotted a (thing name refs nums) is in
-          let least = copying.swept a refs nums name is member unpinned in
-          let end = outcome.3 all in
-          absurd (omega (arith, inside.1, least, end)))
-          (cases_Bool (is_pinned config memory (region_with config a)));
+      none_left = λ all_room address refs nums name thing_there member. ⊎_elim
+          (λ (pinned : is_pinned config memory (region_with config address) ≡ true). pinned)
+          (λ (unpinned : is_pinned config memory (region_with config address) ≡ false).
+          let inside = piece_inside config (λ region. now (Top region)) plot copying.between.parsable.plotted address (thing name refs nums) thing_there in
+          let still_ahead = copying.swept address refs nums name thing_there member unpinned in
+          let end = outcome.3 all_room in
+          absurd (omega (arith, inside.1, still_ahead, end)))
+          (cases_Bool (is_pinned config memory (region_with config address)));
       same = copying.same;
     }
 
@@ -186,43 +187,43 @@ module _ (config : Config) (memory : Word → ℕ) (graph : Graph) (asking : ℕ
     can_be_copied = can_copy_from config memory represents.ghost.owner graph asking (config.regions * config.region_words) memory represents.block config.region_words begins
 
   -- In other phases nothing is left.
-  none_in_set : memory Phase ≢ 2 → (address refs nums : ℕ) (name : Name) → represents.block address ≡ Some (thing name refs nums) → IsCollected config (memory Cset) address → ⊥
-  none_in_set other address refs nums name is member = ⊎_elim
-      (λ (on : memory Phase ≡ 3). (represents.shared.updated on).outside address refs nums name is member)
-      (λ (differs : memory Phase ≢ 3).
-      let most = represents.shared.phased.phase_is in
-      none_in_0 config address (subst (λ set. IsCollected config set address) (represents.shared.phased.cset_is (omega (arith, other, differs, most))) member))
+  none_in_set : memory Phase ≢ evacuation_phase → (address refs nums : ℕ) (name : Name) → represents.block address ≡ Some (thing name refs nums) → IsCollected config (memory Cset) address → ⊥
+  none_in_set not_evacuating address refs nums name thing_there member = ⊎_elim
+      (λ (phase_three : memory Phase ≡ updating_phase). (represents.shared.updated phase_three).outside address refs nums name thing_there member)
+      (λ (differs : memory Phase ≢ updating_phase).
+      let phase_most = represents.shared.phased.phase_is in
+      none_in_0 config address (subst (λ set. IsCollected config set address) (represents.shared.phased.cset_is (omega (arith, not_evacuating, differs, phase_most))) member))
       (cases_eq (memory Phase) 3)
 
-  nothing_copied : memory Phase ≢ 2 → StandsByCopies config memory memory true graph asking
-  nothing_copied other = record {
+  nothing_copied : memory Phase ≢ evacuation_phase → StandsByCopies config memory memory true graph asking
+  nothing_copied not_evacuating = record {
     stands = by_copies config memory graph asking represents;
-    none_left = λ all address refs nums name is member. absurd (none_in_set other address refs nums name is member);
+    none_left = λ all_room address refs nums name thing_there member. absurd (none_in_set not_evacuating address refs nums name thing_there member);
     same = λ word fixed. refl;
   }
 
   copied_in_phase : StandsByCopies config memory (all_copied config memory) (is_room_for_all config memory) graph asking
   copied_in_phase = ⊎_elim
-      (λ (on : memory Phase ≡ 2).
-      let is = eq-eqb (memory Phase) 2 on in
-      let words : all_copied config memory ≡ now on = fun_ext (λ word. cond-true (memory Phase == 2) (now on word) (memory word) is) in
-      subst (λ w. StandsByCopies config memory w (is_room_for_all config memory) graph asking) (sym words)
-      (subst (λ room. StandsByCopies config memory (now on) room graph asking) (sym (cond-true (memory Phase == 2) (room on) true is)) (copied_then on)))
-      (λ (other : memory Phase ≢ 2).
-      let is = ne_eqb (memory Phase) 2 other in
-      let words : all_copied config memory ≡ memory = fun_ext (λ word. cond-false (memory Phase == 2) (copied_from config memory config.region_words (config.regions * config.region_words) word) (memory word) is) in
-      subst (λ w. StandsByCopies config memory w (is_room_for_all config memory) graph asking) (sym words)
-      (subst (λ room. StandsByCopies config memory memory room graph asking) (sym (cond-false (memory Phase == 2) (is_room_from config memory config.region_words (config.regions * config.region_words)) true is)) (nothing_copied other)))
+      (λ (evacuating : memory Phase ≡ evacuation_phase).
+      let phase_tested = eq-eqb (memory Phase) 2 evacuating in
+      let words : all_copied config memory ≡ now evacuating = fun_ext (λ word. cond-true (memory Phase == evacuation_phase) (now evacuating word) (memory word) phase_tested) in
+      subst (λ copied_memory. StandsByCopies config memory copied_memory (is_room_for_all config memory) graph asking) (sym words)
+      (subst (λ room. StandsByCopies config memory (now evacuating) room graph asking) (sym (cond-true (memory Phase == evacuation_phase) (room evacuating) true phase_tested)) (copied_then evacuating)))
+      (λ (not_evacuating : memory Phase ≢ evacuation_phase).
+      let phase_tested = ne_eqb (memory Phase) 2 not_evacuating in
+      let words : all_copied config memory ≡ memory = fun_ext (λ word. cond-false (memory Phase == evacuation_phase) (copied_from config memory config.region_words (config.regions * config.region_words) word) (memory word) phase_tested) in
+      subst (λ copied_memory. StandsByCopies config memory copied_memory (is_room_for_all config memory) graph asking) (sym words)
+      (subst (λ room. StandsByCopies config memory memory room graph asking) (sym (cond-false (memory Phase == evacuation_phase) (is_room_from config memory config.region_words (config.regions * config.region_words)) true phase_tested)) (nothing_copied not_evacuating)))
       (cases_eq (memory Phase) 2)
 
 pub copying_keeps : CopyingKeeps
-copying_keeps c m g asking r = let to = copied_in_phase c m g asking r in record { stands = to.stands; none_left = to.none_left; same = to.same }
+copying_keeps config memory graph asking represents = let copied = copied_in_phase config memory graph asking represents in record { stands = copied.stands; none_left = copied.none_left; same = copied.same }
 
 pub left_can_be_copied : LeftCanBeCopied
 left_can_be_copied = can_be_copied
 
 -- Where all found room, what is left in the set lies in pinned regions.
-pub left_pinned : (config : Config) (memory : Word → ℕ) (graph : Graph) (asking : ℕ → Asking) (all : IsCopiedAll config memory graph asking) → is_room_for_all config memory ≡ true
-    → (address refs nums : ℕ) (name : Name) → all.stands.block address ≡ Some (thing name refs nums) → IsCollected config (all_copied config memory Cset) address → is_pinned config (all_copied config memory) (region_with config address) ≡ true
-left_pinned config memory graph asking all room address refs nums name is inside =
-    same_pinned config memory (all_copied config memory) (λ mutator slot. all.same (Pin mutator slot) (λ never. never)) (region_with config address) ∙ all.none_left room address refs nums name is inside
+pub left_pinned : (config : Config) (memory : Word → ℕ) (graph : Graph) (asking : ℕ → Asking) (copied_all : IsCopiedAll config memory graph asking) → is_room_for_all config memory ≡ true
+    → (address refs nums : ℕ) (name : Name) → copied_all.stands.block address ≡ Some (thing name refs nums) → IsCollected config (all_copied config memory Cset) address → is_pinned config (all_copied config memory) (region_with config address) ≡ true
+left_pinned config memory graph asking copied_all room address refs nums name thing_there inside =
+    same_pinned config memory (all_copied config memory) (λ mutator slot. copied_all.same (Pin mutator slot) (λ never. never)) (region_with config address) ∙ copied_all.none_left room address refs nums name thing_there inside

@@ -47,15 +47,15 @@ use Rattle.cycle_pauses.proofs.Finishing.Serving.{IsIdle, IsServedSo, turns_idle
 use Rattle.cycle_pauses.proofs.Finishing.Idle.{idle_represents, finished_idle}
 
 -- Words that serving leaves.
-phase_still : (config : Config) (memory : Word → ℕ) (n : ℕ) → served config memory n Phase ≡ memory Phase
+phase_still : (config : Config) (memory : Word → ℕ) (turns : ℕ) → served config memory turns Phase ≡ memory Phase
 unfolding made_in
 phase_still config = served_still config Phase (λ w t r. refl)
 
-cset_still : (config : Config) (memory : Word → ℕ) (n : ℕ) → served config memory n Cset ≡ memory Cset
+cset_still : (config : Config) (memory : Word → ℕ) (turns : ℕ) → served config memory turns Cset ≡ memory Cset
 unfolding made_in
 cset_still config = served_still config Cset (λ w t r. refl)
 
-evac_still : (config : Config) (memory : Word → ℕ) (n : ℕ) → served config memory n Evac ≡ memory Evac
+evac_still : (config : Config) (memory : Word → ℕ) (turns : ℕ) → served config memory turns Evac ≡ memory Evac
 unfolding made_in
 evac_still config = served_still config Evac (λ w t r. refl)
 
@@ -71,38 +71,38 @@ pub record FallsShort (config : Config) (before after : Word → ℕ) (graph : G
 -- What mutators have been given.
 
 -- who asked asks still, or was given what it asked for
-served_so : (asking other_asking : Asking) → IsServedSo asking other_asking → (refs nums : ℕ) → asking ≡ asks refs nums → (other_asking ≡ asks refs nums) ⊎ (other_asking ≡ given refs nums)
-served_so asking other_asking (IsServedSo.as_before v) refs nums is = inl is
-served_so asking other_asking (IsServedSo.with_object more less) refs nums is = inr cc
+served_so : (asking later_asking : Asking) → IsServedSo asking later_asking → (refs nums : ℕ) → asking ≡ asks refs nums → (later_asking ≡ asks refs nums) ⊎ (later_asking ≡ given refs nums)
+served_so asking later_asking (IsServedSo.as_before asks_same) refs nums it_asks = inl it_asks
+served_so asking later_asking (IsServedSo.with_object its_refs its_nums) refs nums it_asks = inr cc
 
 -- an asking is answered as it should be, where it asks no more
-answered_so : (asking other_asking : Asking) → IsServedSo asking other_asking → ((refs nums : ℕ) → other_asking ≡ asks refs nums → ⊥) → Answers asking other_asking
-answered_so asking other_asking (IsServedSo.as_before v) no_more = same v no_more
+answered_so : (asking later_asking : Asking) → IsServedSo asking later_asking → ((refs nums : ℕ) → later_asking ≡ asks refs nums → ⊥) → Answers asking later_asking
+answered_so asking later_asking (IsServedSo.as_before asks_same) no_more = same asks_same no_more
   where
-    same : (z : Asking) → ((refs nums : ℕ) → z ≡ asks refs nums → ⊥) → Answers z z
+    same : (any_asking : Asking) → ((refs nums : ℕ) → any_asking ≡ asks refs nums → ⊥) → Answers any_asking any_asking
     same nothing no_more = tt
     same (asks refs nums) no_more = absurd (no_more refs nums refl)
     same refused no_more = tt
     same (given refs nums) no_more = (refl, refl)
-answered_so asking other_asking (IsServedSo.with_object refs nums) no_more = (refl, refl)
+answered_so asking later_asking (IsServedSo.with_object refs nums) no_more = (refl, refl)
 
 -- and where it is answered later
-answered_later : (x y z : Asking) → IsServedSo x y → Answers y z → Answers x z
-answered_later asking other_asking z (IsServedSo.as_before v) later = later
-answered_later asking other_asking z (IsServedSo.with_object refs nums) later = by_later z later
+answered_later : (first_asking middle_asking last_asking : Asking) → IsServedSo first_asking middle_asking → Answers middle_asking last_asking → Answers first_asking last_asking
+answered_later asking later_asking last_asking (IsServedSo.as_before asks_same) later = later
+answered_later asking later_asking last_asking (IsServedSo.with_object refs nums) later = by_later last_asking later
   where
-    by_later : (w : Asking) → Answers (given refs nums) w → Answers (asks refs nums) w
-    by_later nothing is = absurd is
-    by_later (asks more less) is = absurd is
-    by_later refused is = tt
-    by_later (given more less) is = is
+    by_later : (any_asking : Asking) → Answers (given refs nums) any_asking → Answers (asks refs nums) any_asking
+    by_later nothing answered = absurd answered
+    by_later (asks its_refs its_nums) answered = absurd answered
+    by_later refused answered = tt
+    by_later (given its_refs its_nums) answered = answered
 
-not_refused : (refs nums : ℕ) (asking other_asking : Asking) → asking ≡ given refs nums → other_asking ≡ refused → Answers asking other_asking → ⊥
-not_refused refs nums asking other_asking is_y is_z is = subst (λ w. Answers (given refs nums) w) is_z (subst (λ w. Answers w other_asking) is_y is)
+not_refused : (refs nums : ℕ) (asking later_asking : Asking) → asking ≡ given refs nums → later_asking ≡ refused → Answers asking later_asking → ⊥
+not_refused refs nums asking later_asking was_given now_refused answered = subst (λ request. Answers (given refs nums) request) now_refused (subst (λ request. Answers request later_asking) was_given answered)
 
 -- who asks waits
 asking_waits : (memory : Word → ℕ) (block : Plot) (count : ℕ → ℕ) (mutator refs nums : ℕ) (asking : Asking) → IsAsked memory block count mutator asking → asking ≡ asks refs nums → memory (Wait mutator) ≢ 0
-asking_waits memory block count mutator refs nums asking asked is = waits_for memory count mutator refs nums (subst (IsAsked memory block count mutator) is asked).0
+asking_waits memory block count mutator refs nums asking asked it_asks = waits_for memory count mutator refs nums (subst (IsAsked memory block count mutator) it_asks asked).0
 
 -- Where nobody has a buffer, and all that was left found room.
 module _ (config : Config) (memory : Word → ℕ) (graph : Graph) (asking : ℕ → Asking) (represents : Represents config memory graph asking) (bare : HasNoBuffers config memory) (room : is_room_for_all config memory ≡ true) where
@@ -112,7 +112,7 @@ module _ (config : Config) (memory : Word → ℕ) (graph : Graph) (asking : ℕ
   finished_is : finished_from config memory ≡ served config (cycle_finished config memory) config.mutators
   finished_is = fun_ext (λ word. cond-true (is_room_for_all config memory) (served config (cycle_finished config memory) config.mutators word) (all_copied config memory word) room)
 
-  turns : (plot : Plot) × (owner : ℕ → Option ℕ) × (then : ℕ → Asking) × IsIdle config w plot owner graph then × ((t : ℕ) → IsServedSo (asking t) (then t))
+  turns : (plot : Plot) × (owner : ℕ → Option ℕ) × (later_asking : ℕ → Asking) × IsIdle config w plot owner graph later_asking × ((thread : ℕ) → IsServedSo (asking thread) (later_asking thread))
   turns =
       let idle = finished_idle config memory graph asking represents bare room in
       let served_all = turns_idle config (cycle_finished config memory) idle.0 idle.1 graph asking idle.2 config.mutators (omega arith) in
@@ -124,33 +124,33 @@ module _ (config : Config) (memory : Word → ℕ) (graph : Graph) (asking : ℕ
   -- each request was served
   module _ (nobody : nobody_waits config (finished_from config memory) ≡ true) where
     nobody_asks : (mutator refs nums : ℕ) → mutator < config.mutators → then mutator ≡ asks refs nums → ⊥
-    nobody_asks mutator refs nums inside is =
-        asking_waits w turns.0 graph.count mutator refs nums (then mutator) (turns.3.asked mutator inside) is (sym (ap (λ (memory : Word → ℕ). memory (Wait mutator)) finished_is) ∙ nobody_is config (finished_from config memory) nobody mutator inside)
+    nobody_asks mutator refs nums inside still_asks =
+        asking_waits w turns.0 graph.count mutator refs nums (then mutator) (turns.3.asked mutator inside) still_asks (sym (ap (λ (memory : Word → ℕ). memory (Wait mutator)) finished_is) ∙ nobody_is config (finished_from config memory) nobody mutator inside)
 
     whole_stands : Represents config w graph then
     whole_stands =
         idle_represents config w turns.0 turns.1 graph then turns.3 (phase_still config (cycle_finished config memory) config.mutators) (cset_still config (cycle_finished config memory) config.mutators) (evac_still config (cycle_finished config memory) config.mutators)
-        (λ mutator refs nums inside is. absurd (nobody_asks mutator refs nums inside is)) represents.no_more represents.no_more_pins
+        (λ mutator refs nums inside still_asks. absurd (nobody_asks mutator refs nums inside still_asks)) represents.no_more represents.no_more_pins
 
     whole_paused : IsWholePause config memory w graph asking
     whole_paused = record {
       paused = record {
         asked_then = then;
         stands = whole_stands;
-        answers = λ mutator inside. answered_so (asking mutator) (then mutator) (turns.4 mutator) (λ refs nums is. nobody_asks mutator refs nums inside is);
-        crowded = λ mutator refs nums inside is was_refused. ⊎_elim
+        answers = λ mutator inside. answered_so (asking mutator) (then mutator) (turns.4 mutator) (λ refs nums still_asks. nobody_asks mutator refs nums inside still_asks);
+        crowded = λ mutator refs nums inside still_asks was_refused. ⊎_elim
             (λ (asks_still : then mutator ≡ asks refs nums). absurd (nobody_asks mutator refs nums inside asks_still))
             (λ (gave : then mutator ≡ given refs nums). let differ : given refs nums ≡ refused = sym gave ∙ was_refused in cc)
-            (served_so (asking mutator) (then mutator) (turns.4 mutator) refs nums is);
+            (served_so (asking mutator) (then mutator) (turns.4 mutator) refs nums still_asks);
       };
-      given_all = λ mutator refs nums inside is. ⊎_elim
+      given_all = λ mutator refs nums inside still_asks. ⊎_elim
           (λ (asks_still : then mutator ≡ asks refs nums). absurd (nobody_asks mutator refs nums inside asks_still))
           (λ (gave : then mutator ≡ given refs nums). gave)
-          (served_so (asking mutator) (then mutator) (turns.4 mutator) refs nums is);
+          (served_so (asking mutator) (then mutator) (turns.4 mutator) refs nums still_asks);
     }
 
     pub whole_pause : IsWholePause config memory (finished_from config memory) graph asking
-    whole_pause = subst (λ v. IsWholePause config memory v graph asking) (sym finished_is) whole_paused
+    whole_pause = subst (λ final_memory. IsWholePause config memory final_memory graph asking) (sym finished_is) whole_paused
 
   -- Else some wait, as the word would say of what is asked that is cleared with the cycle.
   abbrev asked_word : Word → ℕ
@@ -166,14 +166,14 @@ module _ (config : Config) (memory : Word → ℕ) (graph : Graph) (asking : ℕ
     unmoved = turns.3.unmoved;
     roots = turns.3.roots;
     pinned = turns.3.pinned;
-    asked = λ t inside. asked_stays w asked_word turns.0 turns.0 graph.count t refl refl (λ a words k is below. refl) (λ a words is. is) (λ a words is. is) (then t) (turns.3.asked t inside);
+    asked = λ mutator inside. asked_stays w asked_word turns.0 turns.0 graph.count mutator refl refl (λ address words index piece_there index_below. refl) (λ address words piece_there. piece_there) (λ address words piece_there. piece_there) (then mutator) (turns.3.asked mutator inside);
     promised_to = turns.3.promised_to;
   }
 
   asked_stands : Represents config asked_word graph then
   asked_stands =
       idle_represents config asked_word turns.0 turns.1 graph then asked_idle (phase_still config (cycle_finished config memory) config.mutators) (cset_still config (cycle_finished config memory) config.mutators) (evac_still config (cycle_finished config memory) config.mutators)
-      (λ t refs nums inside is. refl) represents.no_more represents.no_more_pins
+      (λ t refs nums inside it_asks. refl) represents.no_more represents.no_more_pins
 
   -- a full collection does not read that word
   packed_same : (word : Word) → packed_in config asked_word word ≡ packed_in config w word
@@ -206,9 +206,9 @@ module _ (config : Config) (memory : Word → ℕ) (graph : Graph) (asking : ℕ
   -- nor is there a buffer to let go
   still_bare : (seat : ℕ) → seat < seat_count config.mutators config.helpers → w (Current seat) ≡ 0
   unfolding made_in
-  still_bare seat below =
+  still_bare seat seat_below =
       served_still config (Current seat) (λ v t q. refl) (cycle_finished config memory) config.mutators
-      ∙ (copying_keeps config memory graph asking represents).same (Current seat) (λ never. never) ∙ bare seat below
+      ∙ (copying_keeps config memory graph asking represents).same (Current seat) (λ never. never) ∙ bare seat seat_below
 
   full_same : full config asked_word ≡ full config w
   full_same =
@@ -223,11 +223,11 @@ module _ (config : Config) (memory : Word → ℕ) (graph : Graph) (asking : ℕ
   full_paused = record {
     asked_then = asked_paused.asked_then;
     stands = asked_paused.stands;
-    answers = λ t inside. answered_later (asking t) (then t) (asked_paused.asked_then t) (turns.4 t) (asked_paused.answers t inside);
-    crowded = λ t refs nums inside is was_refused. ⊎_elim
-        (λ (asks_still : then t ≡ asks refs nums). asked_paused.crowded t refs nums inside asks_still was_refused)
-        (λ (gave : then t ≡ given refs nums). absurd (not_refused refs nums (then t) (asked_paused.asked_then t) gave was_refused (asked_paused.answers t inside)))
-        (served_so (asking t) (then t) (turns.4 t) refs nums is);
+    answers = λ mutator inside. answered_later (asking mutator) (then mutator) (asked_paused.asked_then mutator) (turns.4 mutator) (asked_paused.answers mutator inside);
+    crowded = λ mutator refs nums inside it_asked was_refused. ⊎_elim
+        (λ (asks_still : then mutator ≡ asks refs nums). asked_paused.crowded mutator refs nums inside asks_still was_refused)
+        (λ (gave : then mutator ≡ given refs nums). absurd (not_refused refs nums (then mutator) (asked_paused.asked_then mutator) gave was_refused (asked_paused.answers mutator inside)))
+        (served_so (asking mutator) (then mutator) (turns.4 mutator) refs nums it_asked);
   }
 
   served_holds : HoldsInSizes config w graph
@@ -244,8 +244,8 @@ module _ (config : Config) (memory : Word → ℕ) (graph : Graph) (asking : ℕ
 
   pub served_short : FallsShort config memory (finished_from config memory) graph asking
   served_short = record {
-    holds = subst (λ v. HoldsInSizes config v graph) (sym finished_is) served_holds;
-    paused = subst (λ v. IsPaused config memory (full config v) graph asking) (sym finished_is) (subst (λ v. IsPaused config memory v graph asking) full_same full_paused);
+    holds = subst (λ final_memory. HoldsInSizes config final_memory graph) (sym finished_is) served_holds;
+    paused = subst (λ final_memory. IsPaused config memory (full config final_memory) graph asking) (sym finished_is) (subst (λ final_memory. IsPaused config memory final_memory graph asking) full_same full_paused);
   }
 
 -- Where something found no room.
@@ -258,9 +258,9 @@ module _ (config : Config) (memory : Word → ℕ) (graph : Graph) (asking : ℕ
       let stands = (copying_keeps config memory graph asking represents).stands in
       let paused_then = paused config (all_copied config memory) graph asking stands in
       record {
-        holds = subst (λ v. HoldsInSizes config v graph) (sym finished_early)
+        holds = subst (λ final_memory. HoldsInSizes config final_memory graph) (sym finished_early)
             (live config (all_copied config memory) graph asking stands, stands.ghost.owner, promises_of config graph asking, holds_by config (all_copied config memory) graph asking stands, are_sized config (all_copied config memory) graph asking stands);
-        paused = subst (λ v. IsPaused config memory (full config v) graph asking) (sym finished_early)
+        paused = subst (λ final_memory. IsPaused config memory (full config final_memory) graph asking) (sym finished_early)
             (record { asked_then = paused_then.asked_then; stands = paused_then.stands; answers = paused_then.answers; crowded = paused_then.crowded });
       }
 
@@ -270,46 +270,46 @@ module _ (config : Config) (memory : Word → ℕ) (graph : Graph) (asking : ℕ
   gone = (letting_go_keeps config memory graph asking seats).represents represents
 
   whole : is_whole config memory ≡ true → IsWholePause config memory (finished config memory) graph asking
-  whole is =
-      let both = and_parts (is_room_for_all config (let_go config memory)) (nobody_waits config (finished config memory)) is in
-      let there = whole_pause config (let_go config memory) graph asking gone (letting_go_leaves config memory) both.0 both.1 in
+  whole whole_test =
+      let both_tests = and_parts (is_room_for_all config (let_go config memory)) (nobody_waits config (finished config memory)) whole_test in
+      let pause_there = whole_pause config (let_go config memory) graph asking gone (letting_go_leaves config memory) both_tests.0 both_tests.1 in
       record {
-        paused = record { asked_then = there.paused.asked_then; stands = there.paused.stands; answers = there.paused.answers; crowded = there.paused.crowded };
-        given_all = there.given_all;
+        paused = record { asked_then = pause_there.paused.asked_then; stands = pause_there.paused.stands; answers = pause_there.paused.answers; crowded = pause_there.paused.crowded };
+        given_all = pause_there.given_all;
       }
 
   short_so : FallsShort config (let_go config memory) (finished config memory) graph asking
   short_so = ⊎_elim
       (λ (room : is_room_for_all config (let_go config memory) ≡ true). served_short config (let_go config memory) graph asking gone (letting_go_leaves config memory) room)
-      (λ (none : is_room_for_all config (let_go config memory) ≡ false). copied_short config (let_go config memory) graph asking gone none)
+      (λ (no_room : is_room_for_all config (let_go config memory) ≡ false). copied_short config (let_go config memory) graph asking gone no_room)
       (cases_Bool (is_room_for_all config (let_go config memory)))
 
   short : ShortHolds config memory graph asking
   short = record { holds = short_so.holds; paused = paused_from config (let_go config memory) memory (full config (finished config memory)) graph asking short_so.paused }
 
 pub whole_is_pause : WholeIsPause
-whole_is_pause c m g asking r seats is = whole c m g asking r seats is
+whole_is_pause config memory graph asking represents seats whole_test = whole config memory graph asking represents seats whole_test
 
 pub short_is_pause : ShortIsPause
-short_is_pause c m g asking r seats is = short c m g asking r seats
+short_is_pause config memory graph asking represents seats not_whole = short config memory graph asking represents seats
 
 -- a region that is freed is free
 freed_there : (config : Config) (memory : Word → ℕ) (region : ℕ) → region < config.regions → is_to_free config memory region ≡ true → IsFreed (set_freed config memory) region
-freed_there config memory region inside gone =
+freed_there config memory region inside to_free =
     record {
-      is_free = free_is config (is_to_free config memory) (filled_in config (is_to_stay config memory) (has_moved memory) memory) region inside (inr gone);
-      top = top_out config (is_to_free config memory) (filled_in config (is_to_stay config memory) (has_moved memory) memory) region gone;
-      tams = tams_out config (is_to_free config memory) (filled_in config (is_to_stay config memory) (has_moved memory) memory) region gone;
-      limit = limit_out config (is_to_free config memory) (filled_in config (is_to_stay config memory) (has_moved memory) memory) region gone;
+      is_free = free_is config (is_to_free config memory) (filled_in config (is_to_stay config memory) (has_moved memory) memory) region inside (inr to_free);
+      top = top_out config (is_to_free config memory) (filled_in config (is_to_stay config memory) (has_moved memory) memory) region to_free;
+      tams = tams_out config (is_to_free config memory) (filled_in config (is_to_stay config memory) (has_moved memory) memory) region to_free;
+      limit = limit_out config (is_to_free config memory) (filled_in config (is_to_stay config memory) (has_moved memory) memory) region to_free;
     }
 
 pub set_is_free : SetIsFree
-set_is_free c m g asking r room q inside member unpinned =
-    let same : (word : Word) → (MayChange word → ⊥) → (IsOfBuffers word → ⊥) → all_copied c (let_go c m) word ≡ m word =
-    λ word fixed other. all_copied_same c (let_go c m) word fixed ∙ let_go_same word other c m (seat_count c.mutators c.helpers) in
-    let chosen : is_chosen (all_copied c (let_go c m)) q ≡ true =
-    chosen_if (all_copied c (let_go c m)) q (subst (λ set. IsIn set q) (sym (same Cset (λ never. never) (λ never. never))) member) in
-    let loose : is_pinned c (all_copied c (let_go c m)) q ≡ false = same_pinned c m (all_copied c (let_go c m)) (λ mutator slot. same (Pin mutator slot) (λ never. never) (λ never. never)) q ∙ unpinned in
-    let gone : is_to_free c (all_updated c (all_copied c (let_go c m))) q ≡ true =
-    and_from (is_chosen (all_copied c (let_go c m)) q) (not (is_pinned c (all_copied c (let_go c m)) q)) chosen (not_from_false (is_pinned c (all_copied c (let_go c m)) q) loose) in
-    freed_there c (all_updated c (all_copied c (let_go c m))) q inside gone
+set_is_free config memory graph asking represents room region inside member unpinned =
+    let same_word : (word : Word) → (MayChange word → ⊥) → (IsOfBuffers word → ⊥) → all_copied config (let_go config memory) word ≡ memory word =
+    λ word fixed not_buffers. all_copied_same config (let_go config memory) word fixed ∙ let_go_same word not_buffers config memory (seat_count config.mutators config.helpers) in
+    let chosen : is_chosen (all_copied config (let_go config memory)) region ≡ true =
+    chosen_if (all_copied config (let_go config memory)) region (subst (λ any_set. IsIn any_set region) (sym (same_word Cset (λ never. never) (λ never. never))) member) in
+    let loose : is_pinned config (all_copied config (let_go config memory)) region ≡ false = same_pinned config memory (all_copied config (let_go config memory)) (λ mutator slot. same_word (Pin mutator slot) (λ never. never) (λ never. never)) region ∙ unpinned in
+    let to_free : is_to_free config (all_updated config (all_copied config (let_go config memory))) region ≡ true =
+    and_from (is_chosen (all_copied config (let_go config memory)) region) (not (is_pinned config (all_copied config (let_go config memory)) region)) chosen (not_from_false (is_pinned config (all_copied config (let_go config memory)) region) loose) in
+    freed_there config (all_updated config (all_copied config (let_go config memory))) region inside to_free

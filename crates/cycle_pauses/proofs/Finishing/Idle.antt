@@ -1,4 +1,5 @@
 -- The words once a cycle is over: they stand for the graph while no cycle runs.
+use Rattle.heap_words.specs.Phases.{evacuation_phase, idle_phase}
 use Rattle.std.proofs.Common.{◌≡◌, ◌≢◌, ℕ, ◌+◌, ◌*◌, ◌<◌, ◌≤◌, ◌==◌, ◌&&◌, Bool, true, false, not, Option, zero, suc, cond, ⊎_elim, refl, sym, ap, ◌∙◌, subst, arith}
 use Rattle.std.specs.Int.{bit_at}
 use Rattle.std.specs.Int.Bits.{or_zero_r}
@@ -35,7 +36,7 @@ use Rattle.cycle_pauses.proofs.Finishing.Serving.{IsIdle}
 
 -- Such words represent the graph.
 pub idle_represents : (config : Config) (memory : Word → ℕ) (block : Plot) (owner : ℕ → Option ℕ) (graph : Graph) (asking : ℕ → Asking) → IsIdle config memory block owner graph asking
-    → memory Phase ≡ 0 → memory Cset ≡ 0 → memory Evac ≡ 0 → ((mutator refs nums : ℕ) → mutator < config.mutators → asking mutator ≡ asks refs nums → bit_at (memory Ask) 1 ≡ 1) → HasNoMoreRoots config.mutators graph → HasNoMorePins config.mutators graph → Represents config memory graph asking
+    → memory Phase ≡ idle_phase → memory Cset ≡ 0 → memory Evac ≡ 0 → ((mutator refs nums : ℕ) → mutator < config.mutators → asking mutator ≡ asks refs nums → bit_at (memory Ask) 1 ≡ 1) → HasNoMoreRoots config.mutators graph → HasNoMorePins config.mutators graph → Represents config memory graph asking
 idle_represents config memory block owner graph asking idle no_phase no_cset no_evac heard no_more no_more_pins = record {
   block = block;
   ghost = with_owner no_ghost owner;
@@ -43,21 +44,21 @@ idle_represents config memory block owner graph asking idle no_phase no_cset no_
     parsable = idle.parsable;
     contents = idle.contents;
     owned = idle.owned;
-    phased = record { phase_is = omega (arith, no_phase); cset_is = λ low. no_cset; evac_is = λ other. no_evac };
+    phased = record { phase_is = omega (arith, no_phase); cset_is = λ low. no_cset; evac_is = λ not_moving. no_evac };
     unwritten = idle.unwritten;
     marked = none_marked_in config (memory Phase) (λ number. memory (Grey number)) (λ number. memory (Black number)) (λ mutator. memory (Count mutator)) (λ mutator entry. memory (Buffer mutator entry)) (λ region. memory (Top region)) (λ region. memory (Tams region)) (λ address. memory (Heap address)) block
-        no_ghost.recording no_ghost.scanning (λ is. omega (arith, is, no_phase));
+        no_ghost.recording no_ghost.scanning (λ in_phase. omega (arith, in_phase, no_phase));
     evacuated =
-        subst (λ set. IsEvacuating config (memory Phase) set (memory Evac) (memory Claim) (memory Free) (λ region. memory (Top region)) (λ region. memory (Tams region)) (λ address. memory (Heap address)) (λ number. memory (Black number)) block owner no_ghost.copying no_ghost.working) (sym no_cset)
+        subst (λ any_set. IsEvacuating config (memory Phase) any_set (memory Evac) (memory Claim) (memory Free) (λ region. memory (Top region)) (λ region. memory (Tams region)) (λ address. memory (Heap address)) (λ number. memory (Black number)) block owner no_ghost.copying no_ghost.working) (sym no_cset)
         (subst (λ evac. IsEvacuating config (memory Phase) 0 evac (memory Claim) (memory Free) (λ region. memory (Top region)) (λ region. memory (Tams region)) (λ address. memory (Heap address)) (λ number. memory (Black number)) block owner no_ghost.copying no_ghost.working) (sym no_evac)
         (none_evacuated config (memory Phase) (memory Claim) (memory Free) (λ region. memory (Top region)) (λ region. memory (Tams region)) (λ address. memory (Heap address)) (λ number. memory (Black number)) block owner no_ghost.copying no_ghost.working
-        (λ is. omega (arith, is, no_phase)) idle.unmoved.no_moved idle.unmoved.no_spent (λ seat seated. refl)));
-    updated = λ on. absurd (omega (arith, on, no_phase));
+        (λ in_phase. omega (arith, in_phase, no_phase)) idle.unmoved.no_moved idle.unmoved.no_spent (λ seat seated. refl)));
+    updated = λ is_updating. absurd (omega (arith, is_updating, no_phase));
     pinned = idle.pinned;
   };
   roots = idle.roots;
-  usable = λ mutator i inside few.
-      subst (λ set. IsUsable config set (memory Evac) block (memory (Root mutator i))) (sym no_cset) (usable_now config (memory Evac) block idle.unmoved.no_moved (memory (Root mutator i)) (graph.root (mutator + 1) i) (idle.roots mutator i inside few));
+  usable = λ mutator index inside few.
+      subst (λ any_set. IsUsable config any_set (memory Evac) block (memory (Root mutator index))) (sym no_cset) (usable_now config (memory Evac) block idle.unmoved.no_moved (memory (Root mutator index)) (graph.root (mutator + 1) index) (idle.roots mutator index inside few));
   none = idle.unmoved.no_hand;
   uncarved = idle.unmoved.no_carved;
   asked = idle.asked;
@@ -71,11 +72,11 @@ idle_represents config memory block owner graph asking idle no_phase no_cset no_
 
 -- one of two that are the same
 either_way : (holds : Bool) (x y z : ℕ) → x ≡ z → y ≡ z → cond holds x y ≡ z
-either_way true x y z one other = one
-either_way false x y z one other = other
+either_way true x y z first_same second_same = first_same
+either_way false x y z first_same second_same = second_same
 
 -- Where there is no collection set nothing is updated, and nothing freed.
-module _ (config : Config) (memory : Word → ℕ) (none : memory Cset ≡ 0) where
+module _ (config : Config) (memory : Word → ℕ) (no_set : memory Cset ≡ 0) where
   -- what is left of the cycle is taken away
   abbrev pub settled : Word → ℕ
   settled Phase = 0
@@ -86,14 +87,14 @@ module _ (config : Config) (memory : Word → ℕ) (none : memory Cset ≡ 0) wh
   settled word = memory word
 
   word_still : (address : ℕ) → updated_word config memory address ≡ address
-  word_still address = word_spared config memory address (collected_none config memory address (λ inside. none_in_0 config address (subst (λ set. IsCollected config set address) none inside)))
+  word_still address = word_spared config memory address (collected_none config memory address (λ inside. none_in_0 config address (subst (λ any_set. IsCollected config any_set address) no_set inside)))
 
   -- the words once references were updated
   abbrev now : Word → ℕ
   now = all_updated config memory
 
   unchosen : (region : ℕ) → is_chosen memory region ≡ false
-  unchosen region = ne_eqb (bit_at (memory Cset) region) 1 (λ is. none_is_in region (subst (λ set. bit_at set region ≡ 1) none is))
+  unchosen region = ne_eqb (bit_at (memory Cset) region) 1 (λ bit_set. none_is_in region (subst (λ any_set. bit_at any_set region ≡ 1) no_set bit_set))
 
   not_freed : (region : ℕ) → is_to_free config now region ≡ false
   not_freed region = and_left (is_chosen memory region) (not (is_pinned config memory region)) (unchosen region)
@@ -101,18 +102,18 @@ module _ (config : Config) (memory : Word → ℕ) (none : memory Cset ≡ 0) wh
   not_staying : (region : ℕ) → is_to_stay config now region ≡ false
   not_staying region = and_left (is_chosen memory region) (is_pinned config memory region) (unchosen region)
 
-  no_bits : (first k : ℕ) → bits_of (is_to_free config now) first k ≡ 0
+  no_bits : (first count : ℕ) → bits_of (is_to_free config now) first count ≡ 0
   unfolding bits_of
   no_bits first zero = refl
-  no_bits first (suc k) =
-      let rest = no_bits first k in
-      rw (not_freed (first + k), rest) (omega arith)
+  no_bits first (suc count) =
+      let rest = no_bits first count in
+      rw (not_freed (first + count), rest) (omega arith)
 
   free_still : bit_or (memory Free) (bits_of (is_to_free config now) 0 config.regions) ≡ memory Free
   free_still = ap (bit_or (memory Free)) (no_bits 0 config.regions) ∙ or_zero_r (memory Free)
 
-  kept_word : (region k : ℕ) → cond (is_to_free config now region) 0 k ≡ k
-  kept_word region k = cond-false (is_to_free config now region) 0 k (not_freed region)
+  kept_word : (region bits : ℕ) → cond (is_to_free config now region) 0 bits ≡ bits
+  kept_word region bits = cond-false (is_to_free config now region) 0 bits (not_freed region)
 
   heap_word : (address : ℕ) → now (Heap address) ≡ memory (Heap address)
   heap_word address = either_way (is_kept_field config memory address) (updated_word config memory (memory (Heap address))) (memory (Heap address)) (memory (Heap address)) (word_still (memory (Heap address))) refl
@@ -146,22 +147,22 @@ module _ (config : Config) (memory : Word → ℕ) (none : memory Cset ≡ 0) wh
   settled_is (Black number) = refl
   settled_is Share = refl
 
-  pub settled_idle : (graph : Graph) (asking : ℕ → Asking) (represents : Represents config memory graph asking) → memory Phase ≢ 2 → IsIdle config (set_freed config (all_updated config memory)) represents.block represents.ghost.owner graph asking
-  settled_idle graph asking represents out = subst (λ memory. IsIdle config memory represents.block represents.ghost.owner graph asking) (sym (fun_ext settled_is)) (record {
+  pub settled_idle : (graph : Graph) (asking : ℕ → Asking) (represents : Represents config memory graph asking) → memory Phase ≢ evacuation_phase → IsIdle config (set_freed config (all_updated config memory)) represents.block represents.ghost.owner graph asking
+  settled_idle graph asking represents not_moving = subst (λ memory. IsIdle config memory represents.block represents.ghost.owner graph asking) (sym (fun_ext settled_is)) (record {
     parsable = represents.shared.parsable;
     contents = represents.shared.contents;
-    owned = subst (λ set. AreOwned config (λ region. memory (Top region)) (memory Share) (memory Free) set (λ seat. memory (Current seat)) represents.block represents.ghost.owner) none represents.shared.owned;
+    owned = subst (λ any_set. AreOwned config (λ region. memory (Top region)) (memory Share) (memory Free) any_set (λ seat. memory (Current seat)) represents.block represents.ghost.owner) no_set represents.shared.owned;
     unwritten = represents.shared.unwritten;
     unmoved = record {
-      no_moved = λ address refs nums to name is. none_in_0 config address (subst (λ set. IsCollected config set address) none (represents.shared.evacuated.moved.moveds address refs nums to name is).inside);
-      no_spent = λ address words to is. none_in_0 config address (subst (λ set. IsCollected config set address) none (represents.shared.evacuated.moved.spents address words to is).inside);
+      no_moved = λ address refs nums target name piece_there. none_in_0 config address (subst (λ any_set. IsCollected config any_set address) no_set (represents.shared.evacuated.moved.moveds address refs nums target name piece_there).inside);
+      no_spent = λ address words target piece_there. none_in_0 config address (subst (λ any_set. IsCollected config any_set address) no_set (represents.shared.evacuated.moved.spents address words target piece_there).inside);
       no_hand = represents.none;
       no_carved = represents.uncarved;
     };
     roots = represents.roots;
-    pinned = λ t i inside few.
-        pin_same config (memory Cset) (memory Evac) 0 0 represents.block (memory (Pin t i)) (memory (Pin t i)) (graph.pin (t + 1) i) none (represents.shared.phased.evac_is out) refl (represents.shared.pinned t i inside few);
-    asked = λ t inside. asked_stays memory settled represents.block represents.block graph.count t refl refl (λ a words k is below. refl) (λ a words is. is) (λ a words is. is) (asking t) (represents.asked t inside);
+    pinned = λ mutator slot inside few.
+        pin_same config (memory Cset) (memory Evac) 0 0 represents.block (memory (Pin mutator slot)) (memory (Pin mutator slot)) (graph.pin (mutator + 1) slot) no_set (represents.shared.phased.evac_is not_moving) refl (represents.shared.pinned mutator slot inside few);
+    asked = λ mutator inside. asked_stays memory settled represents.block represents.block graph.count mutator refl refl (λ place words index piece_there index_below. refl) (λ place words piece_there. piece_there) (λ place words piece_there. piece_there) (asking mutator) (represents.asked mutator inside);
     promised_to = represents.promised_to;
   })
 
@@ -175,7 +176,7 @@ module _ (config : Config) (memory : Word → ℕ) (graph : Graph) (asking : ℕ
 
   -- so no piece is room
   no_room : HasNoRoom copied_all.stands.block
-  no_room = none_have_room config (all_copied config memory) graph asking copied_all.stands (λ seat below. copied_all.same (Current seat) (λ never. never) ∙ bare seat below)
+  no_room = none_have_room config (all_copied config memory) graph asking copied_all.stands (λ seat seat_below. copied_all.same (Current seat) (λ never. never) ∙ bare seat seat_below)
 
   -- while objects are evacuated or references updated
   in_cycle : 2 ≤ memory Phase → is_room_for_all config memory ≡ true → Idle
@@ -190,19 +191,19 @@ module _ (config : Config) (memory : Word → ℕ) (graph : Graph) (asking : ℕ
       )
 
   -- where there is no collection set
-  copied_else : memory Phase ≢ 2 → all_copied config memory ≡ memory
-  copied_else other = fun_ext (λ word. cond-false (memory Phase == 2) (copied_from config memory config.region_words (config.regions * config.region_words) word) (memory word) (ne_eqb (memory Phase) 2 other))
+  copied_else : memory Phase ≢ evacuation_phase → all_copied config memory ≡ memory
+  copied_else not_moving = fun_ext (λ word. cond-false (memory Phase == evacuation_phase) (copied_from config memory config.region_words (config.regions * config.region_words) word) (memory word) (ne_eqb (memory Phase) 2 not_moving))
 
   out_of_cycle : memory Phase < 2 → Idle
   out_of_cycle low =
-      let none = represents.shared.phased.cset_is low in (
+      let empty_set = represents.shared.phased.cset_is low in (
         represents.block,
         represents.ghost.owner,
-        subst (λ v. IsIdle config (set_freed config (all_updated config v)) represents.block represents.ghost.owner graph asking) (sym (copied_else (λ two. omega (arith, two, low)))) (settled_idle config memory none graph asking represents (λ two. omega (arith, two, low))),
+        subst (λ copied_memory. IsIdle config (set_freed config (all_updated config copied_memory)) represents.block represents.ghost.owner graph asking) (sym (copied_else (λ is_moving. omega (arith, is_moving, low)))) (settled_idle config memory empty_set graph asking represents (λ is_moving. omega (arith, is_moving, low))),
       )
 
   pub finished_idle : is_room_for_all config memory ≡ true → (plot : Plot) × (owner : ℕ → Option ℕ) × IsIdle config (cycle_finished config memory) plot owner graph asking
   finished_idle room = ⊎_elim
       (λ (low : memory Phase < 2). out_of_cycle low)
-      (λ (on : 2 ≤ memory Phase). in_cycle on room)
+      (λ (under_way : 2 ≤ memory Phase). in_cycle under_way room)
       (cases_lt (memory Phase) 2)

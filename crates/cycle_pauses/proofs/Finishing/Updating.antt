@@ -47,13 +47,13 @@ module _ (config : Config) (first memory : Word → ℕ) (block : Plot) (owner :
   sized = pieces_sized config memory block graph.object copying.between.contents.objects copying.between.unwritten copying.between.moves
 
   sizes : (address : ℕ) (piece : Block) → block address ≡ Some piece → stays config memory (region_with config address) ≡ true → stride_at heap address ≡ words_of piece
-  sizes address piece is stay = strides memory block sized no_room address piece is
+  sizes address piece piece_there stay = strides memory block sized no_room address piece piece_there
 
   -- a word that is no reference stays
-  no_reference_stays : (address k : ℕ) (piece : Block) → block address ≡ Some piece → k < words_of piece → is_reference memory address (address + k) ≡ false → after (address + k) ≡ heap (address + k)
-  no_reference_stays address k piece here below other = ⊎_elim
-      (λ (stay : stays config memory (region_with config address) ≡ true). other_stays config memory block copying.between.parsable.plotted copying.between.parsable.filled some sizes address k piece here below stay other)
-      (λ (gone : stays config memory (region_with config address) ≡ false). gone_stays config memory block copying.between.parsable.plotted copying.between.parsable.filled some sizes address k piece here below gone)
+  no_reference_stays : (address index : ℕ) (piece : Block) → block address ≡ Some piece → index < words_of piece → is_reference memory address (address + index) ≡ false → after (address + index) ≡ heap (address + index)
+  no_reference_stays address index piece piece_here index_below no_reference = ⊎_elim
+      (λ (stay : stays config memory (region_with config address) ≡ true). other_stays config memory block copying.between.parsable.plotted copying.between.parsable.filled some sizes address index piece piece_here index_below stay no_reference)
+      (λ (region_gone : stays config memory (region_with config address) ≡ false). gone_stays config memory block copying.between.parsable.plotted copying.between.parsable.filled some sizes address index piece piece_here index_below region_gone)
       (cases_Bool (stays config memory (region_with config address)))
 
   -- the address of what has not moved stays
@@ -69,94 +69,94 @@ module _ (config : Config) (first memory : Word → ℕ) (block : Plot) (owner :
   fills address = is_filler (heap address)
 
   abbrev low_end : ℕ → ℕ → Bool
-  low_end address k = nat_le (address + 3) (address + k)
+  low_end address index = nat_le (address + 3) (address + index)
 
   abbrev high_end : ℕ → ℕ → Bool
-  high_end address k = nat_lt (address + k) (address + 3 + refs_in (heap (address + 1)))
+  high_end address index = nat_lt (address + index) (address + 3 + refs_in (heap (address + 1)))
 
-  reference_parts : (address k : ℕ) → is_reference memory address (address + k) ≡ true → (fills address ≡ false) × (address + 3 ≤ address + k) × (address + k < address + 3 + refs_in (heap (address + 1)))
-  reference_parts address k is =
-      let parts = and_parts (not (fills address) && low_end address k) (high_end address k) is in
-      let first = and_parts (not (fills address)) (low_end address k) parts.0 in
-      (not-true (fills address) first.0, leb-true (address + 3) (address + k) first.1, ltb-true (address + k) (address + 3 + refs_in (heap (address + 1))) parts.1)
+  reference_parts : (address index : ℕ) → is_reference memory address (address + index) ≡ true → (fills address ≡ false) × (address + 3 ≤ address + index) × (address + index < address + 3 + refs_in (heap (address + 1)))
+  reference_parts address index reference_tested =
+      let word_parts = and_parts (not (fills address) && low_end address index) (high_end address index) reference_tested in
+      let first_parts = and_parts (not (fills address)) (low_end address index) word_parts.0 in
+      (not-true (fills address) first_parts.0, leb-true (address + 3) (address + index) first_parts.1, ltb-true (address + index) (address + 3 + refs_in (heap (address + 1))) word_parts.1)
 
-  not_reference : (address k refs : ℕ) → refs_in (heap (address + 1)) ≡ refs → (k < 3) ⊎ (3 + refs ≤ k) → is_reference memory address (address + k) ≡ false
-  not_reference address k refs shape out = ⊎_elim
-      (λ (low : k < 3). and_left (not (fills address) && low_end address k) (high_end address k) (and_right (not (fills address)) (low_end address k) (lt-leb (address + 3) (address + k) (omega (arith, low)))))
-      (λ (high : 3 + refs ≤ k). and_right (not (fills address) && low_end address k) (high_end address k) (le-ltb (address + k) (address + 3 + refs_in (heap (address + 1))) (omega (arith, high, shape))))
-      out
+  not_reference : (address index refs : ℕ) → refs_in (heap (address + 1)) ≡ refs → (index < 3) ⊎ (3 + refs ≤ index) → is_reference memory address (address + index) ≡ false
+  not_reference address index refs shape outside_fields = ⊎_elim
+      (λ (low : index < 3). and_left (not (fills address) && low_end address index) (high_end address index) (and_right (not (fills address)) (low_end address index) (lt-leb (address + 3) (address + index) (omega (arith, low)))))
+      (λ (high : 3 + refs ≤ index). and_right (not (fills address) && low_end address index) (high_end address index) (le-ltb (address + index) (address + 3 + refs_in (heap (address + 1))) (omega (arith, high, shape))))
+      outside_fields
 
   -- The words of an object: its references are updated, the others stay.
-  module _ (address refs nums : ℕ) (name : Name) (here : block address ≡ Some (thing name refs nums)) where
+  module _ (address refs nums : ℕ) (name : Name) (object_here : block address ≡ Some (thing name refs nums)) where
     stay : stays config memory (region_with config address) ≡ true
     stay = ⊎_elim
-        (λ (inside : IsCollected config (memory Cset) address). stays_pinned config memory (region_with config address) (pinned address refs nums name here inside))
+        (λ (inside : IsCollected config (memory Cset) address). stays_pinned config memory (region_with config address) (pinned address refs nums name object_here inside))
         (λ (away : IsCollected config (memory Cset) address → ⊥). stays_outside config memory (region_with config address) away)
         (cases_eq (bit_at (memory Cset) (region_with config address)) 1)
 
-    object : (o : Object) × (graph.object name ≡ Some o) × IsThing heap block address refs nums name o
-    object = copying.between.contents.objects.each address refs nums name here
+    object : (held_object : Object) × (graph.object name ≡ Some held_object) × IsThing heap block address refs nums name held_object
+    object = copying.between.contents.objects.each address refs nums name object_here
 
     refs_are : refs_in (heap (address + 1)) ≡ refs
     refs_are = ap refs_in object.2.shape ∙ refs_read refs nums object.2.few_refs object.2.few_nums
 
-    word_stays : (k : ℕ) → k < 3 + refs + nums → (k < 3) ⊎ (3 + refs ≤ k) → after (address + k) ≡ heap (address + k)
-    word_stays k below out = no_reference_stays address k (thing name refs nums) here below (not_reference address k refs refs_are out)
+    word_stays : (index : ℕ) → index < 3 + refs + nums → (index < 3) ⊎ (3 + refs ≤ index) → after (address + index) ≡ heap (address + index)
+    word_stays index index_below outside_fields = no_reference_stays address index (thing name refs nums) object_here index_below (not_reference address index refs refs_are outside_fields)
 
-    field_is : (i : ℕ) → i < refs → after (address + 3 + i) ≡ updated_word config memory (heap (address + 3 + i))
-    field_is i below =
-        let place : address + (3 + i) ≡ address + 3 + i = omega arith in
-        let reference : is_reference memory address (address + (3 + i)) ≡ true =
-        and_from (not (fills address) && low_end address (3 + i)) (high_end address (3 + i)) (and_from (not (fills address)) (low_end address (3 + i)) (not_from_false (fills address) (ap is_filler object.2.header)) (le-leb (address + 3) (address + (3 + i)) (omega arith)))
-        (lt-ltb (address + (3 + i)) (address + 3 + refs_in (heap (address + 1))) (omega (arith, below, refs_are))) in
+    field_is : (field : ℕ) → field < refs → after (address + 3 + field) ≡ updated_word config memory (heap (address + 3 + field))
+    field_is field field_below =
+        let place : address + (3 + field) ≡ address + 3 + field = omega arith in
+        let reference : is_reference memory address (address + (3 + field)) ≡ true =
+        and_from (not (fills address) && low_end address (3 + field)) (high_end address (3 + field)) (and_from (not (fills address)) (low_end address (3 + field)) (not_from_false (fills address) (ap is_filler object.2.header)) (le-leb (address + 3) (address + (3 + field)) (omega arith)))
+        (lt-ltb (address + (3 + field)) (address + 3 + refs_in (heap (address + 1))) (omega (arith, field_below, refs_are))) in
         sym (ap after place)
-        ∙ field_updated config memory block copying.between.parsable.plotted copying.between.parsable.filled some sizes address (3 + i) (thing name refs nums) here (omega (arith, below)) stay
-        (plain_is_plain (heap address) object.2.header) (copying.between.marked address (IsMarkable.object name refs nums here)) reference
-        ∙ ap (λ y. updated_word config memory (heap y)) place
+        ∙ field_updated config memory block copying.between.parsable.plotted copying.between.parsable.filled some sizes address (3 + field) (thing name refs nums) object_here (omega (arith, field_below)) stay
+        (plain_is_plain (heap address) object.2.header) (copying.between.marked address (IsMarkable.object name refs nums object_here)) reference
+        ∙ ap (λ field_address. updated_word config memory (heap field_address)) place
 
   -- those of an object that is promised stay, since its references are null
-  pub promised_word : (address seat words k : ℕ) → block address ≡ Some (promised seat words) → k < words → after (address + k) ≡ heap (address + k)
-  promised_word address seat words k here below =
-      let blank = copying.between.unwritten.blanks address seat words here in
-      let stay : stays config memory (region_with config address) ≡ true = stays_outside config memory (region_with config address) (copying.no_promises address seat words here) in
+  pub promised_word : (address seat words index : ℕ) → block address ≡ Some (promised seat words) → index < words → after (address + index) ≡ heap (address + index)
+  promised_word address seat words index promise_here index_below =
+      let blank = copying.between.unwritten.blanks address seat words promise_here in
+      let stay : stays config memory (region_with config address) ≡ true = stays_outside config memory (region_with config address) (copying.no_promises address seat words promise_here) in
       let refs_are : refs_in (heap (address + 1)) ≡ blank.refs = ap refs_in blank.shape ∙ refs_read blank.refs blank.nums blank.few_refs blank.few_nums in
       ⊎_elim
-      (λ (reference : is_reference memory address (address + k) ≡ true).
-      let parts = reference_parts address k reference in
-      let low = parts.1 in
-      let high = parts.2 in
-      let place : address + 3 + (k - 3) ≡ address + k = omega (arith, low) in
-      let null : heap (address + k) ≡ 0 = sym (ap heap place) ∙ blank.nulls (k - 3) (omega (arith, low, high, refs_are)) in
-      field_updated config memory block copying.between.parsable.plotted copying.between.parsable.filled some sizes address k (promised seat words) here below stay
-      (plain_is_plain (heap address) blank.header) (copying.between.marked address (IsMarkable.to_come seat words here)) reference
-      ∙ low_spared config memory (heap (address + k)) (omega (arith, null)))
-      (λ (other : is_reference memory address (address + k) ≡ false). no_reference_stays address k (promised seat words) here below other)
-      (cases_Bool (is_reference memory address (address + k)))
+      (λ (reference : is_reference memory address (address + index) ≡ true).
+      let word_parts = reference_parts address index reference in
+      let low = word_parts.1 in
+      let high = word_parts.2 in
+      let place : address + 3 + (index - 3) ≡ address + index = omega (arith, low) in
+      let null : heap (address + index) ≡ 0 = sym (ap heap place) ∙ blank.nulls (index - 3) (omega (arith, low, high, refs_are)) in
+      field_updated config memory block copying.between.parsable.plotted copying.between.parsable.filled some sizes address index (promised seat words) promise_here index_below stay
+      (plain_is_plain (heap address) blank.header) (copying.between.marked address (IsMarkable.to_come seat words promise_here)) reference
+      ∙ low_spared config memory (heap (address + index)) (omega (arith, null)))
+      (λ (no_reference : is_reference memory address (address + index) ≡ false). no_reference_stays address index (promised seat words) promise_here index_below no_reference)
+      (cases_Bool (is_reference memory address (address + index)))
 
   -- so do those of dead objects, ..
-  dead_word : (address words k : ℕ) → block address ≡ Some (dead words) → k < words → after (address + k) ≡ heap (address + k)
-  dead_word address words k here below = ⊎_elim
+  dead_word : (address words index : ℕ) → block address ≡ Some (dead words) → index < words → after (address + index) ≡ heap (address + index)
+  dead_word address words index dead_here index_below = ⊎_elim
       (λ (stay : stays config memory (region_with config address) ≡ true).
-      dead_stays config memory block copying.between.parsable.plotted copying.between.parsable.filled some sizes address k (dead words) here below stay
-      (copying.between.unmarked address words here) (copying.between.deads address words here))
-      (λ (gone : stays config memory (region_with config address) ≡ false). gone_stays config memory block copying.between.parsable.plotted copying.between.parsable.filled some sizes address k (dead words) here below gone)
+      dead_stays config memory block copying.between.parsable.plotted copying.between.parsable.filled some sizes address index (dead words) dead_here index_below stay
+      (copying.between.unmarked address words dead_here) (copying.between.deads address words dead_here))
+      (λ (region_gone : stays config memory (region_with config address) ≡ false). gone_stays config memory block copying.between.parsable.plotted copying.between.parsable.filled some sizes address index (dead words) dead_here index_below region_gone)
       (cases_Bool (stays config memory (region_with config address)))
 
   -- the header of words that only fill, ..
   filler_word : (address words : ℕ) → block address ≡ Some (filler words) → after address ≡ heap address
-  filler_word address words here =
+  filler_word address words filler_here =
       let first_word : address + 0 ≡ address = omega arith in
-      let some_word = some address (filler words) here in
+      let some_word = some address (filler words) filler_here in
       ap after (sym first_word)
-      ∙ no_reference_stays address 0 (filler words) here some_word
-      (and_left (not (fills address) && low_end address 0) (high_end address 0) (and_left (not (fills address)) (low_end address 0) (ap (λ k. not (is_filler k)) (copying.between.unwritten.fillers address words here) ∙ ap not (filler_fills words))))
+      ∙ no_reference_stays address 0 (filler words) filler_here some_word
+      (and_left (not (fills address) && low_end address 0) (high_end address 0) (and_left (not (fills address)) (low_end address 0) (ap (λ header. not (is_filler header)) (copying.between.unwritten.fillers address words filler_here) ∙ ap not (filler_fills words))))
       ∙ ap heap first_word
 
   -- .. and those of old copies
-  old_word : (address k : ℕ) (piece : Block) → block address ≡ Some piece → is_forwarded (heap address) ≡ true → k < words_of piece → after (address + k) ≡ heap (address + k)
-  old_word address k piece here old below = ⊎_elim
-      (λ (stay : stays config memory (region_with config address) ≡ true). moved_stays config memory block copying.between.parsable.plotted copying.between.parsable.filled some sizes address k piece here below stay old)
-      (λ (gone : stays config memory (region_with config address) ≡ false). gone_stays config memory block copying.between.parsable.plotted copying.between.parsable.filled some sizes address k piece here below gone)
+  old_word : (address index : ℕ) (piece : Block) → block address ≡ Some piece → is_forwarded (heap address) ≡ true → index < words_of piece → after (address + index) ≡ heap (address + index)
+  old_word address index piece piece_here old index_below = ⊎_elim
+      (λ (stay : stays config memory (region_with config address) ≡ true). moved_stays config memory block copying.between.parsable.plotted copying.between.parsable.filled some sizes address index piece piece_here index_below stay old)
+      (λ (region_gone : stays config memory (region_with config address) ≡ false). gone_stays config memory block copying.between.parsable.plotted copying.between.parsable.filled some sizes address index piece piece_here index_below region_gone)
       (cases_Bool (stays config memory (region_with config address)))
 
   -- a word that was updated stands for what it stood for, and is current
@@ -169,123 +169,123 @@ module _ (config : Config) (first memory : Word → ℕ) (block : Plot) (owner :
       ⊎_elim
       (λ (current : block address ≡ Some (thing name body.0 body.1)).
       let spared : updated_word config memory address ≡ address = own_spared address (plain_is_plain (heap address) (copying.between.contents.objects.each address body.0 body.1 name current).2.header) in
-      let there : block (updated_word config memory address) ≡ Some (thing name body.0 body.1) = ap block spared ∙ current in
-      (ap name_at there, IsCurrent.names body.0 body.1 name there))
-      (λ (old : (to : ℕ) × (block address ≡ Some (moved name body.0 body.1 to))).
-      let was = copying.between.moves.moveds address body.0 body.1 old.0 name old.1 in
-      let above = piece_inside config (λ region. memory (Top region)) block copying.between.parsable.plotted address (moved name body.0 body.1 old.0) old.1 in
-      let renewed : updated_word config memory address ≡ old.0 = word_renewed config memory address old.0 above.0 was.inside was.header in
-      let there : block (updated_word config memory address) ≡ Some (thing name body.0 body.1) = ap block renewed ∙ was.copy in
-      (ap name_at there, IsCurrent.names body.0 body.1 name there))
+      let copy_there : block (updated_word config memory address) ≡ Some (thing name body.0 body.1) = ap block spared ∙ current in
+      (ap name_at copy_there, IsCurrent.names body.0 body.1 name copy_there))
+      (λ (old : (new_address : ℕ) × (block address ≡ Some (moved name body.0 body.1 new_address))).
+      let moved_before = copying.between.moves.moveds address body.0 body.1 old.0 name old.1 in
+      let piece_place = piece_inside config (λ region. memory (Top region)) block copying.between.parsable.plotted address (moved name body.0 body.1 old.0) old.1 in
+      let renewed : updated_word config memory address ≡ old.0 = word_renewed config memory address old.0 piece_place.0 moved_before.inside moved_before.header in
+      let copy_there : block (updated_word config memory address) ≡ Some (thing name body.0 body.1) = ap block renewed ∙ moved_before.copy in
+      (ap name_at copy_there, IsCurrent.names body.0 body.1 name copy_there))
       (copy_cases (block address) (body_of name body.0 body.1) body.2)
 
   -- objects stand as before
   thing_again : (address refs nums : ℕ) (name : Name) (object : Object) → block address ≡ Some (thing name refs nums) → IsThing heap block address refs nums name object → IsThing after block address refs nums name object
-  thing_again address refs nums name object here is =
+  thing_again address refs nums name object object_here object_before =
       let first_word : address + 0 ≡ address = omega arith in
       record {
-        header = sym (ap after first_word) ∙ word_stays address refs nums name here 0 (omega arith) (inl (omega arith)) ∙ ap heap first_word ∙ is.header;
-        shape = word_stays address refs nums name here 1 (omega arith) (inl (omega arith)) ∙ is.shape;
-        name_word = word_stays address refs nums name here 2 (omega arith) (inl (omega arith)) ∙ is.name_word;
-        few_refs = is.few_refs;
-        few_nums = is.few_nums;
-        refs_are = is.refs_are;
-        nums_are = is.nums_are;
-        references = λ i reference there.
-            let within : i < length object.refs = slice_get_within object.refs i reference there in
-            let below : i < refs = omega (arith, within, is.refs_are) in
-            subst (λ w. Points block w reference) (sym (field_is address refs nums name here i below)) (updated_points (heap (address + 3 + i)) reference (is.references i reference there)).0;
-        numbers = λ i k there.
-            let within : i < length object.nums = slice_get_within object.nums i k there in
-            let place : address + (3 + refs + i) ≡ address + 3 + refs + i = omega arith in
-            sym (ap after place) ∙ word_stays address refs nums name here (3 + refs + i) (omega (arith, within, is.nums_are)) (inr (omega arith)) ∙ ap heap place ∙ is.numbers i k there;
+        header = sym (ap after first_word) ∙ word_stays address refs nums name object_here 0 (omega arith) (inl (omega arith)) ∙ ap heap first_word ∙ object_before.header;
+        shape = word_stays address refs nums name object_here 1 (omega arith) (inl (omega arith)) ∙ object_before.shape;
+        name_word = word_stays address refs nums name object_here 2 (omega arith) (inl (omega arith)) ∙ object_before.name_word;
+        few_refs = object_before.few_refs;
+        few_nums = object_before.few_nums;
+        refs_are = object_before.refs_are;
+        nums_are = object_before.nums_are;
+        references = λ index reference element_there.
+            let within : index < length object.refs = slice_get_within object.refs index reference element_there in
+            let field_below : index < refs = omega (arith, within, object_before.refs_are) in
+            subst (λ word. Points block word reference) (sym (field_is address refs nums name object_here index field_below)) (updated_points (heap (address + 3 + index)) reference (object_before.references index reference element_there)).0;
+        numbers = λ index number element_there.
+            let within : index < length object.nums = slice_get_within object.nums index number element_there in
+            let place : address + (3 + refs + index) ≡ address + 3 + refs + index = omega arith in
+            sym (ap after place) ∙ word_stays address refs nums name object_here (3 + refs + index) (omega (arith, within, object_before.nums_are)) (inr (omega arith)) ∙ ap heap place ∙ object_before.numbers index number element_there;
       }
 
   pub objects_again : AreObjects after block graph.object
   objects_again = record {
-    each = λ address refs nums name is. let o = copying.between.contents.objects.each address refs nums name is in (o.0, o.1, thing_again address refs nums name o.0 is o.2);
+    each = λ address refs nums name object_there. let object_told = copying.between.contents.objects.each address refs nums name object_there in (object_told.0, object_told.1, thing_again address refs nums name object_told.0 object_there object_told.2);
     once = copying.between.contents.objects.once;
   }
 
   -- each reference is current
-  pub field_current : (address refs nums k : ℕ) (name : Name) → block address ≡ Some (thing name refs nums) → k < refs → IsCurrent block (after (address + 3 + k))
-  field_current address refs nums k name here below = subst (IsCurrent block) (sym (field_is address refs nums name here k below)) (by_object (copying.between.contents.objects.each address refs nums name here))
+  pub field_current : (address refs nums field : ℕ) (name : Name) → block address ≡ Some (thing name refs nums) → field < refs → IsCurrent block (after (address + 3 + field))
+  field_current address refs nums field name object_here field_below = subst (IsCurrent block) (sym (field_is address refs nums name object_here field field_below)) (by_object (copying.between.contents.objects.each address refs nums name object_here))
     where
-      by_object : (object : Object) × (graph.object name ≡ Some object) × IsThing heap block address refs nums name object → IsCurrent block (updated_word config memory (heap (address + 3 + k)))
+      by_object : (object : Object) × (graph.object name ≡ Some object) × IsThing heap block address refs nums name object → IsCurrent block (updated_word config memory (heap (address + 3 + field)))
       by_object object =
-          let is = object.2 in
+          let object_facts = object.2 in
           let null : Reference = None in
-          let there = slice_get-get_or object.0.refs k null (omega (arith, below, is.refs_are)) in
-          (updated_points (heap (address + 3 + k)) (get_or object.0.refs k null) (is.references k (get_or object.0.refs k null) there)).1
+          let reference_there = slice_get-get_or object.0.refs field null (omega (arith, field_below, object_facts.refs_are)) in
+          (updated_points (heap (address + 3 + field)) (get_or object.0.refs field null) (object_facts.references field (get_or object.0.refs field null) reference_there)).1
 
   pub unwritten_again : AreUnwritten after block
   unwritten_again = record {
-    blanks = λ address seat words is.
-        let blank = copying.between.unwritten.blanks address seat words is in
+    blanks = λ address seat words piece_there.
+        let blank = copying.between.unwritten.blanks address seat words piece_there in
         record {
           refs = blank.refs;
           nums = blank.nums;
           long = blank.long;
           few_refs = blank.few_refs;
           few_nums = blank.few_nums;
-          header = (let start : address ≡ address + 0 = omega arith in ap after start ∙ promised_word address seat words 0 is (let long = blank.long in omega (arith, long)) ∙ ap heap (sym start) ∙ blank.header);
-          shape = promised_word address seat words 1 is (let long = blank.long in omega (arith, long)) ∙ blank.shape;
-          nulls = λ i below.
-              let place : address + (3 + i) ≡ address + 3 + i = omega arith in
-              sym (ap after place) ∙ promised_word address seat words (3 + i) is (let long = blank.long in omega (arith, long, below)) ∙ ap heap place ∙ blank.nulls i below;
+          header = (let start : address ≡ address + 0 = omega arith in ap after start ∙ promised_word address seat words 0 piece_there (let long_enough = blank.long in omega (arith, long_enough)) ∙ ap heap (sym start) ∙ blank.header);
+          shape = promised_word address seat words 1 piece_there (let long_enough = blank.long in omega (arith, long_enough)) ∙ blank.shape;
+          nulls = λ field index_below.
+              let place : address + (3 + field) ≡ address + 3 + field = omega arith in
+              sym (ap after place) ∙ promised_word address seat words (3 + field) piece_there (let long_enough = blank.long in omega (arith, long_enough, index_below)) ∙ ap heap place ∙ blank.nulls field index_below;
         };
-    headers = λ address words is.
+    headers = λ address words piece_there.
         let first_word : address + 0 ≡ address = omega arith in
-        let long = copying.between.parsable.deads address words is in
-        sym (ap after first_word) ∙ dead_word address words 0 is (omega (arith, long)) ∙ ap heap first_word ∙ copying.between.unwritten.headers address words is;
-    lengths = λ address words is.
-        let long = copying.between.parsable.deads address words is in
-        ap object_words (dead_word address words 1 is (omega (arith, long))) ∙ copying.between.unwritten.lengths address words is;
-    fillers = λ address words is. filler_word address words is ∙ copying.between.unwritten.fillers address words is;
+        let long_enough = copying.between.parsable.deads address words piece_there in
+        sym (ap after first_word) ∙ dead_word address words 0 piece_there (omega (arith, long_enough)) ∙ ap heap first_word ∙ copying.between.unwritten.headers address words piece_there;
+    lengths = λ address words piece_there.
+        let long_enough = copying.between.parsable.deads address words piece_there in
+        ap object_words (dead_word address words 1 piece_there (omega (arith, long_enough))) ∙ copying.between.unwritten.lengths address words piece_there;
+    fillers = λ address words piece_there. filler_word address words piece_there ∙ copying.between.unwritten.fillers address words piece_there;
   }
 
   pub moves_again : HaveMoved config (memory Cset) after block
   moves_again = record {
-    moveds = λ address refs nums to name is.
-        let was = copying.between.moves.moveds address refs nums to name is in
-        let led = led_is_forwarded (heap address) to was.header in
+    moveds = λ address refs nums new_address name moved_there.
+        let move_before = copying.between.moves.moveds address refs nums new_address name moved_there in
+        let led = led_is_forwarded (heap address) new_address move_before.header in
         let first_word : address + 0 ≡ address = omega arith in
         record {
-          header = sym (ap after first_word) ∙ old_word address 0 (moved name refs nums to) is led (omega arith) ∙ ap heap first_word ∙ was.header;
-          shape = old_word address 1 (moved name refs nums to) is led (omega arith) ∙ was.shape;
-          name_word = old_word address 2 (moved name refs nums to) is led (omega arith) ∙ was.name_word;
-          few_refs = was.few_refs;
-          few_nums = was.few_nums;
-          inside = was.inside;
-          copy = was.copy;
-          outside = was.outside;
-          references = λ k below.
-              let there = was.references k below in
-              let place : address + (3 + k) ≡ address + 3 + k = omega arith in
-              (there.0, subst (λ v. Points block v there.0) (sym (subst (λ d. after d ≡ heap d) place (old_word address (3 + k) (moved name refs nums to) is led (omega (arith, below))))) there.1);
+          header = sym (ap after first_word) ∙ old_word address 0 (moved name refs nums new_address) moved_there led (omega arith) ∙ ap heap first_word ∙ move_before.header;
+          shape = old_word address 1 (moved name refs nums new_address) moved_there led (omega arith) ∙ move_before.shape;
+          name_word = old_word address 2 (moved name refs nums new_address) moved_there led (omega arith) ∙ move_before.name_word;
+          few_refs = move_before.few_refs;
+          few_nums = move_before.few_nums;
+          inside = move_before.inside;
+          copy = move_before.copy;
+          outside = move_before.outside;
+          references = λ field field_below.
+              let reference_there = move_before.references field field_below in
+              let place : address + (3 + field) ≡ address + 3 + field = omega arith in
+              (reference_there.0, subst (λ word. Points block word reference_there.0) (sym (subst (λ word_address. after word_address ≡ heap word_address) place (old_word address (3 + field) (moved name refs nums new_address) moved_there led (omega (arith, field_below))))) reference_there.1);
         };
-    spents = λ address words to is.
-        let was = copying.between.moves.spents address words to is in
-        let led = led_is_forwarded (heap address) to was.header in
-        let long = copying.between.parsable.spents address words to is in
+    spents = λ address words new_address moved_there.
+        let move_before = copying.between.moves.spents address words new_address moved_there in
+        let led = led_is_forwarded (heap address) new_address move_before.header in
+        let long_enough = copying.between.parsable.spents address words new_address moved_there in
         let first_word : address + 0 ≡ address = omega arith in
         record {
-          header = sym (ap after first_word) ∙ old_word address 0 (spent words to) is led (omega (arith, long)) ∙ ap heap first_word ∙ was.header;
-          shape = ap object_words (old_word address 1 (spent words to) is led (omega (arith, long))) ∙ was.shape;
-          inside = was.inside;
-          copy = was.copy;
-          piece = was.piece;
-          there = was.there;
-          long = was.long;
-          outside = was.outside;
+          header = sym (ap after first_word) ∙ old_word address 0 (spent words new_address) moved_there led (omega (arith, long_enough)) ∙ ap heap first_word ∙ move_before.header;
+          shape = ap object_words (old_word address 1 (spent words new_address) moved_there led (omega (arith, long_enough))) ∙ move_before.shape;
+          inside = move_before.inside;
+          copy = move_before.copy;
+          piece = move_before.piece;
+          there = move_before.there;
+          long = move_before.long;
+          outside = move_before.outside;
         };
   }
 
   -- an answer names nothing in the set
   pub answer_stays : (mutator : ℕ) (asking : Asking) → IsAsked memory block graph.count mutator asking → updated_word config memory (memory (Answer mutator)) ≡ memory (Answer mutator)
-  answer_stays mutator nothing asked = low_spared config memory (memory (Answer mutator)) (let none = asked.1 in omega (arith, none))
-  answer_stays mutator (asks refs nums) asked = low_spared config memory (memory (Answer mutator)) (let none = asked.1 in omega (arith, none))
-  answer_stays mutator refused asked = low_spared config memory (memory (Answer mutator)) (let one = asked.1 in omega (arith, one))
+  answer_stays mutator nothing asked = low_spared config memory (memory (Answer mutator)) (let no_answer = asked.1 in omega (arith, no_answer))
+  answer_stays mutator (asks refs nums) asked = low_spared config memory (memory (Answer mutator)) (let no_answer = asked.1 in omega (arith, no_answer))
+  answer_stays mutator refused asked = low_spared config memory (memory (Answer mutator)) (let answer_refuses = asked.1 in omega (arith, answer_refuses))
   answer_stays mutator (given refs nums) asked = word_spared config memory (memory (Answer mutator)) (collected_none config memory (memory (Answer mutator)) (copying.no_promises (memory (Answer mutator)) mutator (3 + refs + nums) asked.2.here))
 
   -- so each piece says how many words it has

@@ -1,4 +1,5 @@
 -- Words that represent a graph hold it: the condition of a full collection.
+use Rattle.heap_words.specs.Phases.{evacuation_phase}
 use Rattle.std.proofs.Common.{◌≡◌, ◌≢◌, ℕ, ◌+◌, ◌-◌, ◌<◌, ◌≤◌, ◌==◌, nat_le, true, false, inl, inr, ⊎_elim, Option, Some, None, refl, sym, ap, ◌∙◌, subst, arith}
 use Rattle.std.specs.Int.{bit_at}
 use Rattle.std.proofs.lemmas.Bool.{cond-false, cases_eq, cases_lt, and_parts, and_from, leb-true, le-leb, eqb-true, eq-eqb, true≢false}
@@ -48,23 +49,23 @@ request_reads memory count mutator refs nums request =
       nums_are = ap nums_in shape ∙ nums_in-shape_word refs nums request.few_refs request.few_nums;
     }
   where
-    reads_shape : (n more less : ℕ) → more ≤ 16 → less ≤ 16 → request_shape_in (request_code n (shape_word more less)) ≡ shape_word more less
-    reads_shape n more less few_refs few_nums = omega (arith, few_refs, few_nums)
+    reads_shape : (count refs nums : ℕ) → refs ≤ 16 → nums ≤ 16 → request_shape_in (request_code count (shape_word refs nums)) ≡ shape_word refs nums
+    reads_shape count refs nums few_refs few_nums = omega (arith, few_refs, few_nums)
 
-    reads_count : (n more less : ℕ) → more ≤ 16 → less ≤ 16 → request_count_in (request_code n (shape_word more less)) ≡ n
-    reads_count n more less few_refs few_nums = omega (arith, few_refs, few_nums)
+    reads_count : (count refs nums : ℕ) → refs ≤ 16 → nums ≤ 16 → request_count_in (request_code count (shape_word refs nums)) ≡ count
+    reads_count count refs nums few_refs few_nums = omega (arith, few_refs, few_nums)
 
 -- and is not 0
 pub waits_for : (memory : Word → ℕ) (count : ℕ → ℕ) (mutator refs nums : ℕ) → IsRequest memory count mutator refs nums → memory (Wait mutator) ≢ 0
-waits_for memory count mutator refs nums request none =
-    let is_zero : request_code (count (mutator + 1) + 1) (shape_word refs nums) ≡ 0 = sym request.wait_is ∙ none in
+waits_for memory count mutator refs nums request zero_wait =
+    let is_zero : request_code (count (mutator + 1) + 1) (shape_word refs nums) ≡ 0 = sym request.wait_is ∙ zero_wait in
     omega (arith, is_zero)
 
 -- a region that is not in a set is outside
 not_in : (set region : ℕ) → (IsIn set region → ⊥) → IsOutside set region
-not_in set region out = ⊎_elim
-    (λ (none : bit_at set region ≡ 0). none)
-    (λ (some : bit_at set region ≢ 0). absurd (out (omega (arith, some))))
+not_in set region not_member = ⊎_elim
+    (λ (bit_clear : bit_at set region ≡ 0). bit_clear)
+    (λ (bit_not_clear : bit_at set region ≢ 0). absurd (not_member (omega (arith, bit_not_clear))))
     (cases_eq (bit_at set region) 0)
 
 -- who waits has asked, and is promised nothing
@@ -78,11 +79,11 @@ module _ (config : Config) (memory : Word → ℕ) (graph : Graph) (asking : ℕ
   abbrev promises : Promises
   promises = promises_of config graph asking
 
-  waiting_by : (mutator : ℕ) (x : Asking) → asking mutator ≡ x → IsAsked memory represents_by_copies.block graph.count mutator x → memory (Wait mutator) ≢ 0 → HasAsked memory graph asking mutator
-  waiting_by mutator nothing is asked waits = absurd (waits asked.0)
-  waiting_by mutator (asks refs nums) is asked waits = record { refs = refs; nums = nums; is_asking = is; request = asked.0 }
-  waiting_by mutator refused is asked waits = absurd (waits asked.0)
-  waiting_by mutator (given refs nums) is asked waits = absurd (waits asked.0)
+  waiting_by : (mutator : ℕ) (mutator_asking : Asking) → asking mutator ≡ mutator_asking → IsAsked memory represents_by_copies.block graph.count mutator mutator_asking → memory (Wait mutator) ≢ 0 → HasAsked memory graph asking mutator
+  waiting_by mutator nothing asking_is asked waits = absurd (waits asked.0)
+  waiting_by mutator (asks refs nums) asking_is asked waits = record { refs = refs; nums = nums; is_asking = asking_is; request = asked.0 }
+  waiting_by mutator refused asking_is asked waits = absurd (waits asked.0)
+  waiting_by mutator (given refs nums) asking_is asked waits = absurd (waits asked.0)
 
   pub who_waits : (mutator : ℕ) → mutator < config.mutators → memory (Wait mutator) ≢ 0 → HasAsked memory graph asking mutator
   who_waits mutator inside waits = waiting_by mutator (asking mutator) refl (represents_by_copies.asked mutator inside) waits
@@ -97,12 +98,12 @@ module _ (config : Config) (memory : Word → ℕ) (graph : Graph) (asking : ℕ
   pub next_asked : (mutator : ℕ) → mutator < config.mutators → memory (Wait mutator) ≢ 0 → asked_name memory mutator ≡ fresh graph (mutator + 1)
   next_asked mutator inside waits =
       let asked = who_waits mutator inside waits in
-      ap (λ (k : ℕ). record { thread = mutator + 1; count = k }) (request_reads memory graph.count mutator asked.refs asked.nums asked.request).counted
+      ap (λ (count : ℕ). record { thread = mutator + 1; count = count }) (request_reads memory graph.count mutator asked.refs asked.nums asked.request).counted
 
   -- which is no object yet
-  no_object : (name : Name) (found : Option Object) → graph.object name ≡ found → (t : ℕ) → name ≡ fresh graph (t + 1) → graph.object name ≡ None
-  no_object name None is t next = is
-  no_object name (Some found) is t next = absurd (not_next config memory graph asking represents_by_copies name found t is next)
+  no_object : (name : Name) (found : Option Object) → graph.object name ≡ found → (mutator : ℕ) → name ≡ fresh graph (mutator + 1) → graph.object name ≡ None
+  no_object name None object_found mutator next_name = object_found
+  no_object name (Some found) object_found mutator next_name = absurd (not_next config memory graph asking represents_by_copies name found mutator object_found next_name)
 
   pub are_asking : (mutator : ℕ) → mutator < config.mutators → memory (Wait mutator) ≢ 0 → IsAsking memory graph promises mutator
   are_asking mutator inside waits =
@@ -111,37 +112,37 @@ module _ (config : Config) (memory : Word → ℕ) (graph : Graph) (asking : ℕ
       let name : Name = asked_name memory mutator in
       let nothing_yet : promises.ref (mutator + 1) ≡ None = ref_of config graph asking mutator inside ∙ ap (promised_ref graph (mutator + 1)) asked.is_asking in
       record {
-        shape = reads.shaped ∙ sym (ap (λ k. shape_word k asked.nums) reads.refs_are) ∙ sym (ap (shape_word (refs_in (asked_shape memory mutator))) reads.nums_are);
+        shape = reads.shaped ∙ sym (ap (λ value. shape_word value asked.nums) reads.refs_are) ∙ sym (ap (shape_word (refs_in (asked_shape memory mutator))) reads.nums_are);
         few_refs = omega (arith, reads.refs_are, asked.request.few_refs);
         few_nums = omega (arith, reads.nums_are, asked.request.few_nums);
         unanswered = unanswered_by mutator (asking mutator) (represents_by_copies.asked mutator inside) waits;
         new =
-            cond-false (same_reference (promises.ref (mutator + 1)) (Some name)) (Some (blank (promises.refs (mutator + 1)) (promises.nums (mutator + 1)))) (graph.object name) (ap (λ k. same_reference k (Some name)) nothing_yet)
+            cond-false (same_reference (promises.ref (mutator + 1)) (Some name)) (Some (blank (promises.refs (mutator + 1)) (promises.nums (mutator + 1)))) (graph.object name) (ap (λ value. same_reference value (Some name)) nothing_yet)
             ∙ no_object name (graph.object name) refl mutator (next_asked mutator inside waits);
       }
 
   -- what is promised is not reached
   pub are_fresh : AreFresh config.mutators graph promises
   are_fresh = record {
-    own = λ t n is. let one = promised_one config graph asking t n is in ap (λ (name : Name). name.thread) one.4;
-    few = λ t n is. let one = promised_one config graph asking t n is in omega (arith, one.1, one.2);
-    fresh = λ t n is reached.
-        let one = promised_one config graph asking t n is in
-        let at = reached_at config memory graph asking represents_by_copies n reached in
-        let o = represents_by_copies.shared.contents.objects.each at.0 at.1 at.2 n at.3 in
-        not_next config memory graph asking represents_by_copies n o.0 one.0 o.1 (one.4 ∙ ap (fresh graph) one.2);
+    own = λ thread promised_name name_promised. let promised_thing = promised_one config graph asking thread promised_name name_promised in ap (λ (name : Name). name.thread) promised_thing.4;
+    few = λ thread promised_name name_promised. let promised_thing = promised_one config graph asking thread promised_name name_promised in omega (arith, promised_thing.1, promised_thing.2);
+    fresh = λ thread promised_name name_promised reached.
+        let promised_thing = promised_one config graph asking thread promised_name name_promised in
+        let copy_reached = reached_at config memory graph asking represents_by_copies promised_name reached in
+        let old_object = represents_by_copies.shared.contents.objects.each copy_reached.0 copy_reached.1 copy_reached.2 promised_name copy_reached.3 in
+        not_next config memory graph asking represents_by_copies promised_name old_object.0 promised_thing.0 old_object.1 (promised_thing.4 ∙ ap (fresh graph) promised_thing.2);
   }
 
   -- where a header leads on, an old copy is
   moved_by : (address refs nums : ℕ) (name : Name) → is_forwarded (memory (Heap address)) ≡ true → Kind config memory graph asking represents_by_copies address refs nums name → HasMoved config memory (live config memory graph asking represents_by_copies) address refs nums name
-  moved_by address refs nums name forwarded (is_current here) = absurd (true≢false (sym forwarded ∙ ap is_forwarded (header_of config memory graph asking represents_by_copies address here)))
-  moved_by address refs nums name forwarded (is_old to was) =
-      let there = led_to memory address to was.header in
+  moved_by address refs nums name forwarded (is_current current_there) = absurd (true≢false (sym forwarded ∙ ap is_forwarded (header_of config memory graph asking represents_by_copies address current_there)))
+  moved_by address refs nums name forwarded (is_old copy old_copy) =
+      let leads_there = led_to memory address copy old_copy.header in
       record {
-        in_set = was.inside;
-        copy = ap (live config memory graph asking represents_by_copies) there ∙ was.same;
-        outside = not_in (memory Cset) (region_with config (now_in memory address)) (λ inside. was.outside (subst (λ k. IsCollected config (memory Cset) k) there inside));
-        current = ap (λ address. is_forwarded (memory (Heap address))) there ∙ ap is_forwarded (header_of config memory graph asking represents_by_copies to was.copy);
+        in_set = old_copy.inside;
+        copy = ap (live config memory graph asking represents_by_copies) leads_there ∙ old_copy.same;
+        outside = not_in (memory Cset) (region_with config (now_in memory address)) (λ inside. old_copy.outside (subst (λ place. IsCollected config (memory Cset) place) leads_there inside));
+        current = ap (λ address. is_forwarded (memory (Heap address))) leads_there ∙ ap is_forwarded (header_of config memory graph asking represents_by_copies copy old_copy.copy);
       }
 
   -- so the image holds the graph
@@ -149,7 +150,7 @@ module _ (config : Config) (memory : Word → ℕ) (graph : Graph) (asking : ℕ
   holds_by = record {
     objects = live_holds config memory graph asking represents_by_copies;
     rooted = live_rooted config memory graph asking represents_by_copies;
-    moved = λ address refs nums name is forwarded. moved_by address refs nums name forwarded (kind_at config memory graph asking represents_by_copies address refs nums name is);
+    moved = λ address refs nums name thing_there forwarded. moved_by address refs nums name forwarded (kind_at config memory graph asking represents_by_copies address refs nums name thing_there);
     filled = live_filled config memory graph asking represents_by_copies;
     pieces = record {
       named = old_thing config memory graph asking represents_by_copies;
@@ -164,7 +165,7 @@ module _ (config : Config) (memory : Word → ℕ) (graph : Graph) (asking : ℕ
     asking = λ mutator from inside waits. are_asking mutator inside waits;
     next = record {
       asked = λ mutator inside waits. let asked = who_waits mutator inside waits in (request_reads memory graph.count mutator asked.refs asked.nums asked.request).counted;
-      promised = λ t name is. (promised_one config graph asking t name is).4;
+      promised = λ thread name thing_there. (promised_one config graph asking thread name thing_there).4;
       given = represents_by_copies.shared.contents.given;
     };
     unreached = are_fresh;
@@ -180,18 +181,18 @@ module _ (config : Config) (memory : Word → ℕ) (graph : Graph) (asking : ℕ
   -- what is loose is so in the larger graph
   not_loose : (piece : Block) → is_loose (as_object graph asking represents_by_copies.block piece) ≡ false → is_loose piece ≡ false
   not_loose (thing name refs nums) fixed = refl
-  not_loose (moved name refs nums to) fixed = refl
-  not_loose (spent words to) fixed = refl
+  not_loose (moved name refs nums copy) fixed = refl
+  not_loose (spent words copy) fixed = refl
   not_loose (promised seat words) fixed = refl
   not_loose _ fixed = fixed
 
   pub are_sized : AreSized memory (live config memory graph asking represents_by_copies)
   are_sized = record {
-    objects = λ a b is fixed.
-        let was = mapped_from (as_object graph asking represents_by_copies.block) represents_by_copies.block a b is in
-        were_sized.objects a was.0 was.1 (not_loose was.0 (ap is_loose was.2 ∙ fixed)) ∙ sym (same_words config memory graph asking represents_by_copies a was.0 was.1) ∙ ap words_of was.2;
-    headers = λ address piece is fixed. let was = mapped_from (as_object graph asking represents_by_copies.block) represents_by_copies.block address piece is in were_sized.headers address was.0 was.1 (not_loose was.0 (ap is_loose was.2 ∙ fixed));
-    fillers = λ a words is. were_sized.fillers a words (live_filler config memory graph asking represents_by_copies a words is);
+    objects = λ object_address object_piece piece_there fixed.
+        let old_piece = mapped_from (as_object graph asking represents_by_copies.block) represents_by_copies.block object_address object_piece piece_there in
+        were_sized.objects object_address old_piece.0 old_piece.1 (not_loose old_piece.0 (ap is_loose old_piece.2 ∙ fixed)) ∙ sym (same_words config memory graph asking represents_by_copies object_address old_piece.0 old_piece.1) ∙ ap words_of old_piece.2;
+    headers = λ address piece piece_there fixed. let old_piece = mapped_from (as_object graph asking represents_by_copies.block) represents_by_copies.block address piece piece_there in were_sized.headers address old_piece.0 old_piece.1 (not_loose old_piece.0 (ap is_loose old_piece.2 ∙ fixed));
+    fillers = λ object_address words piece_there. were_sized.fillers object_address words (live_filler config memory graph asking represents_by_copies object_address words piece_there);
   }
 
   pub holds_sized : HoldsSized config memory
@@ -199,43 +200,43 @@ module _ (config : Config) (memory : Word → ℕ) (graph : Graph) (asking : ℕ
 
   -- what is marked in the collection set are objects
   pub are_marked : AreMarkedObjects config memory (live config memory graph asking represents_by_copies)
-  are_marked a collected black = ⊎_elim
+  are_marked asked_address collected black = ⊎_elim
       (λ (low : memory Phase < 2).
-      let none : bit_at (memory Cset) (region_with config a) ≡ 0 = ap (λ k. bit_at k (region_with config a)) (represents_by_copies.shared.phased.cset_is low) ∙ bit_at-zero (region_with config a) in
-      absurd (omega (arith, none, set)))
-      (λ (high : 2 ≤ memory Phase). of_copy ((represents_by_copies.shared.evacuated.kept high).only a above mark set))
+      let no_bit : bit_at (memory Cset) (region_with config asked_address) ≡ 0 = ap (λ cset. bit_at cset (region_with config asked_address)) (represents_by_copies.shared.phased.cset_is low) ∙ bit_at-zero (region_with config asked_address) in
+      absurd (omega (arith, no_bit, set)))
+      (λ (high : 2 ≤ memory Phase). of_copy ((represents_by_copies.shared.evacuated.kept high).only asked_address above mark set))
       (cases_lt (memory Phase) 2)
     where
-      parts : (nat_le config.region_words a ≡ true) × ((bit_at (memory Cset) (region_with config a) == 1) ≡ true)
-      parts = and_parts (nat_le config.region_words a) (bit_at (memory Cset) (region_with config a) == 1) collected
+      parts : (nat_le config.region_words asked_address ≡ true) × ((bit_at (memory Cset) (region_with config asked_address) == 1) ≡ true)
+      parts = and_parts (nat_le config.region_words asked_address) (bit_at (memory Cset) (region_with config asked_address) == 1) collected
 
-      above : config.region_words ≤ a
-      above = leb-true config.region_words a parts.0
+      above : config.region_words ≤ asked_address
+      above = leb-true config.region_words asked_address parts.0
 
-      set : IsCollected config (memory Cset) a
-      set = eqb-true (bit_at (memory Cset) (region_with config a)) 1 parts.1
+      set : IsCollected config (memory Cset) asked_address
+      set = eqb-true (bit_at (memory Cset) (region_with config asked_address)) 1 parts.1
 
-      mark : HasMark config (λ number. memory (Black number)) a
-      mark = eqb-true (bit_at (memory (Black (mark_word config a))) (mark_bit config a)) 1 (and_parts (nat_le config.region_words a) (bit_at (memory (Black (mark_word config a))) (mark_bit config a) == 1) black).1
+      mark : HasMark config (λ number. memory (Black number)) asked_address
+      mark = eqb-true (bit_at (memory (Black (mark_word config asked_address))) (mark_bit config asked_address)) 1 (and_parts (nat_le config.region_words asked_address) (bit_at (memory (Black (mark_word config asked_address))) (mark_bit config asked_address) == 1) black).1
 
       -- each of them is an object of the larger graph
-      object_there : (piece : Block) → represents_by_copies.block a ≡ Some piece → (name : Name) × (refs : ℕ) × (nums : ℕ) × (as_object graph asking represents_by_copies.block piece ≡ thing name refs nums) → HasObject (live config memory graph asking represents_by_copies) a
-      object_there piece is one = (thing one.0 one.1 one.2, live_at config memory graph asking represents_by_copies a piece is ∙ ap Some one.3, refl)
+      object_there : (piece : Block) → represents_by_copies.block asked_address ≡ Some piece → (name : Name) × (refs : ℕ) × (nums : ℕ) × (as_object graph asking represents_by_copies.block piece ≡ thing name refs nums) → HasObject (live config memory graph asking represents_by_copies) asked_address
+      object_there piece piece_there object_name = (thing object_name.0 object_name.1 object_name.2, live_at config memory graph asking represents_by_copies asked_address piece piece_there ∙ ap Some object_name.3, refl)
 
-      of_copy : HasCopy represents_by_copies.block a → HasObject (live config memory graph asking represents_by_copies) a
-      of_copy (HasCopy.copy body is) = ⊎_elim
-          (λ (now : represents_by_copies.block a ≡ Some (thing body.name body.refs body.nums)). object_there (thing body.name body.refs body.nums) now (body.name, body.refs, body.nums, refl))
-          (λ (old : (to : ℕ) × (represents_by_copies.block a ≡ Some (moved body.name body.refs body.nums to))).
+      of_copy : HasCopy represents_by_copies.block asked_address → HasObject (live config memory graph asking represents_by_copies) asked_address
+      of_copy (HasCopy.copy body copy_there) = ⊎_elim
+          (λ (thing_now : represents_by_copies.block asked_address ≡ Some (thing body.name body.refs body.nums)). object_there (thing body.name body.refs body.nums) thing_now (body.name, body.refs, body.nums, refl))
+          (λ (old : (copy : ℕ) × (represents_by_copies.block asked_address ≡ Some (moved body.name body.refs body.nums copy))).
           object_there (moved body.name body.refs body.nums old.0) old.1 (body.name, body.refs, body.nums, refl))
-          (copy_cases (represents_by_copies.block a) body is)
-      of_copy (HasCopy.spent_copy words to is) = ⊎_elim (object_there (spent words to) is) (λ fills. absurd fills) (pieces_are config memory graph asking represents_by_copies a (spent words to) is)
+          (copy_cases (represents_by_copies.block asked_address) body copy_there)
+      of_copy (HasCopy.spent_copy words copy copy_there) = ⊎_elim (object_there (spent words copy) copy_there) (λ fills. absurd fills) (pieces_are config memory graph asking represents_by_copies asked_address (spent words copy) copy_there)
 
   -- a region in the set means that one of the phases of evacuation and updating runs
   high_phase : memory Cset ≢ 0 → 2 ≤ memory Phase
   high_phase positive = ⊎_elim (λ (low : memory Phase < 2). absurd (positive (represents_by_copies.shared.phased.cset_is low))) (λ (high : 2 ≤ memory Phase). high) (cases_lt (memory Phase) 2)
 
   set_member : (region : ℕ) → IsIn (memory Cset) region → memory Cset ≢ 0
-  set_member region member none = (let bit : bit_at (memory Cset) region ≡ 0 = ap (λ k. bit_at k region) none ∙ bit_at-zero region in omega (arith, bit, member))
+  set_member region member zero_set = (let bit : bit_at (memory Cset) region ≡ 0 = ap (λ cset. bit_at cset region) zero_set ∙ bit_at-zero region in omega (arith, bit, member))
 
   -- what can be reached is marked, or new
   kept_of : memory Cset ≢ 0 → (address : ℕ) → IsMarkable represents_by_copies.block address → IsKept config memory address
@@ -247,29 +248,29 @@ module _ (config : Config) (memory : Word → ℕ) (graph : Graph) (asking : ℕ
       ((represents_by_copies.shared.evacuated.kept (high_phase positive)).objects address markable)
     where
       lies : IsMarkable represents_by_copies.block address → config.region_words ≤ address
-      lies (IsMarkable.object name refs nums is) = (piece_inside config (λ region. memory (Top region)) represents_by_copies.block represents_by_copies.shared.parsable.plotted address (thing name refs nums) is).0
-      lies (IsMarkable.to_come seat words is) = (piece_inside config (λ region. memory (Top region)) represents_by_copies.block represents_by_copies.shared.parsable.plotted address (promised seat words) is).0
+      lies (IsMarkable.object name refs nums piece_there) = (piece_inside config (λ region. memory (Top region)) represents_by_copies.block represents_by_copies.shared.parsable.plotted address (thing name refs nums) piece_there).0
+      lies (IsMarkable.to_come seat words piece_there) = (piece_inside config (λ region. memory (Top region)) represents_by_copies.block represents_by_copies.shared.parsable.plotted address (promised seat words) piece_there).0
 
   -- and once objects are not evacuated any more lies outside of the set
-  outside_of : memory Phase ≢ 2 → (address : ℕ) → IsMarkable represents_by_copies.block address → IsCollected config (memory Cset) address → ⊥
-  outside_of off address (IsMarkable.object name refs nums is) member =
+  outside_of : memory Phase ≢ evacuation_phase → (address : ℕ) → IsMarkable represents_by_copies.block address → IsCollected config (memory Cset) address → ⊥
+  outside_of not_evacuating address (IsMarkable.object name refs nums piece_there) member =
       let high = high_phase (set_member (region_with config address) member) in
-      let most = represents_by_copies.shared.phased.phase_is in
-      (represents_by_copies.shared.updated (omega (arith, off, high, most))).outside address refs nums name is member
-  outside_of off address (IsMarkable.to_come seat words is) member = represents_by_copies.shared.evacuated.aside.no_promises address seat words is member
+      let phase_limits = represents_by_copies.shared.phased.phase_is in
+      (represents_by_copies.shared.updated (omega (arith, not_evacuating, high, phase_limits))).outside address refs nums name piece_there member
+  outside_of not_evacuating address (IsMarkable.to_come seat words piece_there) member = represents_by_copies.shared.evacuated.aside.no_promises address seat words piece_there member
 
   pub while_collecting : WhileCollecting config memory (live config memory graph asking represents_by_copies)
   while_collecting = record {
     marked = are_marked;
-    reachable = λ some address reached. kept_of some address (held_current config memory graph asking represents_by_copies address reached);
+    reachable = λ some_set address reached. kept_of some_set address (held_current config memory graph asking represents_by_copies address reached);
     no_new = represents_by_copies.shared.evacuated.aside.no_new;
-    floors = λ some. (represents_by_copies.shared.evacuated.kept (high_phase some)).floors;
-    young = λ some a seat x is room. (represents_by_copies.shared.evacuated.kept (high_phase some)).young a seat x (live_room config memory graph asking represents_by_copies a seat x is room) room;
+    floors = λ some_set. (represents_by_copies.shared.evacuated.kept (high_phase some_set)).floors;
+    young = λ some_set room_address seat room_piece room_there room. (represents_by_copies.shared.evacuated.kept (high_phase some_set)).young room_address seat room_piece (live_room config memory graph asking represents_by_copies room_address seat room_piece room_there room) room;
     unseated = λ seat region ends member. represents_by_copies.shared.owned.outside seat ends.0 (subst (IsIn (memory Cset)) (sym (regions_tile.of_no_other config region (end_in (memory (Current seat)) - 1) ends.1)) member);
-    outside = λ off address reached member. absurd (outside_of off address (held_current config memory graph asking represents_by_copies address reached) member);
+    outside = λ not_evacuating address reached member. absurd (outside_of not_evacuating address (held_current config memory graph asking represents_by_copies address reached) member);
   }
 
 pub representing_is_sized : RepresentingIsSized
-representing_is_sized c m g asking r =
-    let by = by_copies c m g asking r in
-    (live c m g asking by, by.ghost.owner, promises_of c g asking, holds_by c m g asking by, are_sized c m g asking by, while_collecting c m g asking by)
+representing_is_sized config memory graph asking represents =
+    let represented_copies = by_copies config memory graph asking represents in
+    (live config memory graph asking represented_copies, represented_copies.ghost.owner, promises_of config graph asking, holds_by config memory graph asking represented_copies, are_sized config memory graph asking represented_copies, while_collecting config memory graph asking represented_copies)

@@ -7,41 +7,41 @@ use Rattle.heap_world.specs.World.{Block, words_of, Plot, IsInUse, IsPlotted, Is
 use Rattle.cycle_words.proofs.Marking.Pruned.{from_option}
 
 abbrev pub mapped : (Block → Block) → Plot → Plot
-mapped f block a = option_map f (block a)
+mapped f block address = option_map f (block address)
 
 pub mapped_at : (f : Block → Block) (block : Plot) (address : ℕ) (piece : Block) → block address ≡ Some piece → mapped f block address ≡ Some (f piece)
-mapped_at f block address piece is = ap (option_map f) is
+mapped_at f block address piece piece_there = ap (option_map f) piece_there
 
 -- the piece that there was
-pub mapped_from : (f : Block → Block) (block : Plot) (address : ℕ) (piece : Block) → mapped f block address ≡ Some piece → (other_piece : Block) × (block address ≡ Some other_piece) × (f other_piece ≡ piece)
-mapped_from f block address piece is = from_option f (block address) piece is
+pub mapped_from : (f : Block → Block) (block : Plot) (address : ℕ) (piece : Block) → mapped f block address ≡ Some piece → (old_piece : Block) × (block address ≡ Some old_piece) × (f old_piece ≡ piece)
+mapped_from f block address piece piece_mapped = from_option f (block address) piece piece_mapped
 
-module _ (config : Config) (top : ℕ → ℕ) (block : Plot) (f : Block → Block) (same : (a : ℕ) (b : Block) → block a ≡ Some b → words_of (f b) ≡ words_of b) where
+module _ (config : Config) (top : ℕ → ℕ) (block : Plot) (f : Block → Block) (keeps_words : (piece_address : ℕ) (some_piece : Block) → block piece_address ≡ Some some_piece → words_of (f some_piece) ≡ words_of some_piece) where
   -- the words of a piece and of what there was
-  size : (address : ℕ) (piece : Block) (was : (x : Block) × (block address ≡ Some x) × (f x ≡ piece)) → words_of was.0 ≡ words_of piece
-  size address piece was = sym (same address was.0 was.1) ∙ ap words_of was.2
+  size : (address : ℕ) (piece : Block) (old_piece : (old : Block) × (block address ≡ Some old) × (f old ≡ piece)) → words_of old_piece.0 ≡ words_of piece
+  size address piece old_piece = sym (keeps_words address old_piece.0 old_piece.1) ∙ ap words_of old_piece.2
 
   pub plotted_alike : IsPlotted config top block → IsPlotted config top (mapped f block)
   plotted_alike plotted = record {
     tops = plotted.tops;
-    in_use = λ address piece is. let was = mapped_from f block address piece is in subst (λ words. IsInUse config top address words) (size address piece was) (plotted.in_use address was.0 was.1);
-    apart = λ a b x y is_x is_y before.
-        let was_x = mapped_from f block a x is_x in
-        let was_y = mapped_from f block b y is_y in
-        let far = plotted.apart a b was_x.0 was_y.0 was_x.1 was_y.1 before in
-        omega (arith, far, size a x was_x);
+    in_use = λ address piece piece_mapped. let old_piece = mapped_from f block address piece piece_mapped in subst (λ words. IsInUse config top address words) (size address piece old_piece) (plotted.in_use address old_piece.0 old_piece.1);
+    apart = λ first_address second_address first_piece second_piece first_mapped second_mapped before.
+        let was_x = mapped_from f block first_address first_piece first_mapped in
+        let was_y = mapped_from f block second_address second_piece second_mapped in
+        let old_apart = plotted.apart first_address second_address was_x.0 was_y.0 was_x.1 was_y.1 before in
+        omega (arith, old_apart, size first_address first_piece was_x);
   }
 
   -- where there was a piece there is one
   there : (address : ℕ) → (piece : Block) × (block address ≡ Some piece) → (piece : Block) × (mapped f block address ≡ Some piece)
-  there address was = (f was.0, mapped_at f block address was.0 was.1)
+  there address old_piece = (f old_piece.0, mapped_at f block address old_piece.0 old_piece.1)
 
   pub filled_alike : IsFilled config top block → IsFilled config top (mapped f block)
   filled_alike filled = record {
-    first = λ r inside used. there (base_of config r) (filled.first r inside used);
-    next = λ r a x inside from is below.
-        let was = mapped_from f block a x is in
-        let long = size a x was in
-        subst (λ w. (piece : Block) × (mapped f block (a + w) ≡ Some piece)) long
-        (there (a + words_of was.0) (filled.next r a was.0 inside from was.1 (omega (arith, below, long))));
+    first = λ region inside used. there (base_of config region) (filled.first region inside used);
+    next = λ region address mapped_piece inside from piece_mapped end_below.
+        let old_piece = mapped_from f block address mapped_piece piece_mapped in
+        let same_words = size address mapped_piece old_piece in
+        subst (λ words. (piece : Block) × (mapped f block (address + words) ≡ Some piece)) same_words
+        (there (address + words_of old_piece.0) (filled.next region address old_piece.0 inside from old_piece.1 (omega (arith, end_below, same_words))));
   }

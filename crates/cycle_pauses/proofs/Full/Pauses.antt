@@ -22,16 +22,16 @@ use Rattle.cycle_pauses.proofs.Full.Crowds.{is_crowded}
 use Rattle.cycle_pauses.proofs.Full.Images.{image_length, image_is_full, table_is_full}
 
 -- What a pause owes says nothing of the words before it but that they stand for the graph.
-pub paused_from : (config : Config) (before other after : Word → ℕ) (graph : Graph) (asking : ℕ → Asking) → IsPaused config before after graph asking → IsPaused config other after graph asking
-paused_from config before other after graph asking paused = record { asked_then = paused.asked_then; stands = paused.stands; answers = paused.answers; crowded = paused.crowded }
+pub paused_from : (config : Config) (before before_settling after : Word → ℕ) (graph : Graph) (asking : ℕ → Asking) → IsPaused config before after graph asking → IsPaused config before_settling after graph asking
+paused_from config before before_settling after graph asking paused = record { asked_then = paused.asked_then; stands = paused.stands; answers = paused.answers; crowded = paused.crowded }
 
 -- once buffers were let go
 pub let_go_paused : (config : Config) (memory : Word → ℕ) (graph : Graph) (asking : ℕ → Asking) → RepresentsByCopies config memory graph asking → HasNoBuffers config memory → IsPaused config memory (full_from config memory) graph asking
 let_go_paused config memory graph asking represents_by_copies bare = record {
   asked_then = asked_then config memory graph asking represents_by_copies;
   stands = represents_again config memory graph asking represents_by_copies bare;
-  answers = λ t inside. is_answer (asking t) _;
-  crowded = λ t refs nums inside is refused. is_crowded config memory graph asking represents_by_copies t refs nums inside is refused;
+  answers = λ mutator inside. is_answer (asking mutator) _;
+  crowded = λ mutator refs nums inside asks_now refused. is_crowded config memory graph asking represents_by_copies mutator refs nums inside asks_now refused;
 }
 
 -- packing reads no buffer
@@ -65,26 +65,26 @@ packed_trimmed config memory Share = refl
 -- So a full collection is a pause, whatever buffers without free words there are.
 pub paused : (config : Config) (memory : Word → ℕ) (graph : Graph) (asking : ℕ → Asking) → RepresentsByCopies config memory graph asking → IsPaused config memory (full config memory) graph asking
 paused config memory graph asking represents_by_copies =
-    subst (λ w. IsPaused config memory w graph asking) (ap (λ (memory : Word → ℕ). refused (served config memory config.mutators)) (fun_ext (packed_trimmed config (let_go config memory))))
+    subst (λ after. IsPaused config memory after graph asking) (ap (λ (memory : Word → ℕ). refused (served config memory config.mutators)) (fun_ext (packed_trimmed config (let_go config memory))))
     (paused_from config (trim (let_go config memory)) memory (full_from config (trim (let_go config memory))) graph asking (let_go_paused config (trim (let_go config memory)) graph asking (trimmed_copies config memory graph asking represents_by_copies)
-    (λ seat below. trimmed_none (currents_of (let_go config memory)) seat (letting_go_leaves config memory seat below))))
+    (λ seat seat_below. trimmed_none (currents_of (let_go config memory)) seat (letting_go_leaves config memory seat seat_below))))
 
 pub from_copies : FullFromCopies
 from_copies = paused
 
 pub representing_holds : RepresentingHolds
-representing_holds c m g asking r = holds_sized c m g asking (by_copies c m g asking r)
+representing_holds config memory graph asking represents = holds_sized config memory graph asking (by_copies config memory graph asking represents)
 
 pub is_full : ImageIsFull
-is_full c image long holds = image_is_full c image holds
+is_full config image whole_image holds = image_is_full config image holds
 
 pub is_whole : TableIsFull
-is_whole c image table long whole holds is = table_is_full c image table whole holds is
+is_whole config image table whole_image whole_table holds same_view = table_is_full config image table whole_table holds same_view
 
 pub full_is_pause : FullIsPause
 full_is_pause = record {
-  long = λ config image long. image_length config image;
-  pauses = λ c image g asking long r due.
-      subst (λ after. IsPaused c (image_view c image) after g asking) (sym (image_is_full c image (holds_some c (image_view c image) g asking (by_copies c (image_view c image) g asking r))))
-      (paused c (image_view c image) g asking (by_copies c (image_view c image) g asking r));
+  long = λ config image whole_image. image_length config image;
+  pauses = λ given_config image graph asking whole_image represents due.
+      subst (λ after. IsPaused given_config (image_view given_config image) after graph asking) (sym (image_is_full given_config image (holds_some given_config (image_view given_config image) graph asking (by_copies given_config (image_view given_config image) graph asking represents))))
+      (paused given_config (image_view given_config image) graph asking (by_copies given_config (image_view given_config image) graph asking represents));
 }

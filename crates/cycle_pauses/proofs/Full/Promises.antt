@@ -24,14 +24,14 @@ promised_nums _ = 0
 
 -- whether a number is a thread's
 abbrev is_thread : Config → ℕ → Bool
-is_thread config t = nat_le 1 t && nat_le t config.mutators
+is_thread config thread = nat_le 1 thread && nat_le thread config.mutators
 
 -- what all threads are promised; the asking of thread t is that of mutator t - 1
 abbrev pub promises_of : Config → Graph → (ℕ → Asking) → Promises
 promises_of config graph asking = record {
   ref = λ thread. if is_thread config thread then promised_ref graph thread (asking (thread - 1)) else None;
-  refs = λ t. promised_refs (asking (t - 1));
-  nums = λ t. promised_nums (asking (t - 1));
+  refs = λ mutator. promised_refs (asking (mutator - 1));
+  nums = λ mutator. promised_nums (asking (mutator - 1));
 }
 
 module _ (config : Config) (graph : Graph) (asking : ℕ → Asking) where
@@ -42,33 +42,33 @@ module _ (config : Config) (graph : Graph) (asking : ℕ → Asking) where
   ref_of mutator inside =
       cond-true (is_thread config (mutator + 1)) (promised_ref graph (mutator + 1) (asking (mutator + 1 - 1))) None
       (and_from (nat_le 1 (mutator + 1)) (nat_le (mutator + 1) config.mutators) (le-leb 1 (mutator + 1) (omega arith)) (le-leb (mutator + 1) config.mutators (omega (arith, inside))))
-      ∙ ap (λ k. promised_ref graph (mutator + 1) (asking k)) (back mutator)
+      ∙ ap (λ seat. promised_ref graph (mutator + 1) (asking seat)) (back mutator)
     where
-      back : (k : ℕ) → k + 1 - 1 ≡ k
-      back k = omega arith
+      back : (seat : ℕ) → seat + 1 - 1 ≡ seat
+      back seat = omega arith
 
-  pub refs_of : (t : ℕ) → promises.refs (t + 1) ≡ promised_refs (asking t)
-  refs_of t = let back : t + 1 - 1 ≡ t = omega arith in ap (λ k. promised_refs (asking k)) back
+  pub refs_of : (mutator : ℕ) → promises.refs (mutator + 1) ≡ promised_refs (asking mutator)
+  refs_of mutator = let same_mutator : mutator + 1 - 1 ≡ mutator = omega arith in ap (λ seat. promised_refs (asking seat)) same_mutator
 
-  pub nums_of : (t : ℕ) → promises.nums (t + 1) ≡ promised_nums (asking t)
-  nums_of t = let back : t + 1 - 1 ≡ t = omega arith in ap (λ k. promised_nums (asking k)) back
+  pub nums_of : (mutator : ℕ) → promises.nums (mutator + 1) ≡ promised_nums (asking mutator)
+  nums_of mutator = let same_mutator : mutator + 1 - 1 ≡ mutator = omega arith in ap (λ seat. promised_nums (asking seat)) same_mutator
 
   -- an asking that promises something was given it
   pub some_given : (thread : ℕ) (asking : Asking) (name : Name) → promised_ref graph thread asking ≡ Some name → (asking ≡ given (promised_refs asking) (promised_nums asking)) × (fresh graph thread ≡ name)
-  some_given thread (given refs nums) name is = (refl, same_Some (fresh graph thread) name is)
-  some_given thread nothing name is = absurd (none-some name is)
-  some_given thread (asks refs nums) name is = absurd (none-some name is)
-  some_given thread refused name is = absurd (none-some name is)
+  some_given thread (given refs nums) name has_promise = (refl, same_Some (fresh graph thread) name has_promise)
+  some_given thread nothing name has_promise = absurd (none-some name has_promise)
+  some_given thread (asks refs nums) name has_promise = absurd (none-some name has_promise)
+  some_given thread refused name has_promise = absurd (none-some name has_promise)
 
   -- what is promised is promised to a mutator, and is its next object
   pub promised_one : (thread : ℕ) (name : Name) → promises.ref thread ≡ Some name
       → (mutator : ℕ) × (mutator < config.mutators) × (thread ≡ mutator + 1) × (asking mutator ≡ given (promised_refs (asking mutator)) (promised_nums (asking mutator))) × (name ≡ fresh graph thread)
-  promised_one thread name is = ⊎_elim
-      (λ (yes : is_thread config thread ≡ true).
-      let parts = and_parts (nat_le 1 thread) (nat_le thread config.mutators) yes in
-      let low = leb-true 1 thread parts.0 in
-      let high = leb-true thread config.mutators parts.1 in
-      let found = some_given thread (asking (thread - 1)) name (sym (cond-true (is_thread config thread) (promised_ref graph thread (asking (thread - 1))) None yes) ∙ is) in
+  promised_one thread name has_promise = ⊎_elim
+      (λ (of_thread : is_thread config thread ≡ true).
+      let both_tests = and_parts (nat_le 1 thread) (nat_le thread config.mutators) of_thread in
+      let low = leb-true 1 thread both_tests.0 in
+      let high = leb-true thread config.mutators both_tests.1 in
+      let found = some_given thread (asking (thread - 1)) name (sym (cond-true (is_thread config thread) (promised_ref graph thread (asking (thread - 1))) None of_thread) ∙ has_promise) in
       (thread - 1, omega (arith, low, high), omega (arith, low), found.0, sym found.1))
-      (λ (no : is_thread config thread ≡ false). absurd (none-some name (sym (cond-false (is_thread config thread) (promised_ref graph thread (asking (thread - 1))) None no) ∙ is)))
+      (λ (not_thread : is_thread config thread ≡ false). absurd (none-some name (sym (cond-false (is_thread config thread) (promised_ref graph thread (asking (thread - 1))) None not_thread) ∙ has_promise)))
       (cases_Bool (is_thread config thread))

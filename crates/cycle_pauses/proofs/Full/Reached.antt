@@ -35,34 +35,34 @@ with_one None names = names
 with_one (Some name) names = name ∷ names
 
 abbrev names_at : (ℕ → Option Name) → List ℕ → List Name
-names_at at [] = []
-names_at at (a ∷ others) = with_one (at a) (names_at at others)
+names_at name_of [] = []
+names_at name_of (address ∷ others) = with_one (name_of address) (names_at name_of others)
 
 one_first : (found : Option Name) (names : List Name) (name : Name) → found ≡ Some name → Contains (with_one found names) name
-one_first None names name is = absurd (none-some name is)
-one_first (Some other_name) names name is = (0, omega arith, same_Some other_name name is)
+one_first None names name has_name = absurd (none-some name has_name)
+one_first (Some found_name) names name has_name = (0, omega arith, same_Some found_name name has_name)
 
 one_later : (found : Option Name) (names : List Name) (name : Name) → Contains names name → Contains (with_one found names) name
-one_later None names name there = there
-one_later (Some other_name) names name there = Contains-append_right (other_name ∷ []) names name there
+one_later None names name contained = contained
+one_later (Some found_name) names name contained = Contains-append_right (found_name ∷ []) names name contained
 
 one_cases : (found : Option Name) (names : List Name) (name : Name) → Contains (with_one found names) name → (found ≡ Some name) ⊎ Contains names name
-one_cases None names name there = inr there
-one_cases (Some other_name) names name there = ⊎_elim (λ (is : other_name ≡ name). inl (ap Some is)) (λ (rest : Contains names name). inr rest) (Contains-cons_cases other_name names name there)
+one_cases None names name contained = inr contained
+one_cases (Some found_name) names name contained = ⊎_elim (λ (same_names : found_name ≡ name). inl (ap Some same_names)) (λ (rest : Contains names name). inr rest) (Contains-cons_cases found_name names name contained)
 
-name_there : (at : ℕ → Option Name) (xs : List ℕ) (a : ℕ) (name : Name) → has xs a ≡ true → at a ≡ Some name → Contains (names_at at xs) name
-name_there at [] a name is named = absurd (false≢true is)
-name_there at (x ∷ xs) a name is named = ⊎_elim
-    (λ (here : nat_eq a x ≡ true). one_first (at x) (names_at at xs) name (ap at (sym (eqb-true a x here)) ∙ named))
-    (λ (rest : has xs a ≡ true). one_later (at x) (names_at at xs) name (name_there at xs a name rest named))
-    (or_cases (nat_eq a x) (has xs a) is)
+name_there : (name_of : ℕ → Option Name) (xs : List ℕ) (address : ℕ) (name : Name) → has xs address ≡ true → name_of address ≡ Some name → Contains (names_at name_of xs) name
+name_there name_of [] address name has_address named = absurd (false≢true has_address)
+name_there name_of (x ∷ xs) address name has_address named = ⊎_elim
+    (λ (is_first : nat_eq address x ≡ true). one_first (name_of x) (names_at name_of xs) name (ap name_of (sym (eqb-true address x is_first)) ∙ named))
+    (λ (rest : has xs address ≡ true). one_later (name_of x) (names_at name_of xs) name (name_there name_of xs address name rest named))
+    (or_cases (nat_eq address x) (has xs address) has_address)
 
-there_named : (at : ℕ → Option Name) (xs : List ℕ) (name : Name) → Contains (names_at at xs) name → (a : ℕ) × (has xs a ≡ true) × (at a ≡ Some name)
-there_named at [] name there = absurd (Contains-nil name there)
-there_named at (x ∷ xs) name there = ⊎_elim
-    (λ (here : at x ≡ Some name). (x, or_left (nat_eq x x) (has xs x) (eq-eqb x x refl), here))
-    (λ (rest : Contains (names_at at xs) name). let found = there_named at xs name rest in (found.0, or_right (nat_eq found.0 x) (has xs found.0) found.1, found.2))
-    (one_cases (at x) (names_at at xs) name there)
+there_named : (name_of : ℕ → Option Name) (xs : List ℕ) (name : Name) → Contains (names_at name_of xs) name → (address : ℕ) × (has xs address ≡ true) × (name_of address ≡ Some name)
+there_named name_of [] name contained = absurd (Contains-nil name contained)
+there_named name_of (x ∷ xs) name contained = ⊎_elim
+    (λ (first_named : name_of x ≡ Some name). (x, or_left (nat_eq x x) (has xs x) (eq-eqb x x refl), first_named))
+    (λ (rest : Contains (names_at name_of xs) name). let found = there_named name_of xs name rest in (found.0, or_right (nat_eq found.0 x) (has xs found.0) found.1, found.2))
+    (one_cases (name_of x) (names_at name_of xs) name contained)
 
 module _ (config : Config) (memory : Word → ℕ) (graph : Graph) (asking : ℕ → Asking) (represents_by_copies : RepresentsByCopies config memory graph asking) where
   abbrev promises : Promises
@@ -85,21 +85,21 @@ module _ (config : Config) (memory : Word → ℕ) (graph : Graph) (asking : ℕ
 
   -- the larger graph reaches what the graph does, for its roots and what its slots hold are roots there
   reach_more : (name : Name) → IsReachable graph name → IsReachable more name
-  reach_more name (reach.from_root thread root _ is) =
-      let at = (live_rooted config memory graph asking represents_by_copies).no_more_roots thread root name is in
-      reach.from_root thread root name (plain_root graph promises thread root at.3 ∙ is)
-  reach_more _ (reach.from_pin thread slot held is) =
-      let at = slot_of config memory graph asking represents_by_copies thread slot held is in
-      reach.from_root thread (17 + slot) held.name (pin_root graph promises thread slot at.few ∙ ap name_in is)
-  reach_more name (reach.from_field other_name _ field reached is) =
-      reach.from_field other_name name field (reach_more other_name reached)
-      (ap (λ (object : Object). slice_get object.refs field) (old_object config.mutators graph promises (are_fresh config memory graph asking represents_by_copies) other_name reached) ∙ is)
+  reach_more name (reach.from_root thread root _ leads) =
+      let stays_so = (live_rooted config memory graph asking represents_by_copies).no_more_roots thread root name leads in
+      reach.from_root thread root name (plain_root graph promises thread root stays_so.3 ∙ leads)
+  reach_more _ (reach.from_pin thread slot held_pin leads) =
+      let stays_so = slot_of config memory graph asking represents_by_copies thread slot held_pin leads in
+      reach.from_root thread (17 + slot) held_pin.name (pin_root graph promises thread slot stays_so.few ∙ ap name_in leads)
+  reach_more name (reach.from_field holder _ field reached leads) =
+      reach.from_field holder name field (reach_more holder reached)
+      (ap (λ (object : Object). slice_get object.refs field) (old_object config.mutators graph promises (are_fresh config memory graph asking represents_by_copies) holder reached) ∙ leads)
 
   -- what was found is held, and the other way round
-  pub found_held : (a : ℕ) → has (held_in config memory) a ≡ true → IsLedTo (now_in memory) heap IsRoot a
+  pub found_held : (address : ℕ) → has (held_in config memory) address ≡ true → IsLedTo (now_in memory) heap IsRoot address
   found_held = found_is_held config memory block more holds
 
-  pub held_found : (a : ℕ) → IsLedTo (now_in memory) heap IsRoot a → has (held_in config memory) a ≡ true
+  pub held_found : (address : ℕ) → IsLedTo (now_in memory) heap IsRoot address → has (held_in config memory) address ≡ true
   held_found = held_is_found config memory block more holds
 
   abbrev found : List Name
@@ -108,29 +108,29 @@ module _ (config : Config) (memory : Word → ℕ) (graph : Graph) (asking : ℕ
   -- each name that the graph reaches is found
   all_found : (name : Name) → IsReachable graph name → Contains found name
   all_found name reached =
-      let at = reached_is_held config (λ region. memory (Top region)) heap block (now_in memory) IsRoot more holds name (reach_more name reached) in
-      let old : represents_by_copies.block at.0 ≡ Some (thing name at.1 at.2) = ⊎_elim
-      (λ (is : represents_by_copies.block at.0 ≡ Some (thing name at.1 at.2)). is)
-      (λ (new : (seat : ℕ) × (words : ℕ) × (represents_by_copies.block at.0 ≡ Some (promised seat words)) × (name ≡ fresh graph (seat + 1))).
+      let held_there = reached_is_held config (λ region. memory (Top region)) heap block (now_in memory) IsRoot more holds name (reach_more name reached) in
+      let old : represents_by_copies.block held_there.0 ≡ Some (thing name held_there.1 held_there.2) = ⊎_elim
+      (λ (thing_there : represents_by_copies.block held_there.0 ≡ Some (thing name held_there.1 held_there.2)). thing_there)
+      (λ (new : (seat : ℕ) × (words : ℕ) × (represents_by_copies.block held_there.0 ≡ Some (promised seat words)) × (name ≡ fresh graph (seat + 1))).
       let piece = reached_at config memory graph asking represents_by_copies name reached in
       absurd (names_differ config memory graph asking represents_by_copies piece.0 piece.1 piece.2 new.0 name piece.3 new.3))
-      (current_kind config memory graph asking represents_by_copies at.0 at.1 at.2 name (held_current config memory graph asking represents_by_copies at.0 at.3) at.4)
+      (current_kind config memory graph asking represents_by_copies held_there.0 held_there.1 held_there.2 name (held_current config memory graph asking represents_by_copies held_there.0 held_there.3) held_there.4)
       in
-      name_there (λ address. name_at (represents_by_copies.block address)) (held_in config memory) at.0 name (held_found at.0 at.3) (ap name_at old)
+      name_there (λ address. name_at (represents_by_copies.block address)) (held_in config memory) held_there.0 name (held_found held_there.0 held_there.3) (ap name_at old)
 
   -- and no other
   only_found : (name : Name) → Contains found name → IsReachable graph name
-  only_found name there =
-      let at = there_named (λ address. name_at (represents_by_copies.block address)) (held_in config memory) name there in
-      let held = held_is_reached config (λ region. memory (Top region)) heap block (now_in memory) IsRoot more holds at.0 (found_held at.0 at.1) in
-      let piece = has_current config memory graph asking represents_by_copies at.0 name at.2 in
-      let same : held.0 ≡ name = same_Some held.0 name (ap name_at (sym held.3) ∙ names_stay config memory graph asking represents_by_copies at.0 name at.2) in
+  only_found name contained =
+      let found_address = there_named (λ address. name_at (represents_by_copies.block address)) (held_in config memory) name contained in
+      let reached_held = held_is_reached config (λ region. memory (Top region)) heap block (now_in memory) IsRoot more holds found_address.0 (found_held found_address.0 found_address.1) in
+      let piece = has_current config memory graph asking represents_by_copies found_address.0 name found_address.2 in
+      let same_name : reached_held.0 ≡ name = same_Some reached_held.0 name (ap name_at (sym reached_held.3) ∙ names_stay config memory graph asking represents_by_copies found_address.0 name found_address.2) in
       ⊎_elim
       (λ (old : IsReachable graph name). old)
-      (λ (new : (t : ℕ) × (promises.ref t ≡ Some name)).
-      let one = promised_one config graph asking new.0 name new.1 in
-      absurd (names_differ config memory graph asking represents_by_copies piece.0 piece.1 piece.2 one.0 name piece.3 (one.4 ∙ ap (fresh graph) one.2)))
-      (reaches_promised config.mutators graph promises (are_fresh config memory graph asking represents_by_copies) name (subst (IsReachable more) same held.4))
+      (λ (new : (thread : ℕ) × (promises.ref thread ≡ Some name)).
+      let promised_to = promised_one config graph asking new.0 name new.1 in
+      absurd (names_differ config memory graph asking represents_by_copies piece.0 piece.1 piece.2 promised_to.0 name piece.3 (promised_to.4 ∙ ap (fresh graph) promised_to.2)))
+      (reaches_promised config.mutators graph promises (are_fresh config memory graph asking represents_by_copies) name (subst (IsReachable more) same_name reached_held.4))
 
   -- so there is a list of them in their order
   pub reach_list : (names : List Name) × IsReach graph names
@@ -140,6 +140,6 @@ module _ (config : Config) (memory : Word → ℕ) (graph : Graph) (asking : ℕ
         record {
           in_order = sorted.1.in_order;
           all = λ name reached. sorted.1.all name (all_found name reached);
-          only = λ name there. only_found name (sorted.1.only name there);
+          only = λ name contained. only_found name (sorted.1.only name contained);
         },
       )

@@ -12,32 +12,32 @@ use Rattle.image_graph.proofs.Reached.{words_read}
 use Rattle.image_graph.specs.Holds.{AreSized}
 
 -- a header that leads on is not one of words that only fill
-led_no_filler : (header to : ℕ) → header ≡ header_word to → is_filler header ≡ false
-led_no_filler header to is = ne_eqb (header % 4) 2 (λ two. omega (arith, is, two))
+led_no_filler : (header moved_to : ℕ) → header ≡ header_word moved_to → is_filler header ≡ false
+led_no_filler header moved_to header_leads = ne_eqb (header % 4) 2 (λ filler_tag. omega (arith, header_leads, filler_tag))
 
-module _ (config : Config) (memory : Word → ℕ) (block : Plot) (object : Name → Option Object) (objects : AreObjects (λ a. memory (Heap a)) block object) (unwritten : AreUnwritten (λ a. memory (Heap a)) block)
-    (moves : HaveMoved config (memory Cset) (λ a. memory (Heap a)) block) where
+module _ (config : Config) (memory : Word → ℕ) (block : Plot) (object : Name → Option Object) (objects : AreObjects (λ heap_address. memory (Heap heap_address)) block object) (unwritten : AreUnwritten (λ heap_address. memory (Heap heap_address)) block)
+    (moves : HaveMoved config (memory Cset) (λ heap_address. memory (Heap heap_address)) block) where
   size_of : (address : ℕ) (piece : Block) → block address ≡ Some piece → is_loose piece ≡ false → object_words (memory (Heap (address + 1))) ≡ words_of piece
-  size_of address (thing name refs nums) is fixed =
-      let o = objects.each address refs nums name is in
-      ap object_words o.2.shape ∙ words_read refs nums o.2.few_refs o.2.few_nums
-  size_of address (moved name refs nums to) is fixed =
-      let was = moves.moveds address refs nums to name is in
-      ap object_words was.shape ∙ words_read refs nums was.few_refs was.few_nums
-  size_of address (spent words to) is fixed = (moves.spents address words to is).shape
-  size_of address (promised seat words) is fixed =
-      let blank = unwritten.blanks address seat words is in
+  size_of address (thing name refs nums) has_piece fixed =
+      let object_stands = objects.each address refs nums name has_piece in
+      ap object_words object_stands.2.shape ∙ words_read refs nums object_stands.2.few_refs object_stands.2.few_nums
+  size_of address (moved name refs nums moved_to) has_piece fixed =
+      let old_copy = moves.moveds address refs nums moved_to name has_piece in
+      ap object_words old_copy.shape ∙ words_read refs nums old_copy.few_refs old_copy.few_nums
+  size_of address (spent words moved_to) has_piece fixed = (moves.spents address words moved_to has_piece).shape
+  size_of address (promised seat words) has_piece fixed =
+      let blank = unwritten.blanks address seat words has_piece in
       ap object_words blank.shape ∙ words_read blank.refs blank.nums blank.few_refs blank.few_nums ∙ sym blank.long
-  size_of address (dead words) is fixed = unwritten.lengths address words is
-  size_of address _ is fixed = absurd (true≢false fixed)
+  size_of address (dead words) has_piece fixed = unwritten.lengths address words has_piece
+  size_of address _ has_piece fixed = absurd (true≢false fixed)
 
   header_at : (address : ℕ) (piece : Block) → block address ≡ Some piece → is_loose piece ≡ false → is_filler (memory (Heap address)) ≡ false
-  header_at address (thing name refs nums) is fixed = ap is_filler (objects.each address refs nums name is).2.header
-  header_at address (moved name refs nums to) is fixed = led_no_filler (memory (Heap address)) to (moves.moveds address refs nums to name is).header
-  header_at address (spent words to) is fixed = led_no_filler (memory (Heap address)) to (moves.spents address words to is).header
-  header_at address (promised seat words) is fixed = ap is_filler (unwritten.blanks address seat words is).header
-  header_at address (dead words) is fixed = ap is_filler (unwritten.headers address words is)
-  header_at address _ is fixed = absurd (true≢false fixed)
+  header_at address (thing name refs nums) has_piece fixed = ap is_filler (objects.each address refs nums name has_piece).2.header
+  header_at address (moved name refs nums moved_to) has_piece fixed = led_no_filler (memory (Heap address)) moved_to (moves.moveds address refs nums moved_to name has_piece).header
+  header_at address (spent words moved_to) has_piece fixed = led_no_filler (memory (Heap address)) moved_to (moves.spents address words moved_to has_piece).header
+  header_at address (promised seat words) has_piece fixed = ap is_filler (unwritten.blanks address seat words has_piece).header
+  header_at address (dead words) has_piece fixed = ap is_filler (unwritten.headers address words has_piece)
+  header_at address _ has_piece fixed = absurd (true≢false fixed)
 
   pub pieces_sized : AreSized memory block
   pieces_sized = record { objects = size_of; headers = header_at; fillers = unwritten.fillers }

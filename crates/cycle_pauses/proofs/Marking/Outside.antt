@@ -34,77 +34,77 @@ use Rattle.cycle_words.proofs.Marking.Plain.{root_reached, reached_object, objec
 use Rattle.cycle_words.proofs.Marking.Traced.{listed_traced}
 
 -- the number of no bits is 0
-bits_none : (test : ℕ → Bool) (first n : ℕ) → ((k : ℕ) → k < n → test (first + k) ≡ false) → bits_of test first n ≡ 0
+bits_none : (test : ℕ → Bool) (first count : ℕ) → ((k : ℕ) → k < count → test (first + k) ≡ false) → bits_of test first count ≡ 0
 unfolding bits_of
-bits_none test first zero none = refl
-bits_none test first (suc k) none =
-    let rest = bits_none test first k (λ j below. none j (omega (arith, below))) in
-    ap (λ b. one b * 2 ^ k + bits_of test first k) (none k (omega arith)) ∙ omega (arith, rest)
+bits_none test first zero none_set = refl
+bits_none test first (suc k) none_set =
+    let later_none = bits_none test first k (λ index bit_below. none_set index (omega (arith, bit_below))) in
+    ap (λ bit. one bit * 2 ^ k + bits_of test first k) (none_set k (omega arith)) ∙ omega (arith, later_none)
 
 -- addresses of the heap have no bits behind the words of marks
-marks_outside : (config : Config) (set : ℕ → Bool) → ((a : ℕ) → config.region_words ≤ a → set a ≡ true → a < heap_end config) → (number : ℕ) → is_word config (Grey number) ≡ false → mark_bits config set number ≡ 0
-marks_outside config set within number other = bits_none set (config.region_words + 64 * number) 64 (λ k below. ⊎_elim
-    (λ (is : set (config.region_words + 64 * number + k) ≡ true).
-    let low = within (config.region_words + 64 * number + k) (omega arith) is in
-    let past : bit_words config ≤ number = ltb-false number (bit_words config) other in
-    absurd (omega (arith, low, past)))
-    (λ none. none)
-    (cases_Bool (set (config.region_words + 64 * number + k))))
+marks_outside : (config : Config) (set : ℕ → Bool) → ((address : ℕ) → config.region_words ≤ address → set address ≡ true → address < heap_end config) → (number : ℕ) → is_word config (Grey number) ≡ false → mark_bits config set number ≡ 0
+marks_outside config set set_within number not_word = bits_none set (config.region_words + 64 * number) 64 (λ bit bit_below. ⊎_elim
+    (λ (bit_set : set (config.region_words + 64 * number + bit) ≡ true).
+    let address_below = set_within (config.region_words + 64 * number + bit) (omega arith) bit_set in
+    let number_past : bit_words config ≤ number = ltb-false number (bit_words config) not_word in
+    absurd (omega (arith, address_below, number_past)))
+    (λ not_set. not_set)
+    (cases_Bool (set (config.region_words + 64 * number + bit))))
 
 -- 0, if a region is freed or not
 pub if_zero : (holds : Bool) (x : ℕ) → x ≡ 0 → (if holds then 0 else x) ≡ 0
-if_zero true x is = refl
-if_zero false x is = is
+if_zero true x is_zero = refl
+if_zero false x is_zero = is_zero
 
 or_zero : (x y : ℕ) → x ≡ 0 → y ≡ 0 → bit_or x y ≡ 0
-or_zero x y left right = ap (λ k. bit_or k y) left ∙ ap (bit_or 0) right
+or_zero x y left_zero right = ap (λ left. bit_or left y) left_zero ∙ ap (bit_or 0) right
 
 -- an edge is no higher than the top
 pub edge_zero : (config : Config) (memory : Word → ℕ) (region : ℕ) → memory (Top region) ≡ 0 → edge config memory region ≡ 0
-edge_zero config memory region none = (let low = (edges_lie config memory region).below_top in omega (arith, low, none))
+edge_zero config memory region no_top = (let edge_below = (edges_lie config memory region).below_top in omega (arith, edge_below, no_top))
 
 -- regions are freed
 pub freed_outside : (config : Config) (out : ℕ → Bool) (memory : Word → ℕ) → IsZeroOutside config memory → IsZeroOutside config (freed config out memory)
-freed_outside config out memory nothing (Top region) other = if_zero (out region) (memory (Top region)) (nothing (Top region) other)
-freed_outside config out memory nothing (Tams region) other = if_zero (out region) (memory (Tams region)) (nothing (Tams region) other)
-freed_outside config out memory nothing (Limit region) other = if_zero (out region) (memory (Limit region)) (nothing (Limit region) other)
-freed_outside config out memory nothing Free other = absurd (true≢false other)
-freed_outside config out memory nothing word other = nothing word other
+freed_outside config out memory nothing (Top region) not_word = if_zero (out region) (memory (Top region)) (nothing (Top region) not_word)
+freed_outside config out memory nothing (Tams region) not_word = if_zero (out region) (memory (Tams region)) (nothing (Tams region) not_word)
+freed_outside config out memory nothing (Limit region) not_word = if_zero (out region) (memory (Limit region)) (nothing (Limit region) not_word)
+freed_outside config out memory nothing Free not_word = absurd (true≢false not_word)
+freed_outside config out memory nothing word not_word = nothing word not_word
 
-module _ (config : Config) (memory : Word → ℕ) (block : Plot) (owner : ℕ → Option ℕ) (promises : Promises) (graph : Graph) (holds : HoldsBy config memory block owner promises graph) (nothing : IsZeroOutside config memory) where
-  root_within : memory Cset ≡ 0 → (a : ℕ) → config.region_words ≤ a → has (held_words config memory) a ≡ true → a < heap_end config
-  root_within calm a high is =
-      let long = config.in_range.least_words in
-      let object = reached_object config memory block owner promises graph holds calm a (root_reached config memory block owner promises graph holds calm a is (λ none. omega (arith, none, long, high))) in
-      let at = object_above config memory block owner promises graph holds calm a object.refs object.nums object.name object.here in
-      omega (arith, at.1)
+module _ (config : Config) (memory : Word → ℕ) (block : Plot) (owner : ℕ → Option ℕ) (promises : Promises) (graph : Graph) (graph_held : HoldsBy config memory block owner promises graph) (nothing : IsZeroOutside config memory) where
+  root_within : memory Cset ≡ 0 → (address : ℕ) → config.region_words ≤ address → has (held_words config memory) address ≡ true → address < heap_end config
+  root_within empty_cset address address_high is_held =
+      let least_words = config.in_range.least_words in
+      let object = reached_object config memory block owner promises graph graph_held empty_cset address (root_reached config memory block owner promises graph graph_held empty_cset address is_held (λ is_null. omega (arith, is_null, least_words, address_high))) in
+      let piece_place = object_above config memory block owner promises graph graph_held empty_cset address object.refs object.nums object.name object.here in
+      omega (arith, piece_place.1)
 
   begun_outside : memory Cset ≡ 0 → IsZeroOutside config (marking_begun config memory)
-  begun_outside calm (Grey number) other = marks_outside config (has (held_words config memory)) (root_within calm) number other
-  begun_outside calm (Black number) other = refl
-  begun_outside calm (Tams region) other = edge_zero config memory region (nothing (Top region) other)
-  begun_outside calm (Count mutator) other = refl
-  begun_outside calm Claim other = refl
-  begun_outside calm Ask other = refl
-  begun_outside calm Phase other = absurd (true≢false other)
-  begun_outside calm word other = nothing word other
+  begun_outside empty_cset (Grey number) not_word = marks_outside config (has (held_words config memory)) (root_within empty_cset) number not_word
+  begun_outside empty_cset (Black number) not_word = refl
+  begun_outside empty_cset (Tams region) not_word = edge_zero config memory region (nothing (Top region) not_word)
+  begun_outside empty_cset (Count mutator) not_word = refl
+  begun_outside empty_cset Claim not_word = refl
+  begun_outside empty_cset Ask not_word = refl
+  begun_outside empty_cset Phase not_word = absurd (true≢false not_word)
+  begun_outside empty_cset word not_word = nothing word not_word
 
-  traced_within : IsMarking config memory block → (a : ℕ) → config.region_words ≤ a → has (traced_in config memory) a ≡ true → a < heap_end config
-  traced_within marking a high is =
-      let at = inside config memory block owner promises graph holds marking a (listed_traced config memory (config.regions * config.region_words) a is) in
-      omega (arith, at.1)
+  traced_within : IsMarking config memory block → (address : ℕ) → config.region_words ≤ address → has (traced_in config memory) address ≡ true → address < heap_end config
+  traced_within marking address address_high is_traced =
+      let inside_heap = inside config memory block owner promises graph graph_held marking address (listed_traced config memory (config.regions * config.region_words) address is_traced) in
+      omega (arith, inside_heap.1)
 
   closed_outside : IsMarking config memory block → IsZeroOutside config (closed config memory)
-  closed_outside marking (Grey number) other = or_zero (memory (Grey number)) (mark_bits config (has (traced_in config memory)) number) (nothing (Grey number) other) (marks_outside config (has (traced_in config memory)) (traced_within marking) number other)
-  closed_outside marking (Black number) other = or_zero (memory (Black number)) (mark_bits config (has (traced_in config memory)) number) (nothing (Black number) other) (marks_outside config (has (traced_in config memory)) (traced_within marking) number other)
-  closed_outside marking (Count mutator) other = refl
-  closed_outside marking word other = nothing word other
+  closed_outside marking (Grey number) not_word = or_zero (memory (Grey number)) (mark_bits config (has (traced_in config memory)) number) (nothing (Grey number) not_word) (marks_outside config (has (traced_in config memory)) (traced_within marking) number not_word)
+  closed_outside marking (Black number) not_word = or_zero (memory (Black number)) (mark_bits config (has (traced_in config memory)) number) (nothing (Black number) not_word) (marks_outside config (has (traced_in config memory)) (traced_within marking) number not_word)
+  closed_outside marking (Count mutator) not_word = refl
+  closed_outside marking word not_word = nothing word not_word
 
   pub final_outside : IsMarking config memory block → IsZeroOutside config (final_marked config memory)
   final_outside marking = freed_outside config (dead_in config memory) (closed config memory) (closed_outside marking)
 
 -- So it is where buffers are settled first.
 pub init_outside : (config : Config) (memory : Word → ℕ) (block : Plot) (owner : ℕ → Option ℕ) (promises : Promises) (graph : Graph) → HoldsBy config memory block owner promises graph → IsZeroOutside config memory → memory Cset ≡ 0 → IsZeroOutside config (init_marked config memory)
-init_outside config memory block owner promises graph holds nothing calm =
-    begun_outside config (buffers_settled config memory) (settled_block config memory block) owner promises graph (settling_holds config memory (no_seats config memory nothing) block owner promises graph holds).holds
-    (settled_outside config memory nothing (buffers_inside config memory block holds.objects.plotted holds.buffers)) (settled_same Cset (λ never. never) config memory (seat_count config.mutators config.helpers) ∙ calm)
+init_outside config memory block owner promises graph graph_held nothing empty_cset =
+    begun_outside config (buffers_settled config memory) (settled_block config memory block) owner promises graph (settling_holds config memory (no_seats config memory nothing) block owner promises graph graph_held).holds
+    (settled_outside config memory nothing (buffers_inside config memory block graph_held.objects.plotted graph_held.buffers)) (settled_same Cset (λ never. never) config memory (seat_count config.mutators config.helpers) ∙ empty_cset)

@@ -1,4 +1,5 @@
 -- Words that represent a graph while objects are marked, and what the pauses of marking leave.
+use Rattle.heap_words.specs.Phases.{marking_phase}
 use Rattle.std.proofs.Common.{◌≡◌, ℕ, ◌∙◌, arith}
 use Rattle.heap_words.specs.declared.config.Config.{Config}
 use Rattle.heap_words.specs.Words.{Word, Phase, Cset}
@@ -23,26 +24,26 @@ use Rattle.cycle_pauses.proofs.Marking.Beginning.{begun}
 use Rattle.cycle_pauses.proofs.Marking.Ending.{plot, ghost, marked_out}
 
 -- there is no collection set while objects are marked
-calm_at : (config : Config) (memory : Word → ℕ) (graph : Graph) (asking : ℕ → Asking) (represents : Represents config memory graph asking) → memory Phase ≡ 1 → memory Cset ≡ 0
-calm_at config memory graph asking represents on = represents.shared.phased.cset_is (omega (arith, on))
+calm_at : (config : Config) (memory : Word → ℕ) (graph : Graph) (asking : ℕ → Asking) (represents : Represents config memory graph asking) → memory Phase ≡ marking_phase → memory Cset ≡ 0
+calm_at config memory graph asking represents phase_one = represents.shared.phased.cset_is (omega (arith, phase_one))
 
 pub marking_stands : MarkingStands
-marking_stands c m g asking r on =
-    (live c m g asking (by_copies c m g asking r), r.ghost.owner, promises_of c g asking, holds_by c m g asking (by_copies c m g asking r), is_marking c m g asking r (calm_at c m g asking r on) on)
+marking_stands given_config given_memory given_graph asking graph_stands in_marking =
+    (live given_config given_memory given_graph asking (by_copies given_config given_memory given_graph asking graph_stands), graph_stands.ghost.owner, promises_of given_config given_graph asking, holds_by given_config given_memory given_graph asking (by_copies given_config given_memory given_graph asking graph_stands), is_marking given_config given_memory given_graph asking graph_stands (calm_at given_config given_memory given_graph asking graph_stands in_marking) in_marking)
 
 pub reachable_are_marked : ReachableAreMarked
-reachable_are_marked c m g asking r on =
-    let block : Plot = live c m g asking (by_copies c m g asking r) in
-    let promises : Promises = promises_of c g asking in
-    let holds = holds_by c m g asking (by_copies c m g asking r) in
-    let marking = is_marking c m g asking r (calm_at c m g asking r on) on in
-    (block, r.ghost.owner, promises, closed_holds c m block r.ghost.owner promises g holds marking, closed_through c m block r.ghost.owner promises g holds marking)
+reachable_are_marked given_config given_memory given_graph asking graph_stands in_marking =
+    let block : Plot = live given_config given_memory given_graph asking (by_copies given_config given_memory given_graph asking graph_stands) in
+    let promises : Promises = promises_of given_config given_graph asking in
+    let words_hold = holds_by given_config given_memory given_graph asking (by_copies given_config given_memory given_graph asking graph_stands) in
+    let marking = is_marking given_config given_memory given_graph asking graph_stands (calm_at given_config given_memory given_graph asking graph_stands in_marking) in_marking in
+    (block, graph_stands.ghost.owner, promises, closed_holds given_config given_memory block graph_stands.ghost.owner promises given_graph words_hold marking, closed_through given_config given_memory block graph_stands.ghost.owner promises given_graph words_hold marking)
 
 pub beginning_represents : BeginningRepresents
-beginning_represents c m g asking r rests nobody =
-    let settled = (settling_keeps c m g asking).represents r in
-    begun c (buffers_settled c m) g asking settled (settled_same Phase (λ never. never) c m (seat_count c.mutators c.helpers) ∙ rests)
-    (edges_divide c (buffers_settled c m) g asking (by_copies c (buffers_settled c m) g asking settled) (settling_leaves c m).last) nobody
+beginning_represents given_config given_memory given_graph asking graph_stands rests nobody =
+    let settled_stands = (settling_keeps given_config given_memory given_graph asking).represents graph_stands in
+    begun given_config (buffers_settled given_config given_memory) given_graph asking settled_stands (settled_same Phase (λ never. never) given_config given_memory (seat_count given_config.mutators given_config.helpers) ∙ rests)
+    (edges_divide given_config (buffers_settled given_config given_memory) given_graph asking (by_copies given_config (buffers_settled given_config given_memory) given_graph asking settled_stands) (settling_leaves given_config given_memory).last) nobody
 
 pub end_gives : EndGives
-end_gives c m g asking r on no_more = (plot c m g asking r on, ghost c m g asking r on, marked_out c m g asking r on no_more)
+end_gives given_config given_memory given_graph asking graph_stands in_marking no_more = (plot given_config given_memory given_graph asking graph_stands in_marking, ghost given_config given_memory given_graph asking graph_stands in_marking, marked_out given_config given_memory given_graph asking graph_stands in_marking no_more)

@@ -13,20 +13,20 @@ use Rattle.cycle_pauses.proofs.Marking.Outside.{if_zero, edge_zero, freed_outsid
 use Rattle.cycle_words.specs.Updating.Changes.{is_chosen, updating_begun, init_updated, cycle_ended, final_updated}
 
 begun_outside : (config : Config) (memory : Word → ℕ) → IsZeroOutside config memory → IsZeroOutside config (updating_begun config memory)
-begun_outside config memory nothing (Limit region) other = if_zero (is_chosen memory region) (edge config memory region) (edge_zero config memory region (nothing (Top region) other))
-begun_outside config memory nothing Phase other = absurd (true≢false other)
-begun_outside config memory nothing Evac other = refl
-begun_outside config memory nothing Claim other = refl
-begun_outside config memory nothing word other = nothing word other
+begun_outside config memory nothing (Limit region) outside_table = if_zero (is_chosen memory region) (edge config memory region) (edge_zero config memory region (nothing (Top region) outside_table))
+begun_outside config memory nothing Phase outside_table = absurd (true≢false outside_table)
+begun_outside config memory nothing Evac outside_table = refl
+begun_outside config memory nothing Claim outside_table = refl
+begun_outside config memory nothing word outside_table = nothing word outside_table
 
 pub init_outside : (config : Config) (memory : Word → ℕ) → AreInside config memory → IsZeroOutside config memory → IsZeroOutside config (init_updated config memory)
-init_outside config memory inside nothing = begun_outside config (buffers_settled config memory) (settled_outside config memory nothing inside)
+init_outside config memory words_inside nothing = begun_outside config (buffers_settled config memory) (settled_outside config memory nothing words_inside)
 
 pub cycle_outside : (config : Config) (memory : Word → ℕ) → IsZeroOutside config memory → IsZeroOutside config (cycle_ended memory)
-cycle_outside config memory nothing Phase other = refl
-cycle_outside config memory nothing Cset other = refl
-cycle_outside config memory nothing Claim other = refl
-cycle_outside config memory nothing word other = nothing word other
+cycle_outside config memory nothing Phase outside_table = refl
+cycle_outside config memory nothing Cset outside_table = refl
+cycle_outside config memory nothing Claim outside_table = refl
+cycle_outside config memory nothing word outside_table = nothing word outside_table
 
 pub final_outside : (config : Config) (memory : Word → ℕ) → IsZeroOutside config memory → IsZeroOutside config (final_updated config memory)
 final_outside config memory nothing = cycle_outside config (freed config (is_chosen memory) memory) (freed_outside config (is_chosen memory) memory nothing)

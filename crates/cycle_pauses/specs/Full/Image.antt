@@ -13,4 +13,4 @@ words_of_image config memory = map (λ k. memory (name_of config (image_start co
 
 -- and those after a full collection
 abbrev pub full_image : Change
-full_image c image = words_of_image c (full c (image_view c image))
+full_image config image = words_of_image config (full config (image_view config image))

@@ -59,33 +59,33 @@ abbrev CountsAfter : Config → (before later : Word → ℕ) → Access → Tou
 CountsAfter config before later access touch = (later ≡ before) ⊎ ((access ≡ placed config touch) × (later ≡ touched before touch))
 
 -- What a stage says in which all goes as it should, of an event of a machine.
-module _ (change : Change) (config : Config) (graph : Graph) (stage : Stage Actor) (h : List Entry) (goes : Goes config graph stage h) (number : ℕ) where
+module _ (change : Change) (config : Config) (graph : Graph) (stage : Stage Actor) (given_entries : List Entry) (all_goes : Goes config graph stage given_entries) (number : ℕ) where
   abbrev the_world : World
-  the_world = world_of config stage goes.follows.block goes.follows.ghost (after graph h)
+  the_world = world_of config stage all_goes.follows.block all_goes.follows.ghost (after graph given_entries)
 
   abbrev entries : List Entry
-  entries = of_thread h (number + 1)
+  entries = of_thread given_entries (number + 1)
 
   -- The machine is not the control. Its access is of no word of the image while one counts, or it is a load.
-  module _ (touch : Touch) (new : Actor) (other : number ≢ control_number config) (word : is_word config touch.word ≡ true) where
+  module _ (touch : Touch) (new : Actor) (not_control : number ≢ control_number config) (word : is_word config touch.word ≡ true) where
     abbrev stage_then : Stage Actor
     stage_then = record { words = words_after config stage.words touch; machines = slice_set stage.machines number new }
 
     counts_accessed : ((image : Counting) → held_image config stage ≡ Some image → is_image touch.word ≡ false) → CountsAfter config (settled config stage) (settled config stage_then) (placed config touch) touch
-    counts_accessed outside = inr (refl, ap (settled_by config (words_after config stage.words touch)) (other_holds config stage number new other) ∙ settled_touched config stage.words touch (held_image config stage) word goes.follows.words outside)
+    counts_accessed outside = inr (refl, ap (settled_by config (words_after config stage.words touch)) (other_holds config stage number new not_control) ∙ settled_touched config stage.words touch (held_image config stage) word all_goes.follows.words outside)
 
     counts_loaded : words_after config stage.words touch ≡ stage.words → CountsAfter config (settled config stage) (settled config stage_then) (placed config touch) touch
-    counts_loaded same = inl (ap (settled_by config (words_after config stage.words touch)) (other_holds config stage number new other) ∙ ap (λ ws. settled_by config ws (held_image config stage)) same)
+    counts_loaded same_words = inl (ap (settled_by config (words_after config stage.words touch)) (other_holds config stage number new not_control) ∙ ap (λ table. settled_by config table (held_image config stage)) same_words)
 
     counts_by_image : ((image : Counting) → held_image config stage ≡ Some image → (is_image touch.word ≡ false) ⊎ (words_after config stage.words touch ≡ stage.words)) → CountsAfter config (settled config stage) (settled config stage_then) (placed config touch) touch
     counts_by_image cases = by_image (held_image config stage) refl
       where
         by_image : (found : Option Counting) → held_image config stage ≡ found → CountsAfter config (settled config stage) (settled config stage_then) (placed config touch) touch
-        by_image None none = counts_accessed (λ image held. absurd (let clash = sym none ∙ held in cc))
-        by_image (Some image) held = ⊎_elim
-            (λ (outside : is_image touch.word ≡ false). counts_accessed (λ more same. outside))
-            (λ (same : words_after config stage.words touch ≡ stage.words). counts_loaded same)
-            (cases image held)
+        by_image None found_is = counts_accessed (λ image image_held. absurd (let clash = sym found_is ∙ image_held in cc))
+        by_image (Some image) image_held = ⊎_elim
+            (λ (outside : is_image touch.word ≡ false). counts_accessed (λ more_image same_words. outside))
+            (λ (same_words : words_after config stage.words touch ≡ stage.words). counts_loaded same_words)
+            (cases image image_held)
 
   module _ (command : Command) (calls : List Entry) where
     abbrev actor_of : Machine → Actor
@@ -108,131 +108,131 @@ module _ (change : Change) (config : Config) (graph : Graph) (stage : Stage Acto
     -- of a mutator
     mutator_counts : (order : Order) (mutator : Mutating) → Here (mutating mutator) → takes_of (mutating mutator) order ≡ true → Counts order (mutating mutator)
     unfolding kind
-    mutator_counts order mutator here takes =
-        let thread : IsThread config stage.words the_world entries number (actor_of (mutating mutator)) mutator = goes.follows.machines number (actor_of (mutating mutator)) here in
-        let below : number < config.mutators = subst (λ k. k < config.mutators) thread.number_is thread.mine.seated.below in
-        counts_by_image (touch_of config mutator order) (new_of order (mutating mutator)) (λ e. omega (arith, below, e)) (order_word config mutator.seat mutator.made mutator.kept order mutator.spot thread.mine.seated.below thread.mine.ready takes)
-        (λ image held. ⊎_elim
+    mutator_counts order mutator machine_here takes =
+        let is_thread : IsThread config stage.words the_world entries number (actor_of (mutating mutator)) mutator = all_goes.follows.machines number (actor_of (mutating mutator)) machine_here in
+        let mutator_below : number < config.mutators = subst (λ seat. seat < config.mutators) is_thread.number_is is_thread.mine.seated.below in
+        counts_by_image (touch_of config mutator order) (new_of order (mutating mutator)) (λ is_control. omega (arith, mutator_below, is_control)) (order_word config mutator.seat mutator.made mutator.kept order mutator.spot is_thread.mine.seated.below is_thread.mine.ready takes)
+        (λ image image_held. ⊎_elim
         (λ (outside : is_image (touch_of config mutator order).word ≡ false). inl outside)
         (λ (polls : mutator.spot ≡ Waiting wait.Poll). inr (ap (λ spot. words_after config stage.words (touch_at config mutator.seat mutator.made mutator.kept order spot)) polls ∙ words_loaded config stage.words (Answer mutator.seat)))
-        (outside_touch config mutator.seat mutator.made mutator.kept order mutator.spot (outside_held config stage goes.shaken image held number (actor_of (mutating mutator)) (omega (arith, below)) here) takes))
+        (outside_touch config mutator.seat mutator.made mutator.kept order mutator.spot (outside_held config stage all_goes.shaken image image_held number (actor_of (mutating mutator)) (omega (arith, mutator_below)) machine_here) takes))
 
     -- of a helper without an order
     helper_counts : (helper : Helping) → Here (helping helper) → Counts Nothing (helping helper)
     unfolding kind
-    helper_counts m here =
-        let helper : IsHelper config the_world number m = goes.follows.machines number (actor_of (helping m)) here in
-        let below = helper.below in
-        counts_by_image (help_touch config m) (new_of Nothing (helping m)) (λ e. omega (arith, below, e)) (is_word_from config (help_touch config m).word (help_word config the_world number m goes.follows.shared helper))
-        (λ image held. inl (help_leaves_image config m.seat m.spot (outside_held config stage goes.shaken image held number (actor_of (helping m)) below here)))
+    helper_counts own_helping machine_here =
+        let helper : IsHelper config the_world number own_helping = all_goes.follows.machines number (actor_of (helping own_helping)) machine_here in
+        let helper_below = helper.below in
+        counts_by_image (help_touch config own_helping) (new_of Nothing (helping own_helping)) (λ is_control. omega (arith, helper_below, is_control)) (is_word_from config (help_touch config own_helping).word (help_word config the_world number own_helping all_goes.follows.shared helper))
+        (λ image image_held. inl (help_leaves_image config own_helping.seat own_helping.spot (outside_held config stage all_goes.shaken image image_held number (actor_of (helping own_helping)) helper_below machine_here)))
 
     -- of the control without an order
-    module _ (seen phase cset hints : ℕ) (image : List ℕ) where
+    module _ (seen_set phase cset hints : ℕ) (image : List ℕ) where
       abbrev control_at : ControlSpot → Machine
-      control_at spot = controlling (record { spot = spot; seen = seen; phase = phase; cset = cset; hints = hints; image = image })
+      control_at spot = controlling (record { spot = spot; seen = seen_set; phase = phase; cset = cset; hints = hints; image = image })
 
       abbrev CountsAt : ControlSpot → Type 0
       CountsAt spot = (BeginsToCount config stage (next Nothing (control_at spot)) → ⊥) → Counts Nothing (control_at spot)
 
-      known : (spot : ControlSpot) → Here (control_at spot) → IsControl config stage.words the_world number (record { spot = spot; seen = seen; phase = phase; cset = cset; hints = hints; image = image })
-      known spot here = goes.follows.machines number (actor_of (control_at spot)) here
+      known : (spot : ControlSpot) → Here (control_at spot) → IsControl config stage.words the_world number (record { spot = spot; seen = seen_set; phase = phase; cset = cset; hints = hints; image = image })
+      known spot control_here = all_goes.follows.machines number (actor_of (control_at spot)) control_here
 
       held_is : (spot : ControlSpot) → Here (control_at spot) → held_image config stage ≡ stored_image spot image
-      held_is spot here = ap (λ n. image_of (slice_get stage.machines n)) (sym (known spot here).number_is) ∙ ap image_of here
+      held_is spot control_here = ap (λ machine_number. image_of (slice_get stage.machines machine_number)) (sym (known spot control_here).number_is) ∙ ap image_of control_here
 
       abbrev words_then : ControlSpot → List ℕ
       words_then spot = accessed (plan_of config Nothing (control_at spot)) stage.words
 
       image_then : (spot : ControlSpot) → Here (control_at spot) → image_of (slice_get (next Nothing (control_at spot)).machines (control_number config)) ≡ image_read (new_of Nothing (control_at spot)).machine
       unfolding kind
-      image_then spot here =
-          ap (λ n. image_of (slice_get (slice_set stage.machines number (new_of Nothing (control_at spot))) n)) (sym (known spot here).number_is)
-          ∙ ap image_of (slice_get-set_same stage.machines number (actor_of (control_at spot)) (new_of Nothing (control_at spot)) here)
+      image_then spot control_here =
+          ap (λ machine_number. image_of (slice_get (slice_set stage.machines number (new_of Nothing (control_at spot))) machine_number)) (sym (known spot control_here).number_is)
+          ∙ ap image_of (slice_get-set_same stage.machines number (actor_of (control_at spot)) (new_of Nothing (control_at spot)) control_here)
 
       -- where no image counts before and after
       settled_none : (spot : ControlSpot) → Here (control_at spot) → stored_image spot image ≡ None → settled config stage ≡ view config stage.words
-      settled_none spot here none = ap (settled_by config stage.words) (held_is spot here ∙ none)
+      settled_none spot control_here no_image = ap (settled_by config stage.words) (held_is spot control_here ∙ no_image)
 
       settled_open : (spot : ControlSpot) → Here (control_at spot) → image_read (new_of Nothing (control_at spot)).machine ≡ None → settled config (next Nothing (control_at spot)) ≡ view config (words_then spot)
       unfolding kind
-      settled_open spot here none = ap (settled_by config (words_then spot)) (image_then spot here ∙ none)
+      settled_open spot control_here no_image = ap (settled_by config (words_then spot)) (image_then spot control_here ∙ no_image)
 
       -- an image does not begin to count
-      not_begun : (spot : ControlSpot) (more : Counting) → Here (control_at spot) → stored_image spot image ≡ None → image_read (new_of Nothing (control_at spot)).machine ≡ Some more → (BeginsToCount config stage (next Nothing (control_at spot)) → ⊥) → ⊥
-      not_begun spot more here none counts not = not (record { image = more; not_yet = held_is spot here ∙ none; counts = image_then spot here ∙ counts })
+      not_begun : (spot : ControlSpot) (begun_image : Counting) → Here (control_at spot) → stored_image spot image ≡ None → image_read (new_of Nothing (control_at spot)).machine ≡ Some begun_image → (BeginsToCount config stage (next Nothing (control_at spot)) → ⊥) → ⊥
+      not_begun spot begun_image control_here no_image image_counts not_beginning = not_beginning (record { image = begun_image; not_yet = held_is spot control_here ∙ no_image; counts = image_then spot control_here ∙ image_counts })
 
       -- at a spot outside the image
       plain_counts : (spot : ControlSpot) → Here (control_at spot) → stored_image spot image ≡ None → plan_of config Nothing (control_at spot) ≡ placed config (control_touch config spot) → is_word config (control_touch config spot).word ≡ true
           → CountsAt spot
-      plain_counts spot here none plan word not = by_image (image_read (new_of Nothing (control_at spot)).machine) refl
+      plain_counts spot control_here no_image plan word not_beginning = by_image (image_read (new_of Nothing (control_at spot)).machine) refl
         where
           by_image : (found : Option Counting) → image_read (new_of Nothing (control_at spot)).machine ≡ found → Counts Nothing (control_at spot)
           by_image None none_then = inr (
             plan,
-            settled_open spot here none_then
+            settled_open spot control_here none_then
                 ∙ ap (λ access. view config (accessed access stage.words)) plan
-                ∙ view-placed config stage.words (control_touch config spot) word goes.follows.words
-                ∙ ap (λ memory. touched memory (control_touch config spot)) (sym (settled_none spot here none)),
+                ∙ view-placed config stage.words (control_touch config spot) word all_goes.follows.words
+                ∙ ap (λ memory. touched memory (control_touch config spot)) (sym (settled_none spot control_here no_image)),
           )
-          by_image (Some more) counts = absurd (not_begun spot more here none counts not)
+          by_image (Some begun_image) image_counts = absurd (not_begun spot begun_image control_here no_image image_counts not_beginning)
 
       -- where it loads a word of the image
       load_counts : (index : ℕ) (extent : Extent) → Here (control_at (control.LoadWord index extent)) → CountsAt (control.LoadWord index extent)
-      load_counts index extent here not = by_image (image_read (new_of Nothing (control_at (control.LoadWord index extent))).machine) refl
+      load_counts index extent control_here not_beginning = by_image (image_read (new_of Nothing (control_at (control.LoadWord index extent))).machine) refl
         where
           by_image : (found : Option Counting) → image_read (new_of Nothing (control_at (control.LoadWord index extent))).machine ≡ found → Counts Nothing (control_at (control.LoadWord index extent))
           by_image None none_then = inl (
-              settled_open (control.LoadWord index extent) here none_then
+              settled_open (control.LoadWord index extent) control_here none_then
               ∙ ap (view config) (set-get_or stage.words (image_start config + index) 0)
-              ∙ sym (settled_none (control.LoadWord index extent) here refl))
-          by_image (Some more) counts = absurd (not_begun (control.LoadWord index extent) more here refl counts not)
+              ∙ sym (settled_none (control.LoadWord index extent) control_here refl))
+          by_image (Some begun_image) image_counts = absurd (not_begun (control.LoadWord index extent) begun_image control_here refl image_counts not_beginning)
 
       -- where it stores one
       store_counts : (index : ℕ) (extent : Extent) → Here (control_at (control.StoreWord index extent)) → Counts Nothing (control_at (control.StoreWord index extent))
       unfolding kind
-      store_counts index extent here =
-          let at = known (control.StoreWord index extent) here in
+      store_counts index extent control_here =
+          let known_control = known (control.StoreWord index extent) control_here in
           inl (
-          ap (settled_by config (words_then (control.StoreWord index extent))) (image_then (control.StoreWord index extent) here)
-          ∙ sym (counts_then change config stage.words goes.follows.block goes.follows.ghost (after graph h) h stage.machines extent image index seen phase cset hints command calls at.ready goes.follows.words at.aims.0 at.aims.1 at.aims.2 goes.follows.seats
+          ap (settled_by config (words_then (control.StoreWord index extent))) (image_then (control.StoreWord index extent) control_here)
+          ∙ sym (counts_then change config stage.words all_goes.follows.block all_goes.follows.ghost (after graph given_entries) given_entries stage.machines extent image index seen_set phase cset hints command calls known_control.ready all_goes.follows.words known_control.aims.0 known_control.aims.1 known_control.aims.2 all_goes.follows.seats
           (nat_lt (next_stored config extent image index) (image_words config)) refl)
-          ∙ sym (ap (settled_by config stage.words) (held_is (control.StoreWord index extent) here)))
+          ∙ sym (ap (settled_by config stage.words) (held_is (control.StoreWord index extent) control_here)))
 
       -- wherever it stands
       control_counts : (spot : ControlSpot) → Here (control_at spot) → CountsAt spot
-      control_counts control.LookLeft here not = plain_counts control.LookLeft here refl refl refl not
-      control_counts control.StoreEnd here not = plain_counts control.StoreEnd here refl refl refl not
-      control_counts control.LookAsked here not = plain_counts control.LookAsked here refl refl refl not
-      control_counts control.LookFree here not = plain_counts control.LookFree here refl refl refl not
-      control_counts (control.Working spot) here not =
-          plain_counts (control.Working spot) here refl refl (is_word_from config _ (unit_inside config (control_seat config) spot (omega arith) (and_parts _ _ (known (control.Working spot) here).ready).0)) not
-      control_counts (control.Stopping spot) here not = plain_counts (control.Stopping spot) here refl refl (and_parts _ _ (and_parts _ _ (known (control.Stopping spot) here).ready).0).0 not
-      control_counts (control.LoadWord index extent) here not = load_counts index extent here not
-      control_counts (control.StoreWord index extent) here not = store_counts index extent here
-      control_counts control.Go here not = plain_counts control.Go here refl refl refl not
-      control_counts control.Gone here not = plain_counts control.Gone here refl refl refl not
+      control_counts control.LookLeft control_here not_beginning = plain_counts control.LookLeft control_here refl refl refl not_beginning
+      control_counts control.StoreEnd control_here not_beginning = plain_counts control.StoreEnd control_here refl refl refl not_beginning
+      control_counts control.LookAsked control_here not_beginning = plain_counts control.LookAsked control_here refl refl refl not_beginning
+      control_counts control.LookFree control_here not_beginning = plain_counts control.LookFree control_here refl refl refl not_beginning
+      control_counts (control.Working spot) control_here not_beginning =
+          plain_counts (control.Working spot) control_here refl refl (is_word_from config _ (unit_inside config (control_seat config) spot (omega arith) (and_parts _ _ (known (control.Working spot) control_here).ready).0)) not_beginning
+      control_counts (control.Stopping spot) control_here not_beginning = plain_counts (control.Stopping spot) control_here refl refl (and_parts _ _ (and_parts _ _ (known (control.Stopping spot) control_here).ready).0).0 not_beginning
+      control_counts (control.LoadWord index extent) control_here not_beginning = load_counts index extent control_here not_beginning
+      control_counts (control.StoreWord index extent) control_here not_beginning = store_counts index extent control_here
+      control_counts control.Go control_here not_beginning = plain_counts control.Go control_here refl refl refl not_beginning
+      control_counts control.Gone control_here not_beginning = plain_counts control.Gone control_here refl refl refl not_beginning
 
 -- A machine of whose event without an order this is known, in place of another that has an order: so it is of the event of that one, where
 -- both events make the same access and lead to the same machine.
-module _ (change : Change) (config : Config) (s : Stage Actor) (number : ℕ) (order : Order) (before taken : Actor) (here : slice_get s.machines number ≡ Some before) (place : TakesPlace config number before taken)
+module _ (change : Change) (config : Config) (started_stage : Stage Actor) (number : ℕ) (order : Order) (before taken : Actor) (actor_before : slice_get started_stage.machines number ≡ Some before) (place_taken : TakesPlace config number before taken)
     (plan : plan_of config Nothing taken.machine ≡ plan_of config order before.machine) (took : (got : ℕ) → took_of change config taken Nothing got taken.machine ≡ took_of change config before order got before.machine) where
   abbrev stage_with : Stage Actor
-  stage_with = replaced config s number before taken here place
+  stage_with = replaced config started_stage number before taken actor_before place_taken
 
-  moved_with : moved (kind change config) stage_with number taken Nothing ≡ moved (kind change config) s number before order
-  moved_with = moved_replaced config s number before taken here place change order plan took
+  moved_with : moved (kind change config) stage_with number taken Nothing ≡ moved (kind change config) started_stage number before order
+  moved_with = moved_replaced config started_stage number before taken actor_before place_taken change order plan took
 
   counts_in_place : (access : Access) (touch : Touch) → CountsAfter config (settled config stage_with) (settled config (moved (kind change config) stage_with number taken Nothing)) access touch
-      → CountsAfter config (settled config s) (settled config (moved (kind change config) s number before order)) access touch
+      → CountsAfter config (settled config started_stage) (settled config (moved (kind change config) started_stage number before order)) access touch
   counts_in_place access touch counts =
-      subst (λ memory. CountsAfter config memory (settled config (moved (kind change config) s number before order)) access touch) (settled_same config s number before taken here place)
+      subst (λ memory. CountsAfter config memory (settled config (moved (kind change config) started_stage number before order)) access touch) (settled_same config started_stage number before taken actor_before place_taken)
       (subst (λ stage. CountsAfter config (settled config stage_with) (settled config stage) access touch) moved_with counts)
 
-  begins_in_place : held_image config stage_with ≡ held_image config s → BeginsToCount config stage_with (moved (kind change config) stage_with number taken Nothing) → BeginsToCount config s (moved (kind change config) s number before order)
-  begins_in_place held begins = subst (λ stage. BeginsToCount config s stage) moved_with (record { image = begins.image; not_yet = sym held ∙ begins.not_yet; counts = begins.counts })
+  begins_in_place : held_image config stage_with ≡ held_image config started_stage → BeginsToCount config stage_with (moved (kind change config) stage_with number taken Nothing) → BeginsToCount config started_stage (moved (kind change config) started_stage number before order)
+  begins_in_place same_image begins = subst (λ stage. BeginsToCount config started_stage stage) moved_with (record { image = begins.image; not_yet = sym same_image ∙ begins.not_yet; counts = begins.counts })
 
 -- So it is of an event of any machine, with an order or without.
-module _ (change : Change) (config : Config) (graph : Graph) (s : Stage Actor) (entries : List Entry) (goes : Goes config graph s entries) (number : ℕ) (order : Order) (command : Command) (calls : List Entry) where
+module _ (change : Change) (config : Config) (graph : Graph) (started_stage : Stage Actor) (entries : List Entry) (all_goes : Goes config graph started_stage entries) (number : ℕ) (order : Order) (command : Command) (calls : List Entry) where
   abbrev actor_with : Machine → Actor
   actor_with machine = record { machine = machine; command = command; calls = calls }
 
@@ -245,111 +245,111 @@ module _ (change : Change) (config : Config) (graph : Graph) (s : Stage Actor) (
   abbrev actor_then : ℕ → Machine → Command → Actor
   actor_then got machine kept = record { machine = machine_after change config order got machine; command = kept; calls = calls ++ [] }
 
-  helper_hinted_counts : (helper : Helping) → slice_get s.machines number ≡ Some (actor_with (helping helper)) → takes_of (helping helper) order ≡ true → Counts change config graph s entries goes number command calls order (helping helper)
-  helper_hinted_counts helper here takes =
-      let other_helper : Helping = helping_by config order helper in
-      let place = helper_takes_place config number order helper command calls in
-      counts_in_place change config s number order (actor_with (helping helper)) (actor_with (helping other_helper)) here place refl
+  helper_hinted_counts : (helper : Helping) → slice_get started_stage.machines number ≡ Some (actor_with (helping helper)) → takes_of (helping helper) order ≡ true → Counts change config graph started_stage entries all_goes number command calls order (helping helper)
+  helper_hinted_counts helper helper_there takes =
+      let hinted_helper : Helping = helping_by config order helper in
+      let place_taken = helper_takes_place config number order helper command calls in
+      counts_in_place change config started_stage number order (actor_with (helping helper)) (actor_with (helping hinted_helper)) helper_there place_taken refl
       (λ got. ap (actor_then got (helping helper)) (keeps_command (help.takes_hint helper.spot) order (and_parts _ _ takes).0)) (plan_of config order (helping helper)) (touch_in config order (helping helper))
-      (helper_counts change config graph (replaced config s number (actor_with (helping helper)) (actor_with (helping other_helper)) here place) entries
-      (goes_replaced config graph s entries number (actor_with (helping helper)) (actor_with (helping other_helper)) here place goes) number command calls other_helper
-      (there config s number (actor_with (helping helper)) (actor_with (helping other_helper)) here place))
+      (helper_counts change config graph (replaced config started_stage number (actor_with (helping helper)) (actor_with (helping hinted_helper)) helper_there place_taken) entries
+      (goes_replaced config graph started_stage entries number (actor_with (helping helper)) (actor_with (helping hinted_helper)) helper_there place_taken all_goes) number command calls hinted_helper
+      (there config started_stage number (actor_with (helping helper)) (actor_with (helping hinted_helper)) helper_there place_taken))
 
-  control_hinted_counts : (k : Controlling) → slice_get s.machines number ≡ Some (actor_with (controlling k)) → takes_of (controlling k) order ≡ true
-      → (BeginsToCount config s (moved (kind change config) s number (actor_with (controlling k)) order) → ⊥) → Counts change config graph s entries goes number command calls order (controlling k)
-  control_hinted_counts k here takes not =
-      let y : Controlling = controlling_by config order k in
-      let place = control_takes_place config number order k command calls in
-      let stage : Stage Actor = replaced config s number (actor_with (controlling k)) (actor_with (controlling y)) here place in
-      let goes_then : Goes config graph stage entries = goes_replaced config graph s entries number (actor_with (controlling k)) (actor_with (controlling y)) here place goes in
-      let there_is : slice_get stage.machines number ≡ Some (actor_with (controlling y)) = there config s number (actor_with (controlling k)) (actor_with (controlling y)) here place in
-      let held : held_image config stage ≡ held_image config s =
-      held_is change config graph stage entries goes_then number command calls y.seen y.phase y.cset y.hints y.image y.spot there_is
-      ∙ control_hinted_image config (hint_in order) k
-      ∙ sym (held_is change config graph s entries goes number command calls k.seen k.phase k.cset k.hints k.image k.spot here) in
-      let took : (got : ℕ) → took_of change config (actor_with (controlling y)) Nothing got (controlling y) ≡ took_of change config (actor_with (controlling k)) order got (controlling k) =
-      λ got. ap (actor_then got (controlling k)) (keeps_command (controls.takes_hint k.spot) order (and_parts _ _ takes).0) in
-      counts_in_place change config s number order (actor_with (controlling k)) (actor_with (controlling y)) here place refl took (plan_of config order (controlling k)) (touch_in config order (controlling k))
-      (control_counts change config graph stage entries goes_then number command calls y.seen y.phase y.cset y.hints y.image y.spot there_is
-      (λ begins. not (begins_in_place change config s number order (actor_with (controlling k)) (actor_with (controlling y)) here place refl took held begins)))
+  control_hinted_counts : (own_control : Controlling) → slice_get started_stage.machines number ≡ Some (actor_with (controlling own_control)) → takes_of (controlling own_control) order ≡ true
+      → (BeginsToCount config started_stage (moved (kind change config) started_stage number (actor_with (controlling own_control)) order) → ⊥) → Counts change config graph started_stage entries all_goes number command calls order (controlling own_control)
+  control_hinted_counts own_control control_there takes not_beginning =
+      let hinted_control : Controlling = controlling_by config order own_control in
+      let place_taken = control_takes_place config number order own_control command calls in
+      let stage : Stage Actor = replaced config started_stage number (actor_with (controlling own_control)) (actor_with (controlling hinted_control)) control_there place_taken in
+      let goes_then : Goes config graph stage entries = goes_replaced config graph started_stage entries number (actor_with (controlling own_control)) (actor_with (controlling hinted_control)) control_there place_taken all_goes in
+      let there_is : slice_get stage.machines number ≡ Some (actor_with (controlling hinted_control)) = there config started_stage number (actor_with (controlling own_control)) (actor_with (controlling hinted_control)) control_there place_taken in
+      let same_image : held_image config stage ≡ held_image config started_stage =
+      held_is change config graph stage entries goes_then number command calls hinted_control.seen hinted_control.phase hinted_control.cset hinted_control.hints hinted_control.image hinted_control.spot there_is
+      ∙ control_hinted_image config (hint_in order) own_control
+      ∙ sym (held_is change config graph started_stage entries all_goes number command calls own_control.seen own_control.phase own_control.cset own_control.hints own_control.image own_control.spot control_there) in
+      let took : (got : ℕ) → took_of change config (actor_with (controlling hinted_control)) Nothing got (controlling hinted_control) ≡ took_of change config (actor_with (controlling own_control)) order got (controlling own_control) =
+      λ got. ap (actor_then got (controlling own_control)) (keeps_command (controls.takes_hint own_control.spot) order (and_parts _ _ takes).0) in
+      counts_in_place change config started_stage number order (actor_with (controlling own_control)) (actor_with (controlling hinted_control)) control_there place_taken refl took (plan_of config order (controlling own_control)) (touch_in config order (controlling own_control))
+      (control_counts change config graph stage entries goes_then number command calls hinted_control.seen hinted_control.phase hinted_control.cset hinted_control.hints hinted_control.image hinted_control.spot there_is
+      (λ begins. not_beginning (begins_in_place change config started_stage number order (actor_with (controlling own_control)) (actor_with (controlling hinted_control)) control_there place_taken refl took same_image begins)))
 
-  machine_counts : (machine : Machine) → slice_get s.machines number ≡ Some (actor_with machine) → takes_of machine order ≡ true
-      → (BeginsToCount config s (moved (kind change config) s number (actor_with machine) order) → ⊥) → Counts change config graph s entries goes number command calls order machine
-  machine_counts (mutating mutator) here takes not = mutator_counts change config graph s entries goes number command calls order mutator here takes
-  machine_counts (helping helper) here takes not = helper_hinted_counts helper here takes
-  machine_counts (controlling k) here takes not = control_hinted_counts k here takes not
+  machine_counts : (machine : Machine) → slice_get started_stage.machines number ≡ Some (actor_with machine) → takes_of machine order ≡ true
+      → (BeginsToCount config started_stage (moved (kind change config) started_stage number (actor_with machine) order) → ⊥) → Counts change config graph started_stage entries all_goes number command calls order machine
+  machine_counts (mutating mutator) machine_there takes not_beginning = mutator_counts change config graph started_stage entries all_goes number command calls order mutator machine_there takes
+  machine_counts (helping helper) machine_there takes not_beginning = helper_hinted_counts helper machine_there takes
+  machine_counts (controlling own_control) machine_there takes not_beginning = control_hinted_counts own_control machine_there takes not_beginning
 
-module _ (change : Change) (config : Config) (graph : Graph) (stage : Stage Actor) (entries : List Entry) (goes : Goes config graph stage entries) (e : Event Order) where
+module _ (change : Change) (config : Config) (graph : Graph) (stage : Stage Actor) (entries : List Entry) (all_goes : Goes config graph stage entries) (given_event : Event Order) where
   abbrev stands : StandsFor config stage (after graph entries)
-  stands = stands_there config graph stage entries goes
+  stands = stands_there config graph stage entries all_goes
 
   abbrev world_now : World
-  world_now = world_of config stage goes.follows.block goes.follows.ghost (after graph entries)
+  world_now = world_of config stage all_goes.follows.block all_goes.follows.ghost (after graph entries)
 
   abbrev Spares : (Word → ℕ) → Type 0
-  Spares later = EventSpares change config stage (after graph entries) e later
+  Spares later = EventSpares change config stage (after graph entries) given_event later
 
   -- where the words that count stay
   spares_same : Spares (settled config stage)
   spares_same = record {
     stands = stands;
     quiet = λ quiet. quiet;
-    headers = λ address actor is no_room. inl refl;
-    words = λ a k actor is alone behind below. refl;
+    headers = λ address piece piece_there no_room. inl refl;
+    words = λ piece_address offset piece piece_there alone behind_header word_below. refl;
   }
 
   -- where a machine makes an access
-  module _ (actor : Actor) (event : IsEvent (kind change config) stage e actor) where
+  module _ (actor : Actor) (is_event : IsEvent (kind change config) stage given_event actor) where
     abbrev touch : Touch
-    touch = touch_in config e.order actor.machine
+    touch = touch_in config given_event.order actor.machine
 
-    writes : Writes config world_now e.number touch (WorkIn e.order actor.machine)
-    writes = machine_writes config world_now goes.follows.shared stage.words (of_thread entries (e.number + 1)) e.number actor e.order actor.machine (goes.follows.machines e.number actor event.here)
+    writes : Writes config world_now given_event.number touch (WorkIn given_event.order actor.machine)
+    writes = machine_writes config world_now all_goes.follows.shared stage.words (of_thread entries (given_event.number + 1)) given_event.number actor given_event.order actor.machine (all_goes.follows.machines given_event.number actor is_event.here)
 
     -- who publishes a copy copies
-    forwards : (address : ℕ) → plan_of config e.order actor.machine ≡ placed config touch → IsMade config world_now goes.follows.shared e.number touch (WorkIn e.order actor.machine) address
-        → IsForwarding change config stage world_now e address (touched (settled config stage) touch (Heap address))
+    forwards : (address : ℕ) → plan_of config given_event.order actor.machine ≡ placed config touch → IsMade config world_now all_goes.follows.shared given_event.number touch (WorkIn given_event.order actor.machine) address
+        → IsForwarding change config stage world_now given_event address (touched (settled config stage) touch (Heap address))
     unfolding publishing
-    forwards address plan made = record {
+    forwards address plan address_made = record {
       actor = actor;
-      event = event;
-      copies = sym (in_seat config stage.words world_now (of_thread entries (e.number + 1)) e.number actor actor.machine (goes.follows.machines e.number actor event.here)).copies ∙ made.publication.copies;
-      body = made.body;
-      object = made.object;
-      inside = made.publication.inside;
-      publishing = publishing config world_now e.number address made.body touch (plan_of config e.order actor.machine) plan made.publication;
-      was = made.was;
-      leads = made.leads;
+      event = is_event;
+      copies = sym (in_seat config stage.words world_now (of_thread entries (given_event.number + 1)) given_event.number actor actor.machine (all_goes.follows.machines given_event.number actor is_event.here)).copies ∙ address_made.publication.copies;
+      body = address_made.body;
+      object = address_made.object;
+      inside = address_made.publication.inside;
+      publishing = publishing config world_now given_event.number address address_made.body touch (plan_of config given_event.order actor.machine) plan address_made.publication;
+      was = address_made.was;
+      leads = address_made.leads;
     }
 
-    spares_access : plan_of config e.order actor.machine ≡ placed config touch → Spares (touched (settled config stage) touch)
+    spares_access : plan_of config given_event.order actor.machine ≡ placed config touch → Spares (touched (settled config stage) touch)
     spares_access plan = record {
       stands = stands;
-      quiet = quiet_stays config world_now goes.follows.shared e.number touch (WorkIn e.order actor.machine) writes;
-      headers = λ address piece is no_room. ⊎_elim
-          (λ same. inl same)
+      quiet = quiet_stays config world_now all_goes.follows.shared given_event.number touch (WorkIn given_event.order actor.machine) writes;
+      headers = λ address piece piece_there no_room. ⊎_elim
+          (λ same_header. inl same_header)
           (λ made. inr (forwards address plan made))
-          (header_stays config world_now goes.follows.shared e.number touch (WorkIn e.order actor.machine) address piece is (some_words config (λ region. world_now.memory (Top region)) world_now.block goes.follows.shared.parsable goes.follows.shared.owned.rooms address piece is) writes no_room);
-      words = λ a k y is alone behind below. words_stay config world_now goes.follows.shared e.number touch (WorkIn e.order actor.machine) a k y is below writes alone behind;
+          (header_stays config world_now all_goes.follows.shared given_event.number touch (WorkIn given_event.order actor.machine) address piece piece_there (some_words config (λ region. world_now.memory (Top region)) world_now.block all_goes.follows.shared.parsable all_goes.follows.shared.owned.rooms address piece piece_there) writes no_room);
+      words = λ piece_address offset own_piece piece_there alone behind_header word_below. words_stay config world_now all_goes.follows.shared given_event.number touch (WorkIn given_event.order actor.machine) piece_address offset own_piece piece_there word_below writes alone behind_header;
     }
 
   -- so of any event
-  pub event_spares : (BeginsToCount config stage (act (kind change config) stage e) → ⊥) → Spares (settled config (act (kind change config) stage e))
+  pub event_spares : (BeginsToCount config stage (act (kind change config) stage given_event) → ⊥) → Spares (settled config (act (kind change config) stage given_event))
   unfolding act kind
-  event_spares not = by_machine (slice_get stage.machines e.number) refl not
+  event_spares not_beginning = by_machine (slice_get stage.machines given_event.number) refl not_beginning
     where
-      by_order : (actor : Actor) (holds : Bool) → slice_get stage.machines e.number ≡ Some actor → takes_of actor.machine e.order ≡ holds
-          → (BeginsToCount config stage (if holds then moved (kind change config) stage e.number actor e.order else stage) → ⊥) → Spares (settled config (if holds then moved (kind change config) stage e.number actor e.order else stage))
-      by_order actor true here takes out = ⊎_elim
-          (λ same. subst Spares (sym same) spares_same)
-          (λ made. subst Spares (sym made.1) (spares_access actor (record { here = here; takes = takes }) made.0))
-          (machine_counts change config graph stage entries goes e.number e.order actor.command actor.calls actor.machine here takes out)
-      by_order actor false here takes out = spares_same
+      by_order : (actor : Actor) (holds : Bool) → slice_get stage.machines given_event.number ≡ Some actor → takes_of actor.machine given_event.order ≡ holds
+          → (BeginsToCount config stage (if holds then moved (kind change config) stage given_event.number actor given_event.order else stage) → ⊥) → Spares (settled config (if holds then moved (kind change config) stage given_event.number actor given_event.order else stage))
+      by_order actor true actor_there takes not_begun = ⊎_elim
+          (λ same_settled. subst Spares (sym same_settled) spares_same)
+          (λ made. subst Spares (sym made.1) (spares_access actor (record { here = actor_there; takes = takes }) made.0))
+          (machine_counts change config graph stage entries all_goes given_event.number given_event.order actor.command actor.calls actor.machine actor_there takes not_begun)
+      by_order actor false actor_there takes not_begun = spares_same
 
-      by_machine : (found : Option Actor) → slice_get stage.machines e.number ≡ found → (BeginsToCount config stage (act_of (kind change config) stage e found) → ⊥) → Spares (settled config (act_of (kind change config) stage e found))
-      by_machine None here out = spares_same
-      by_machine (Some actor) here out = by_order actor (takes_of actor.machine e.order) here refl out
+      by_machine : (found : Option Actor) → slice_get stage.machines given_event.number ≡ found → (BeginsToCount config stage (act_of (kind change config) stage given_event found) → ⊥) → Spares (settled config (act_of (kind change config) stage given_event found))
+      by_machine None found_there not_begun = spares_same
+      by_machine (Some actor) found_there not_begun = by_order actor (takes_of actor.machine given_event.order) found_there refl not_begun
 
 pub events_spare_copies : EventsSpareCopies
-events_spare_copies change law c s g begins events e not =
-    event_spares change c g (go (kind change c) s events) (history change c s events) (stage_goes change law c s g begins events) e not
+events_spare_copies change law config stage graph begins events event not_beginning =
+    event_spares change config graph (go (kind change config) stage events) (history change config stage events) (stage_goes change law config stage graph begins events) event not_beginning

@@ -118,7 +118,7 @@ pub data Writes (config : Config) (world : World) (seat : ℕ) (touch : Touch) (
 abbrev pub touch_in : Config → Order → Machine → Touch
 touch_in config order (mutating mutator) = touch_of config mutator order
 touch_in config order (helping helper) = helps.help_touch config (helping_by config order helper)
-touch_in config order (controlling k) = control_touch config (controlling_by config order k).spot
+touch_in config order (controlling own_control) = control_touch config (controlling_by config order own_control).spot
 
 -- whether it may write fields and numbers of objects: only a mutator does, at the places of these writes
 abbrev pub WorkIn : Order → Machine → Type 0
@@ -137,69 +137,69 @@ module _ (config : Config) (world : World) (shared : Shared config world) where
   take_writes seat words (take.ShareRegion buffer shared_word region) Work facts = Writes.elsewhere refl
   take_writes seat words (take.GiveBack buffer region) Work facts = Writes.elsewhere refl
   take_writes seat words (take.Fill buffer address room) Work facts =
-      Writes.fills (next_in buffer) 0 (spare seat (takes.free_words buffer)) facts.left refl (let some = facts.some in omega (arith, some)) (ap Heap (omega arith))
+      Writes.fills (next_in buffer) 0 (spare seat (takes.free_words buffer)) facts.left refl (let some_words = facts.some in omega (arith, some_words)) (ap Heap (omega arith))
   take_writes seat words (take.StoreBuffer address room) Work facts = Writes.elsewhere refl
   take_writes seat words (take.Ended taken end) Work facts = Writes.elsewhere refl
 
   -- a step of a resolving leaves the word of the copiers quiet
   quiet_then : (seat address : ℕ) (spot : ResolveSpot) → resolves.is_ended spot ≡ false → CanResolve config world seat address spot → IsQuiet (world.memory Evac) → IsQuiet (touched world.memory (resolves.touch_at config seat address spot) Evac)
-  quiet_then seat address spot going can quiet =
-      let step = ((resolving_steps.steps config seat address).goes world spot going shared can).step in
+  quiet_then seat address spot spot_going can_resolve quiet =
+      let step = ((resolving_steps.steps config seat address).goes world spot spot_going shared can_resolve).step in
       subst (λ (memory : Word → ℕ). IsQuiet (memory Evac)) step.memory (step.keeps.copies.quiet quiet)
 
   -- of who copies
   copy_writes : (seat address copy end : ℕ) (spot : CopySpot) (Work : Type 0) → CanResolve config world seat address (Copying copy end spot) → Writes config world seat (resolves.copy_touch seat address copy end spot) Work
-  copy_writes seat address copy end (LoadWord words index) Work can = Writes.only_loads refl
-  copy_writes seat address copy end (StoreWord words index found) Work can =
-      let less = can.facts.2.2 in let long = can.facts.2.0 in Writes.fills copy index (hand seat (body_words can.facts.0)) can.facts.2.3.taken.here refl (omega (arith, less, long)) refl
-  copy_writes seat address copy end StoreHeader Work can = Writes.fills copy 0 (hand seat (body_words can.facts.0)) can.facts.2.taken.here refl (omega arith) (ap Heap (omega arith))
-  copy_writes seat address copy end Publish Work can = Writes.publishes address can.facts.0 (record {
+  copy_writes seat address copy end (LoadWord words index) Work can_resolve = Writes.only_loads refl
+  copy_writes seat address copy end (StoreWord words index found) Work can_resolve =
+      let copied_below = can_resolve.facts.2.2 in let copy_long = can_resolve.facts.2.0 in Writes.fills copy index (hand seat (body_words can_resolve.facts.0)) can_resolve.facts.2.3.taken.here refl (omega (arith, copied_below, copy_long)) refl
+  copy_writes seat address copy end StoreHeader Work can_resolve = Writes.fills copy 0 (hand seat (body_words can_resolve.facts.0)) can_resolve.facts.2.taken.here refl (omega arith) (ap Heap (omega arith))
+  copy_writes seat address copy end Publish Work can_resolve = Writes.publishes address can_resolve.facts.0 (record {
     copy = copy;
     end = end;
     word = refl;
     form = refl;
-    inside = can.inside;
-    copies = can.copying;
-    there = can.facts.1;
-    copied = can.facts.2.0;
-    plain = can.facts.2.1;
+    inside = can_resolve.inside;
+    copies = can_resolve.copying;
+    there = can_resolve.facts.1;
+    copied = can_resolve.facts.2.0;
+    plain = can_resolve.facts.2.1;
   })
-  copy_writes seat address copy end (GiveBack answer) Work can = Writes.elsewhere refl
+  copy_writes seat address copy end (GiveBack answer) Work can_resolve = Writes.elsewhere refl
 
   -- of who resolves an address, also while references are updated
   resolve_writes : (seat address : ℕ) (spot : ResolveSpot) (Work : Type 0) → CanResolve config world seat address spot → Writes config world seat (resolves.touch_at config seat address spot) Work
-  resolve_writes seat address LoadHeader Work can = Writes.only_loads refl
-  resolve_writes seat address (Entering spot) Work can = Writes.counts refl (quiet_then seat address (Entering spot) refl can)
-  resolve_writes seat address LoadShape Work can = Writes.only_loads refl
-  resolve_writes seat address (Taking words spot) Work can = take_writes seat words spot Work can.facts.2.1.facts
-  resolve_writes seat address (Copying copy end spot) Work can = copy_writes seat address copy end spot Work can
-  resolve_writes seat address (Leaving answer) Work can = Writes.counts refl (quiet_then seat address (Leaving answer) refl can)
-  resolve_writes seat address (Stopping spot) Work can = Writes.counts refl (quiet_then seat address (Stopping spot) refl can)
-  resolve_writes seat address LoadAgain Work can = Writes.only_loads refl
-  resolve_writes seat address (Resolved answer) Work can = Writes.only_loads refl
+  resolve_writes seat address LoadHeader Work can_resolve = Writes.only_loads refl
+  resolve_writes seat address (Entering spot) Work can_resolve = Writes.counts refl (quiet_then seat address (Entering spot) refl can_resolve)
+  resolve_writes seat address LoadShape Work can_resolve = Writes.only_loads refl
+  resolve_writes seat address (Taking words spot) Work can_resolve = take_writes seat words spot Work can_resolve.facts.2.1.facts
+  resolve_writes seat address (Copying copy end spot) Work can_resolve = copy_writes seat address copy end spot Work can_resolve
+  resolve_writes seat address (Leaving answer) Work can_resolve = Writes.counts refl (quiet_then seat address (Leaving answer) refl can_resolve)
+  resolve_writes seat address (Stopping spot) Work can_resolve = Writes.counts refl (quiet_then seat address (Stopping spot) refl can_resolve)
+  resolve_writes seat address LoadAgain Work can_resolve = Writes.only_loads refl
+  resolve_writes seat address (Resolved answer) Work can_resolve = Writes.only_loads refl
 
   resolving_writes : (seat address : ℕ) (spot : ResolveSpot) (Work : Type 0) → IsResolving config world seat address spot → Writes config world seat (resolves.touch_at config seat address spot) Work
-  resolving_writes seat address spot Work (inl can) = resolve_writes seat address spot Work can
-  resolving_writes seat address spot Work (inr can) = Writes.only_loads (following_steps.only_loads config world seat address spot can)
+  resolving_writes seat address spot Work (inl can_resolve) = resolve_writes seat address spot Work can_resolve
+  resolving_writes seat address spot Work (inr can_resolve) = Writes.only_loads (following_steps.only_loads config world seat address spot can_resolve)
 
   -- of who updates references
   update_writes : (seat cset : ℕ) (spot : UpdateSpot) (Work : Type 0) → CanUpdate config world seat cset spot → Writes config world seat (updates.touch_at config spot) Work
-  update_writes seat cset (update.ClaimUnit unit) Work can = Writes.elsewhere refl
-  update_writes seat cset (update.ExchangeField at field found copy) Work can =
-      let has = can.facts.0 in
-      let holder = can.facts.1.holder in
-      let object = (shared.contents.objects.each at.address holder.1 holder.2 holder.0 holder.3).2 in
-      let less = has.below in
-      let refs = ap refs_in (has.shape_is ∙ object.shape) ∙ refs_in-shape_word holder.1 holder.2 object.few_refs object.few_nums in
-      Writes.renews at.address (3 + field) holder.1 holder.2 holder.0 holder.3 (λ inside. (shared.updated can.phase).outside at.address holder.1 holder.2 holder.0 holder.3 inside)
-      (omega arith) (omega (arith, less, refs)) (ap Heap (omega arith))
-  update_writes seat cset _ Work can = Writes.only_loads refl
+  update_writes seat cset (update.ClaimUnit unit) Work can_update = Writes.elsewhere refl
+  update_writes seat cset (update.ExchangeField field_address field found copy) Work can_update =
+      let has_field = can_update.facts.0 in
+      let holder = can_update.facts.1.holder in
+      let object = (shared.contents.objects.each field_address.address holder.1 holder.2 holder.0 holder.3).2 in
+      let field_below = has_field.below in
+      let refs = ap refs_in (has_field.shape_is ∙ object.shape) ∙ refs_in-shape_word holder.1 holder.2 object.few_refs object.few_nums in
+      Writes.renews field_address.address (3 + field) holder.1 holder.2 holder.0 holder.3 (λ inside. (shared.updated can_update.phase).outside field_address.address holder.1 holder.2 holder.0 holder.3 inside)
+      (omega arith) (omega (arith, field_below, refs)) (ap Heap (omega arith))
+  update_writes seat cset _ Work can_update = Writes.only_loads refl
 
   -- of who evacuates
   evac_writes : (seat cset : ℕ) (spot : EvacSpot) (Work : Type 0) → CanEvacuate config world seat cset spot → Writes config world seat (evacs.touch_at config seat spot) Work
-  evac_writes seat cset (evac.ClaimUnit unit) Work can = Writes.elsewhere refl
-  evac_writes seat cset (evac.Resolving address end next spot) Work can = resolve_writes seat address spot Work can.facts.1
-  evac_writes seat cset _ Work can = Writes.only_loads refl
+  evac_writes seat cset (evac.ClaimUnit unit) Work can_evacuate = Writes.elsewhere refl
+  evac_writes seat cset (evac.Resolving address end next_piece spot) Work can_evacuate = resolve_writes seat address spot Work can_evacuate.facts.1
+  evac_writes seat cset _ Work can_evacuate = Writes.only_loads refl
 
   -- of who scans
   scan_writes : (seat : ℕ) (spot : ScanSpot) (Work : Type 0) → Writes config world seat (scans.touch_at config spot) Work
@@ -210,22 +210,22 @@ module _ (config : Config) (world : World) (shared : Shared config world) where
 
   -- of who works on a unit
   unit_writes : (seat : ℕ) (spot : UnitSpot) (Work : Type 0) → CanWork config world seat spot → Writes config world seat (units.touch_at config seat spot) Work
-  unit_writes seat (unit.Scanning spot) Work can = scan_writes seat spot Work
-  unit_writes seat (unit.Evacuating cset spot) Work can = evac_writes seat cset spot Work can
-  unit_writes seat (unit.Updating cset spot) Work can = update_writes seat cset spot Work can
-  unit_writes seat (unit.Ended ended) Work can = Writes.only_loads refl
+  unit_writes seat (unit.Scanning spot) Work can_work = scan_writes seat spot Work
+  unit_writes seat (unit.Evacuating cset spot) Work can_work = evac_writes seat cset spot Work can_work
+  unit_writes seat (unit.Updating cset spot) Work can_work = update_writes seat cset spot Work can_work
+  unit_writes seat (unit.Ended ended) Work can_work = Writes.only_loads refl
 
   -- of who enters, and of who stops the others
-  enter_writes : (seat of : ℕ) (spot : EnterSpot) (Work : Type 0) → Writes config world seat (enter_touch of spot) Work
-  enter_writes seat of enter.Raise Work = Writes.elsewhere refl
-  enter_writes seat of enter.Look Work = Writes.elsewhere refl
-  enter_writes seat of enter.Lower Work = Writes.elsewhere refl
-  enter_writes seat of enter.Await Work = Writes.elsewhere refl
-  enter_writes seat of enter.Inside Work = Writes.elsewhere refl
+  enter_writes : (seat entering_seat : ℕ) (spot : EnterSpot) (Work : Type 0) → Writes config world seat (enter_touch entering_seat spot) Work
+  enter_writes seat entering_seat enter.Raise Work = Writes.elsewhere refl
+  enter_writes seat entering_seat enter.Look Work = Writes.elsewhere refl
+  enter_writes seat entering_seat enter.Lower Work = Writes.elsewhere refl
+  enter_writes seat entering_seat enter.Await Work = Writes.elsewhere refl
+  enter_writes seat entering_seat enter.Inside Work = Writes.elsewhere refl
 
   stop_writes : (seat : ℕ) (spot : StopSpot) (Work : Type 0) → Writes config world seat (stop_touch spot) Work
   stop_writes seat stop.Raise Work = Writes.elsewhere refl
-  stop_writes seat (stop.Check of) Work = Writes.elsewhere refl
+  stop_writes seat (stop.Check checked_seat) Work = Writes.elsewhere refl
   stop_writes seat stop.Stopped Work = Writes.elsewhere refl
 
   -- of a helper
@@ -254,8 +254,8 @@ module _ (config : Config) (world : World) (shared : Shared config world) where
   -- by the parts of a call
   load_writes : (seat : ℕ) (command : Command) (spot : LoadSpot) (Work : Type 0) → Writes config world seat (load_touch seat command spot) Work
   load_writes seat command load.First Work = Writes.only_loads refl
-  load_writes seat command (load.Second first) Work = Writes.only_loads refl
-  load_writes seat command (load.Third first second) Work = Writes.only_loads refl
+  load_writes seat command (load.Second first_number) Work = Writes.only_loads refl
+  load_writes seat command (load.Third first_number second) Work = Writes.only_loads refl
   load_writes seat command (load.Shape object second third) Work = Writes.only_loads refl
 
   field_writes : (seat : ℕ) (kept command : Command) (fixed : Option Reply) (object : ℕ) (spot : FieldSpot) → FieldFacts config world seat kept command fixed object spot → Writes config world seat (field_touch object kept spot) (is_write (field_place spot) ≡ true)
@@ -263,20 +263,20 @@ module _ (config : Config) (world : World) (shared : Shared config world) where
   field_writes seat kept command fixed object (fields.LoadExpected expect value) facts = Writes.only_loads refl
   field_writes seat kept command fixed object (fields.LoadOld value) facts = Writes.only_loads refl
   field_writes seat kept command fixed object (fields.Store value) facts =
-      let set = facts.1 in let within = set.below in Writes.works object (3 + index_of kept) set.of.refs set.of.nums set.of.name set.of.target (omega arith) (omega (arith, within)) (ap Heap (omega arith)) refl
+      let set_facts = facts.1 in let field_within = set_facts.below in Writes.works object (3 + index_of kept) set_facts.of.refs set_facts.of.nums set_facts.of.name set_facts.of.target (omega arith) (omega (arith, field_within)) (ap Heap (omega arith)) refl
   field_writes seat kept command fixed object (fields.Swap value) facts =
-      let swap = facts.1 in let within = swap.below in Writes.works object (3 + index_of kept) swap.of.refs swap.of.nums swap.of.name swap.of.target (omega arith) (omega (arith, within)) (ap Heap (omega arith)) refl
+      let swap = facts.1 in let field_within = swap.below in Writes.works object (3 + index_of kept) swap.of.refs swap.of.nums swap.of.name swap.of.target (omega arith) (omega (arith, field_within)) (ap Heap (omega arith)) refl
   field_writes seat kept command fixed object (fields.Exchange found expect value) facts =
-      let cas = facts.1 in let within = cas.below in Writes.works object (3 + index_of kept) cas.of.refs cas.of.nums cas.of.name cas.of.target (omega arith) (omega (arith, within)) (ap Heap (omega arith)) refl
+      let cas = facts.1 in let field_within = cas.below in Writes.works object (3 + index_of kept) cas.of.refs cas.of.nums cas.of.name cas.of.target (omega arith) (omega (arith, field_within)) (ap Heap (omega arith)) refl
 
   number_writes : (seat : ℕ) (kept command : Command) (fixed : Option Reply) (object refs : ℕ) (spot : NumberSpot) → NumberFacts config world seat kept command fixed object refs spot
       → Writes config world seat (number_touch object refs kept spot) (is_write (number_place spot) ≡ true)
   number_writes seat kept command fixed object refs numbers.Load facts = Writes.only_loads refl
   number_writes seat kept command fixed object refs numbers.Store facts =
-      let wr = facts.1 in
-      let within = wr.below in
-      let long = wr.refs_are in
-      Writes.works object (3 + refs + index_of kept) wr.of.refs wr.of.nums wr.of.name wr.of.target (omega arith) (omega (arith, within, long)) (ap Heap (omega arith)) refl
+      let number_facts = facts.1 in
+      let number_within = number_facts.below in
+      let refs_counted = number_facts.refs_are in
+      Writes.works object (3 + refs + index_of kept) number_facts.of.refs number_facts.of.nums number_facts.of.name number_facts.of.target (omega arith) (omega (arith, number_within, refs_counted)) (ap Heap (omega arith)) refl
 
   remember_writes : (seat address : ℕ) (spot : RememberSpot) (Work : Type 0) → Writes config world seat (satb.touch_at config seat address spot) Work
   remember_writes seat address remember.LoadCount Work = Writes.elsewhere refl
@@ -293,7 +293,7 @@ module _ (config : Config) (world : World) (shared : Shared config world) where
 
   make_writes : (seat made : ℕ) (kept command : Command) (fixed : Option Reply) (spot : MakeSpot) (Work : Type 0) → MakeFacts config world seat made kept command fixed spot → Writes config world seat (make_touch seat made kept spot) Work
   make_writes seat made kept command fixed (make.Taking spot) Work facts = take_writes seat _ spot Work facts.1
-  make_writes seat made kept command fixed (make.StoreWord address done) Work facts = Writes.fills address done (hand seat _) facts.1.room refl facts.2 refl
+  make_writes seat made kept command fixed (make.StoreWord address stored_words) Work facts = Writes.fills address stored_words (hand seat _) facts.1.room refl facts.2 refl
   make_writes seat made kept command fixed (make.StoreRoot address) Work facts = Writes.elsewhere refl
 
   wait_writes : (seat made : ℕ) (command : Command) (spot : WaitSpot) (Work : Type 0) → Writes config world seat (wait_touch seat made command spot) Work
@@ -345,8 +345,8 @@ module _ (config : Config) (world : World) (shared : Shared config world) where
   machine_writes words entries number actor order (helping helper) facts = helper_writes (helping_by config order helper) (help_hinted_is config world number (hint_in order) helper facts)
     where
       helper_writes : (y : Helping) → IsHelper config world number y → Writes config world number (helps.help_touch config y) ⊥
-      helper_writes y known = subst (λ seat. Writes config world seat (helps.help_touch config y) ⊥) known.number_is (help_writes y.seat y.spot ⊥ (subst (λ seat. HelpFacts config world seat y.spot) (sym known.number_is) known.facts))
-  machine_writes words entries number actor order (controlling k) facts = the_control_writes (controlling_by config order k) (control_hinted_is config world number words (hint_in order) k facts)
+      helper_writes y is_helper = subst (λ seat. Writes config world seat (helps.help_touch config y) ⊥) is_helper.number_is (help_writes y.seat y.spot ⊥ (subst (λ seat. HelpFacts config world seat y.spot) (sym is_helper.number_is) is_helper.facts))
+  machine_writes words entries number actor order (controlling own_control) facts = the_control_writes (controlling_by config order own_control) (control_hinted_is config world number words (hint_in order) own_control facts)
     where
       the_control_writes : (y : Controlling) → IsControl config words world number y → Writes config world number (control_touch config y.spot) ⊥
-      the_control_writes y known = subst (λ seat. Writes config world seat (control_touch config y.spot) ⊥) (sym known.number_is) (control_writes y.spot ⊥ (subst (λ seat. ControlFacts config world seat y.spot) known.number_is known.facts))
+      the_control_writes y is_control = subst (λ seat. Writes config world seat (control_touch config y.spot) ⊥) (sym is_control.number_is) (control_writes y.spot ⊥ (subst (λ seat. ControlFacts config world seat y.spot) is_control.number_is is_control.facts))

@@ -39,154 +39,154 @@ use Rattle.cycle_runs.specs.Recycling.InHand.{IsLoadHand, IsFieldHand, IsLoadedH
 use Rattle.cycle_runs.proofs.Recycling.Free.{IsElsewhere, piece_elsewhere, null_elsewhere, named_elsewhere, points_elsewhere, target_elsewhere, usable_elsewhere}
 use Rattle.cycle_runs.proofs.Recycling.PartHands.{same_apart, either_apart, take_hand, resolve_hand, follow_hand, remember_hand}
 
-module _ (config : Config) (world : World) (shared : Shared config world) (region : ℕ) (inside : region < config.regions) (free : IsIn (world.memory Free) region) where
+module _ (config : Config) (world : World) (shared : Shared config world) (region : ℕ) (region_below : region < config.regions) (region_free : IsIn (world.memory Free) region) where
   -- an address does not lie there
   abbrev IsApart : ℕ → Type 0
-  IsApart a = IsElsewhere config world shared region inside free a
+  IsApart address = IsElsewhere config world shared region region_below region_free address
 
-  same : (a b : ℕ) → IsApart b → a ≡ b → IsApart a
-  same a b apart is = same_apart config world shared region inside free a b apart is
+  same : (address second_address : ℕ) → IsApart second_address → address ≡ second_address → IsApart address
+  same address second_address second_apart same_address = same_apart config world shared region region_below region_free address second_address second_apart same_address
 
-  either : (a b d : ℕ) → IsApart b → IsApart d → (a ≡ b) ⊎ (a ≡ d) → IsApart a
-  either a b d first second which = either_apart config world shared region inside free a b d first second which
+  either : (address first_address second_address : ℕ) → IsApart first_address → IsApart second_address → (address ≡ first_address) ⊎ (address ≡ second_address) → IsApart address
+  either address first_address second_address first_apart second_apart which_address = either_apart config world shared region region_below region_free address first_address second_address first_apart second_apart which_address
 
-  third_of : (a b d e : ℕ) → IsApart b → IsApart d → IsApart e → (a ≡ b) ⊎ ((a ≡ d) ⊎ (a ≡ e)) → IsApart a
-  third_of a b d e first second third which = ⊎_elim (λ (is : a ≡ b). same a b first is) (λ (rest : (a ≡ d) ⊎ (a ≡ e)). either a d e second third rest) which
+  third_of : (address first_address second_address third_address : ℕ) → IsApart first_address → IsApart second_address → IsApart third_address → (address ≡ first_address) ⊎ ((address ≡ second_address) ⊎ (address ≡ third_address)) → IsApart address
+  third_of address first_address second_address third_address first_apart second_apart third_apart which_address = ⊎_elim (λ (is_first : address ≡ first_address). same address first_address first_apart is_first) (λ (second_or_third : (address ≡ second_address) ⊎ (address ≡ third_address)). either address second_address third_address second_apart third_apart second_or_third) which_address
 
   -- a root that was loaded, and the object that one names
   root_apart : (seat index word : ℕ) → IsRootWord config world seat index word → IsApart word
-  root_apart seat index word is = points_elsewhere config world shared region inside free word (world.graph.root (seat + 1) index) is.stands
+  root_apart seat index word root_word = points_elsewhere config world shared region region_below region_free word (world.graph.root (seat + 1) index) root_word.stands
 
   object_apart : (seat root object : ℕ) → HasObject config world seat root object → IsApart object
-  object_apart seat root object is = target_elsewhere config world shared region inside free object is.refs is.nums is.name is.target
+  object_apart seat root object object_is = target_elsewhere config world shared region region_below region_free object object_is.refs object_is.nums object_is.name object_is.target
 
   -- what names the same as another word
   found_apart : (found expect : ℕ) → NameTheSame world.block found expect → IsApart found
-  found_apart found expect is = ⊎_elim
-      (λ null. null_elsewhere config world shared region inside free found null.0)
-      (λ named. named_elsewhere config world shared region inside free found named.0 named.1)
-      is
+  found_apart found expect names_same = ⊎_elim
+      (λ null. null_elsewhere config world shared region region_below region_free found null.0)
+      (λ named. named_elsewhere config world shared region region_below region_free found named.0 named.1)
+      names_same
 
   -- of who loads roots
-  load_hand : (seat made : ℕ) (other_command command : Command) (fixed : Option Reply) (spot : LoadSpot) → LoadFacts config world seat made other_command command fixed spot → (a : ℕ) → IsLoadHand other_command spot a → IsApart a
-  load_hand seat made other_command command fixed load.First facts a is = absurd is
-  load_hand seat made other_command command fixed (load.Second first) facts a is = let root = facts.2 in same a first (root_apart seat _ first (root.first_is root.some)) is
-  load_hand seat made other_command command fixed (load.Third first second) facts a is =
+  load_hand : (seat made : ℕ) (kept_command command : Command) (fixed : Option Reply) (spot : LoadSpot) → LoadFacts config world seat made kept_command command fixed spot → (address : ℕ) → IsLoadHand kept_command spot address → IsApart address
+  load_hand seat made kept_command command fixed load.First facts address in_hand = absurd in_hand
+  load_hand seat made kept_command command fixed (load.Second first_root) facts address in_hand = let root = facts.2 in same address first_root (root_apart seat _ first_root (root.first_is root.some)) in_hand
+  load_hand seat made kept_command command fixed (load.Third first_root second) facts address in_hand =
       let root = facts.2 in
-      let more = facts.1 in
-      either a first second (root_apart seat _ first (root.first_is root.some)) (root_apart seat _ second (facts.3 (omega (arith, more)))) is
-  load_hand seat made other_command command fixed (load.Shape object second third) facts a is =
+      let some_more = facts.1 in
+      either address first_root second (root_apart seat _ first_root (root.first_is root.some)) (root_apart seat _ second (facts.3 (omega (arith, some_more)))) in_hand
+  load_hand seat made kept_command command fixed (load.Shape object second third) facts address in_hand =
       let roots = facts.2 in
       ⊎_elim
-      (λ (first : a ≡ object). same a object (root_apart seat _ object (roots.first_is.first_is roots.first_is.some)) first)
-      (λ rest. ⊎_elim
-      (λ (has_second : (1 < length (command_roots other_command)) × (a ≡ second)). same a second (root_apart seat _ second (roots.second_is has_second.0)) has_second.1)
-      (λ (has_third : (2 < length (command_roots other_command)) × (a ≡ third)). same a third (root_apart seat _ third (roots.third_is has_third.0)) has_third.1)
-      rest)
-      is
+      (λ (first_root : address ≡ object). same address object (root_apart seat _ object (roots.first_is.first_is roots.first_is.some)) first_root)
+      (λ later_root. ⊎_elim
+      (λ (has_second : (1 < length (command_roots kept_command)) × (address ≡ second)). same address second (root_apart seat _ second (roots.second_is has_second.0)) has_second.1)
+      (λ (has_third : (2 < length (command_roots kept_command)) × (address ≡ third)). same address third (root_apart seat _ third (roots.third_is has_third.0)) has_third.1)
+      later_root)
+      in_hand
 
   -- of who exchanges a field by what is to be there
-  cas_apart : (seat object field expect value a : ℕ) (command : Command) → IsCas config world seat command object field expect value → (a ≡ object) ⊎ ((a ≡ expect) ⊎ (a ≡ value)) → IsApart a
-  cas_apart seat object field expect value a command cas is =
-      third_of a object expect value (object_apart seat cas.obj object cas.of) (root_apart seat cas.expected expect cas.expect_is) (root_apart seat cas.val value cas.value_is) is
+  cas_apart : (seat object field expect value address : ℕ) (command : Command) → IsCas config world seat command object field expect value → (address ≡ object) ⊎ ((address ≡ expect) ⊎ (address ≡ value)) → IsApart address
+  cas_apart seat object field expect value address command cas one_of_three =
+      third_of address object expect value (object_apart seat cas.obj object cas.of) (root_apart seat cas.expected expect cas.expect_is) (root_apart seat cas.val value cas.value_is) one_of_three
 
-  set_apart : (seat object field value a : ℕ) (command : Command) → IsSet config world seat command object field value → (a ≡ object) ⊎ (a ≡ value) → IsApart a
-  set_apart seat object field value a command set is = either a object value (object_apart seat set.obj object set.of) (root_apart seat set.val value set.value_is) is
+  set_apart : (seat object field value address : ℕ) (command : Command) → IsSet config world seat command object field value → (address ≡ object) ⊎ (address ≡ value) → IsApart address
+  set_apart seat object field value address command set_facts one_of_two = either address object value (object_apart seat set_facts.obj object set_facts.of) (root_apart seat set_facts.val value set_facts.value_is) one_of_two
 
   -- of who works on a field
-  field_hand : (seat : ℕ) (other_command command : Command) (fixed : Option Reply) (object : ℕ) (spot : FieldSpot) → FieldFacts config world seat other_command command fixed object spot → (a : ℕ) → IsFieldHand object spot a → IsApart a
-  field_hand seat other_command command fixed object fields.Load facts a is = let get = facts.1 in same a object (object_apart seat get.src object get.of) is
-  field_hand seat other_command command fixed object (fields.LoadExpected expect value) facts a is = cas_apart seat object (index_of other_command) expect value a command facts.1 is
-  field_hand seat other_command command fixed object (fields.LoadOld value) facts a is = set_apart seat object (index_of other_command) value a command facts.1 is
-  field_hand seat other_command command fixed object (fields.Store value) facts a is = set_apart seat object (index_of other_command) value a command facts.1 is
-  field_hand seat other_command command fixed object (fields.Swap value) facts a is =
-      let swap = facts.1 in either a object value (object_apart seat swap.obj object swap.of) (root_apart seat swap.val value swap.value_is) is
-  field_hand seat other_command command fixed object (fields.Exchange found expect value) facts a is =
+  field_hand : (seat : ℕ) (kept_command command : Command) (fixed : Option Reply) (object : ℕ) (spot : FieldSpot) → FieldFacts config world seat kept_command command fixed object spot → (address : ℕ) → IsFieldHand object spot address → IsApart address
+  field_hand seat kept_command command fixed object fields.Load facts address in_hand = let get_facts = facts.1 in same address object (object_apart seat get_facts.src object get_facts.of) in_hand
+  field_hand seat kept_command command fixed object (fields.LoadExpected expect value) facts address in_hand = cas_apart seat object (index_of kept_command) expect value address command facts.1 in_hand
+  field_hand seat kept_command command fixed object (fields.LoadOld value) facts address in_hand = set_apart seat object (index_of kept_command) value address command facts.1 in_hand
+  field_hand seat kept_command command fixed object (fields.Store value) facts address in_hand = set_apart seat object (index_of kept_command) value address command facts.1 in_hand
+  field_hand seat kept_command command fixed object (fields.Swap value) facts address in_hand =
+      let swap = facts.1 in either address object value (object_apart seat swap.obj object swap.of) (root_apart seat swap.val value swap.value_is) in_hand
+  field_hand seat kept_command command fixed object (fields.Exchange found expect value) facts address in_hand =
       let cas = facts.1 in
       ⊎_elim
-      (λ (is_object : a ≡ object). same a object (object_apart seat cas.obj object cas.of) is_object)
-      (λ rest. third_of a found expect value (found_apart found expect facts.2) (root_apart seat cas.expected expect cas.expect_is) (root_apart seat cas.val value cas.value_is) rest)
-      is
+      (λ (is_object : address ≡ object). same address object (object_apart seat cas.obj object cas.of) is_object)
+      (λ rest. third_of address found expect value (found_apart found expect facts.2) (root_apart seat cas.expected expect cas.expect_is) (root_apart seat cas.val value cas.value_is) rest)
+      in_hand
 
   -- of who resolves what it has found
-  loaded_hand : (seat : ℕ) (other_command command : Command) (fixed : Option Reply) (found : ℕ) (next : Loaded) → LoadedFacts config world seat other_command command fixed found next → (a : ℕ) → IsLoadedHand next a → IsApart a
-  loaded_hand seat other_command command fixed found ForRoot facts a is = absurd is
-  loaded_hand seat other_command command fixed found (ToCompare object expect value) facts a is = cas_apart seat object (index_of other_command) expect value a command facts.is_cas is
+  loaded_hand : (seat : ℕ) (kept_command command : Command) (fixed : Option Reply) (found : ℕ) (next_step : Loaded) → LoadedFacts config world seat kept_command command fixed found next_step → (address : ℕ) → IsLoadedHand next_step address → IsApart address
+  loaded_hand seat kept_command command fixed found ForRoot facts address in_hand = absurd in_hand
+  loaded_hand seat kept_command command fixed found (ToCompare object expect value) facts address in_hand = cas_apart seat object (index_of kept_command) expect value address command facts.is_cas in_hand
 
-  resolving_hand : (seat address : ℕ) (spot : ResolveSpot) → CanResolve config world seat address spot ⊎ CanFollow config world seat address spot → (a : ℕ) → IsResolveHand address spot a → IsApart a
-  resolving_hand seat address spot can a is = ⊎_elim
-      (λ (resolves : CanResolve config world seat address spot). resolve_hand config world shared region inside free seat address spot resolves a is)
-      (λ (follows : CanFollow config world seat address spot). follow_hand config world shared region inside free seat address spot follows a is)
-      can
+  resolving_hand : (seat address : ℕ) (spot : ResolveSpot) → CanResolve config world seat address spot ⊎ CanFollow config world seat address spot → (asked_address : ℕ) → IsResolveHand address spot asked_address → IsApart asked_address
+  resolving_hand seat address spot can_resolve asked_address in_hand = ⊎_elim
+      (λ (resolves : CanResolve config world seat address spot). resolve_hand config world shared region region_below region_free seat address spot resolves asked_address in_hand)
+      (λ (can_follow : CanFollow config world seat address spot). follow_hand config world shared region region_below region_free seat address spot can_follow asked_address in_hand)
+      can_resolve
 
   -- of who records what it overwrites
-  overwritten_hand : (seat : ℕ) (other_command command : Command) (fixed : Option Reply) (address : ℕ) (next : Overwritten) → RecordFacts config world seat other_command command fixed address next → (a : ℕ) → IsOverwrittenHand next a → IsApart a
-  overwritten_hand seat other_command command fixed address (overwrites.Set object value) facts a is = set_apart seat object (index_of other_command) value a command facts.1 is
-  overwritten_hand seat other_command command fixed address overwrites.Xchg facts a is = absurd is
-  overwritten_hand seat other_command command fixed address overwrites.Cas facts a is = absurd is
+  overwritten_hand : (seat : ℕ) (kept_command command : Command) (fixed : Option Reply) (address : ℕ) (next_step : Overwritten) → RecordFacts config world seat kept_command command fixed address next_step → (asked_address : ℕ) → IsOverwrittenHand next_step asked_address → IsApart asked_address
+  overwritten_hand seat kept_command command fixed address (overwrites.Set object value) facts asked_address in_hand = set_apart seat object (index_of kept_command) value asked_address command facts.1 in_hand
+  overwritten_hand seat kept_command command fixed address overwrites.Xchg facts asked_address in_hand = absurd in_hand
+  overwritten_hand seat kept_command command fixed address overwrites.Cas facts asked_address in_hand = absurd in_hand
 
   -- of who works on a number
-  number_hand : (seat : ℕ) (other_command command : Command) (fixed : Option Reply) (object refs : ℕ) (spot : NumberSpot) → NumberFacts config world seat other_command command fixed object refs spot → IsApart object
-  number_hand seat other_command command fixed object refs numbers.Load facts = let rd = facts.1 in object_apart seat rd.obj object rd.of
-  number_hand seat other_command command fixed object refs numbers.Store facts = let wr = facts.1 in object_apart seat wr.obj object wr.of
+  number_hand : (seat : ℕ) (kept_command command : Command) (fixed : Option Reply) (object refs : ℕ) (spot : NumberSpot) → NumberFacts config world seat kept_command command fixed object refs spot → IsApart object
+  number_hand seat kept_command command fixed object refs numbers.Load facts = let read_facts = facts.1 in object_apart seat read_facts.obj object read_facts.of
+  number_hand seat kept_command command fixed object refs numbers.Store facts = let write_facts = facts.1 in object_apart seat write_facts.obj object write_facts.of
 
   -- of who shows what it has found
   show_hand : (command : Command) (fixed : Option Reply) (value : ℕ) (spot : ShowSpot) → ShowFacts config world command fixed value spot → IsApart value
-  show_hand command fixed value show.LoadName facts = let found = facts.0 in named_elsewhere config world shared region inside free value found.name found.is
-  show_hand command fixed value (show.StoreRoot reply) facts = usable_elsewhere config world shared region inside free value facts.2
+  show_hand command fixed value show.LoadName facts = let value_found = facts.0 in named_elsewhere config world shared region region_below region_free value value_found.name value_found.is
+  show_hand command fixed value (show.StoreRoot reply) facts = usable_elsewhere config world shared region region_below region_free value facts.2
 
   -- of who makes one root another, or null
   store_hand : (seat dst value : ℕ) (command : Command) → IsCopy config world seat command dst value ⊎ IsDrop command dst value → IsApart value
-  store_hand seat dst value command which = ⊎_elim
+  store_hand seat dst value command copy_or_drop = ⊎_elim
       (λ (copy : IsCopy config world seat command dst value). root_apart seat copy.src value copy.value_is)
-      (λ (drop : IsDrop command dst value). null_elsewhere config world shared region inside free value drop.value_is)
-      which
+      (λ (drop : IsDrop command dst value). null_elsewhere config world shared region region_below region_free value drop.value_is)
+      copy_or_drop
 
   -- of who makes an object
-  make_hand : (seat made : ℕ) (other_command command : Command) (fixed : Option Reply) (spot : MakeSpot) → MakeFacts config world seat made other_command command fixed spot → (a : ℕ) → IsMakeHand spot a → IsApart a
-  make_hand seat made other_command command fixed (make.Taking spot) facts a is = take_hand config world shared region inside free seat (words_made other_command) spot facts.1 a is
-  make_hand seat made other_command command fixed (make.StoreWord address done) facts a is = same a address (piece_elsewhere config world shared region inside free address _ facts.1.room) is
-  make_hand seat made other_command command fixed (make.StoreRoot address) facts a is = same a address (piece_elsewhere config world shared region inside free address _ facts.1.room) is
+  make_hand : (seat made : ℕ) (kept_command command : Command) (fixed : Option Reply) (spot : MakeSpot) → MakeFacts config world seat made kept_command command fixed spot → (asked_address : ℕ) → IsMakeHand spot asked_address → IsApart asked_address
+  make_hand seat made kept_command command fixed (make.Taking spot) facts asked_address in_hand = take_hand config world shared region region_below region_free seat (words_made kept_command) spot facts.1 asked_address in_hand
+  make_hand seat made kept_command command fixed (make.StoreWord address done_words) facts asked_address in_hand = same asked_address address (piece_elsewhere config world shared region region_below region_free address _ facts.1.room) in_hand
+  make_hand seat made kept_command command fixed (make.StoreRoot address) facts asked_address in_hand = same asked_address address (piece_elsewhere config world shared region region_below region_free address _ facts.1.room) in_hand
 
   -- of who pins an object, or unpins what a slot holds
   slot_hand : (seat value : ℕ) (command : Command) → IsOfSlot config world seat command value → IsApart value
-  slot_hand seat value (Pin slot obj) is = object_apart seat obj value is.1
-  slot_hand seat value (Unpin slot) is = null_elsewhere config world shared region inside free value is.1
-  slot_hand seat value _ is = absurd is
+  slot_hand seat value (Pin slot obj) of_slot = object_apart seat obj value of_slot.1
+  slot_hand seat value (Unpin slot) of_slot = null_elsewhere config world shared region region_below region_free value of_slot.1
+  slot_hand seat value _ of_slot = absurd of_slot
 
-  pin_hand : (seat : ℕ) (other_command command : Command) (fixed : Option Reply) (value : ℕ) (spot : PinSpot) → PinFacts config world seat other_command command fixed value spot → IsApart value
-  pin_hand seat other_command command fixed value pins.Look facts = slot_hand seat value other_command facts.2
-  pin_hand seat other_command command fixed value pins.Store facts = slot_hand seat value other_command facts.2
+  pin_hand : (seat : ℕ) (kept_command command : Command) (fixed : Option Reply) (value : ℕ) (spot : PinSpot) → PinFacts config world seat kept_command command fixed value spot → IsApart value
+  pin_hand seat kept_command command fixed value pins.Look facts = slot_hand seat value kept_command facts.2
+  pin_hand seat kept_command command fixed value pins.Store facts = slot_hand seat value kept_command facts.2
 
   -- of who has waited for one
-  wait_hand : (seat made : ℕ) (other_command command : Command) (fixed : Option Reply) (spot : WaitSpot) → WaitFacts config world seat made other_command command fixed spot → (a : ℕ) → IsWaitHand spot a → IsApart a
-  wait_hand seat made other_command command fixed (wait.StoreRoot address) facts a is =
-      same a address (subst (λ x. IsApart x) facts.1 (piece_elsewhere config world shared region inside free (world.memory (Answer seat)) _ facts.0.1.2.here)) is
-  wait_hand seat made other_command command fixed _ facts a is = absurd is
+  wait_hand : (seat made : ℕ) (kept_command command : Command) (fixed : Option Reply) (spot : WaitSpot) → WaitFacts config world seat made kept_command command fixed spot → (asked_address : ℕ) → IsWaitHand spot asked_address → IsApart asked_address
+  wait_hand seat made kept_command command fixed (wait.StoreRoot address) facts asked_address in_hand =
+      same asked_address address (subst (λ x. IsApart x) facts.1 (piece_elsewhere config world shared region region_below region_free (world.memory (Answer seat)) _ facts.0.1.2.here)) in_hand
+  wait_hand seat made kept_command command fixed _ facts asked_address in_hand = absurd in_hand
 
   -- of a mutator
-  pub mutator_hand : (seat made : ℕ) (kept : Kept) (command : Command) (fixed : Option Reply) (spot : Spot) → SpotFacts config world seat made kept command fixed spot → (a : ℕ) → IsMutatorHand kept.command spot a → IsApart a
-  mutator_hand seat made kept command fixed (Loading spot) facts a is = load_hand seat made kept.command command fixed spot facts a is
-  mutator_hand seat made kept command fixed (OnField object spot) facts a is = field_hand seat kept.command command fixed object spot facts a is
-  mutator_hand seat made kept command fixed (Resolving address spot next) facts a is = ⊎_elim
-      (λ (resolves : IsResolveHand address spot a). resolving_hand seat address spot facts.0 a resolves)
-      (λ (loaded : IsLoadedHand next a). loaded_hand seat kept.command command fixed address next facts.1 a loaded)
-      is
-  mutator_hand seat made kept command fixed (Recording spot address next) facts a is = ⊎_elim
-      (λ (records : IsRememberHand address spot a). remember_hand config world shared region inside free seat address spot facts.0 a records)
-      (λ (overwritten : IsOverwrittenHand next a). overwritten_hand seat kept.command command fixed address next facts.1 a overwritten)
-      is
-  mutator_hand seat made kept command fixed (OnNumber object refs spot) facts a is = same a object (number_hand seat kept.command command fixed object refs spot facts) is
-  mutator_hand seat made kept command fixed (Showing value spot) facts a is = same a value (show_hand kept.command fixed value spot facts) is
-  mutator_hand seat made kept command fixed (StoreRoot value) facts a is = same a value (store_hand seat (dst_of kept.command) value command facts.2) is
-  mutator_hand seat made kept command fixed (Pinning value spot) facts a is = same a value (pin_hand seat kept.command command fixed value spot facts) is
-  mutator_hand seat made kept command fixed (Making spot) facts a is = make_hand seat made kept.command command fixed spot facts a is
-  mutator_hand seat made kept command fixed (Waiting spot) facts a is = wait_hand seat made kept.command command fixed spot facts a is
-  mutator_hand seat made kept command fixed Rest facts a is = absurd is
-  mutator_hand seat made kept command fixed (Ended reply) facts a is = absurd is
-  mutator_hand seat made kept command fixed (Entering spot next) facts a is = absurd is
-  mutator_hand seat made kept command fixed LoadPhase facts a is = absurd is
-  mutator_hand seat made kept command fixed LoadSet facts a is = absurd is
-  mutator_hand seat made kept command fixed AskCycle facts a is = absurd is
-  mutator_hand seat made kept command fixed (Leave reply) facts a is = absurd is
-  mutator_hand seat made kept command fixed Gone facts a is = absurd is
+  pub mutator_hand : (seat made : ℕ) (kept_words : Kept) (command : Command) (fixed : Option Reply) (spot : Spot) → SpotFacts config world seat made kept_words command fixed spot → (asked_address : ℕ) → IsMutatorHand kept_words.command spot asked_address → IsApart asked_address
+  mutator_hand seat made kept_words command fixed (Loading spot) facts asked_address in_hand = load_hand seat made kept_words.command command fixed spot facts asked_address in_hand
+  mutator_hand seat made kept_words command fixed (OnField object spot) facts asked_address in_hand = field_hand seat kept_words.command command fixed object spot facts asked_address in_hand
+  mutator_hand seat made kept_words command fixed (Resolving address spot next_step) facts asked_address in_hand = ⊎_elim
+      (λ (resolves : IsResolveHand address spot asked_address). resolving_hand seat address spot facts.0 asked_address resolves)
+      (λ (loaded : IsLoadedHand next_step asked_address). loaded_hand seat kept_words.command command fixed address next_step facts.1 asked_address loaded)
+      in_hand
+  mutator_hand seat made kept_words command fixed (Recording spot address next_step) facts asked_address in_hand = ⊎_elim
+      (λ (records : IsRememberHand address spot asked_address). remember_hand config world shared region region_below region_free seat address spot facts.0 asked_address records)
+      (λ (overwritten : IsOverwrittenHand next_step asked_address). overwritten_hand seat kept_words.command command fixed address next_step facts.1 asked_address overwritten)
+      in_hand
+  mutator_hand seat made kept_words command fixed (OnNumber object refs spot) facts asked_address in_hand = same asked_address object (number_hand seat kept_words.command command fixed object refs spot facts) in_hand
+  mutator_hand seat made kept_words command fixed (Showing value spot) facts asked_address in_hand = same asked_address value (show_hand kept_words.command fixed value spot facts) in_hand
+  mutator_hand seat made kept_words command fixed (StoreRoot value) facts asked_address in_hand = same asked_address value (store_hand seat (dst_of kept_words.command) value command facts.2) in_hand
+  mutator_hand seat made kept_words command fixed (Pinning value spot) facts asked_address in_hand = same asked_address value (pin_hand seat kept_words.command command fixed value spot facts) in_hand
+  mutator_hand seat made kept_words command fixed (Making spot) facts asked_address in_hand = make_hand seat made kept_words.command command fixed spot facts asked_address in_hand
+  mutator_hand seat made kept_words command fixed (Waiting spot) facts asked_address in_hand = wait_hand seat made kept_words.command command fixed spot facts asked_address in_hand
+  mutator_hand seat made kept_words command fixed Rest facts asked_address in_hand = absurd in_hand
+  mutator_hand seat made kept_words command fixed (Ended reply) facts asked_address in_hand = absurd in_hand
+  mutator_hand seat made kept_words command fixed (Entering spot next_step) facts asked_address in_hand = absurd in_hand
+  mutator_hand seat made kept_words command fixed LoadPhase facts asked_address in_hand = absurd in_hand
+  mutator_hand seat made kept_words command fixed LoadSet facts asked_address in_hand = absurd in_hand
+  mutator_hand seat made kept_words command fixed AskCycle facts asked_address in_hand = absurd in_hand
+  mutator_hand seat made kept_words command fixed (Leave reply) facts asked_address in_hand = absurd in_hand
+  mutator_hand seat made kept_words command fixed Gone facts asked_address in_hand = absurd in_hand

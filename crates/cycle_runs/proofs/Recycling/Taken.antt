@@ -33,58 +33,58 @@ use Rattle.cycle_runs.specs.Recycling.Held.{TakesRegion, TakenRegionsWereFree}
 event_parts : (change : Change) (config : Config) (stage : Stage Actor) (event : Event Order) (actor : Actor) → IsEvent (kind change config) stage event actor
     → (takes_of actor.machine event.order ≡ true) × ((act (kind change config) stage event).words ≡ accessed (plan_of config event.order actor.machine) stage.words)
 unfolding kind
-event_parts change config stage e actor event = (event.takes, ap (λ t. t.words) (act-event (kind change config) stage e actor event))
+event_parts change config stage given_event actor event = (event.takes, ap (λ reached_stage. reached_stage.words) (act-event (kind change config) stage given_event actor event))
 
-module _ (change : Change) (config : Config) (graph : Graph) (stage : Stage Actor) (entries : List Entry) (goes : Goes config graph stage entries) (event : Event Order) (actor : Actor) (region : ℕ) (takes : TakesRegion change config stage event actor region) where
+module _ (change : Change) (config : Config) (graph : Graph) (stage : Stage Actor) (entries : List Entry) (goes_well : Goes config graph stage entries) (event : Event Order) (actor : Actor) (region : ℕ) (takes : TakesRegion change config stage event actor region) where
   abbrev the_world : World
-  the_world = world_of config stage goes.follows.block goes.follows.ghost (after graph entries)
+  the_world = world_of config stage goes_well.follows.block goes_well.follows.ghost (after graph entries)
 
   abbrev order_taken : takes_of actor.machine event.order ≡ true
   order_taken = (event_parts change config stage event actor takes.event).0
 
   -- the free word is not left as it is
   not_left : (touch : Touch) → is_word config touch.word ≡ true → plan_of config event.order actor.machine ≡ placed config touch → touched (view config stage.words) touch Free ≡ view config stage.words Free → ⊥
-  not_left touch is plan left = takes.taken (subst (λ free. IsIn free region) (sym (
+  not_left touch word_inside plan free_left = takes.taken (subst (λ free_bits. IsIn free_bits region) (sym (
       ap (λ words. view config words Free) (event_parts change config stage event actor takes.event).1
       ∙ ap (λ access. view config (accessed access stage.words) Free) plan
-      ∙ ap (λ memory. memory Free) (view-placed config stage.words touch is goes.follows.words)
-      ∙ left)) takes.free)
+      ∙ ap (λ memory. memory Free) (view-placed config stage.words touch word_inside goes_well.follows.words)
+      ∙ free_left)) takes.free)
 
   -- while the control writes an image back no other machine changes it, and it takes no region
-  not_storing : (k : Actor) (control : Controlling) (image : Counting) → slice_get stage.machines (control_number config) ≡ Some k → k.machine ≡ controlling control → stored_image control.spot control.image ≡ Some image → ⊥
-  not_storing k control image here is storing = other (λ number.
-      let same : actor ≡ k = same_Some actor k (sym takes.event.here ∙ ap (λ n. slice_get stage.machines n) number ∙ here) in
-      none-some image (sym takes.no_image ∙ ap (λ y. image_read y.machine) same ∙ ap image_read is ∙ storing))
+  not_storing : (control_actor : Actor) (control : Controlling) (image : Counting) → slice_get stage.machines (control_number config) ≡ Some control_actor → control_actor.machine ≡ controlling control → stored_image control.spot control.image ≡ Some image → ⊥
+  not_storing control_actor control image control_there control_machine storing = other (λ number.
+      let same_actor : actor ≡ control_actor = same_Some actor control_actor (sym takes.event.here ∙ ap (λ machine_number. slice_get stage.machines machine_number) number ∙ control_there) in
+      none-some image (sym takes.no_image ∙ ap (λ y. image_read y.machine) same_actor ∙ ap image_read control_machine ∙ storing))
     where
       held : held_image config stage ≡ Some image
-      held = ap image_of here ∙ ap image_read is ∙ storing
+      held = ap image_of control_there ∙ ap image_read control_machine ∙ storing
 
       other : (event.number ≡ control_number config → ⊥) → ⊥
-      other elsewhere =
-          let facts = goes.follows.machines event.number actor takes.event.here in
-          let below : event.number < control_number config = below_control config event.number actor.machine (number_of config stage.words the_world (of_thread entries (event.number + 1)) event.number actor actor.machine facts) elsewhere in
-          let access = outside_access config stage.words the_world (of_thread entries (event.number + 1)) event.number actor event.order actor.machine goes.follows.shared elsewhere (outside_held config stage goes.shaken image held event.number actor below takes.event.here) order_taken facts in
+      other not_control =
+          let facts = goes_well.follows.machines event.number actor takes.event.here in
+          let below_number : event.number < control_number config = below_control config event.number actor.machine (number_of config stage.words the_world (of_thread entries (event.number + 1)) event.number actor actor.machine facts) not_control in
+          let access = outside_access config stage.words the_world (of_thread entries (event.number + 1)) event.number actor event.order actor.machine goes_well.follows.shared not_control (outside_held config stage goes_well.shaken image held event.number actor below_number takes.event.here) order_taken facts in
           not_left access.touch access.inside access.plan (access.free (view config stage.words))
 
   -- so the words of the table count
   by_spot : (actor : Actor) (control : Controlling) → slice_get stage.machines (control_number config) ≡ Some actor → actor.machine ≡ controlling control → (spot : ControlSpot) → control.spot ≡ spot
       → settled_by config stage.words (stored_image spot control.image) ≡ view config stage.words
-  by_spot actor control here is (StoreWord index extent) same =
-      absurd (not_storing actor control (record { extent = extent; image = control.image }) here is (ap (λ spot. stored_image spot control.image) same))
-  by_spot actor control here is _ same = refl
+  by_spot actor control control_there control_machine (StoreWord index extent) same_spot =
+      absurd (not_storing actor control (record { extent = extent; image = control.image }) control_there control_machine (ap (λ spot. stored_image spot control.image) same_spot))
+  by_spot actor control control_there control_machine _ same_spot = refl
 
   by_machine : (actor : Actor) (machine : Machine) → slice_get stage.machines (control_number config) ≡ Some actor → actor.machine ≡ machine → settled_by config stage.words (image_read machine) ≡ view config stage.words
-  by_machine actor (controlling control) here is = by_spot actor control here is control.spot refl
-  by_machine actor _ here is = refl
+  by_machine actor (controlling control) control_there machine_is = by_spot actor control control_there machine_is control.spot refl
+  by_machine actor _ control_there machine_is = refl
 
   by_actor : (found : Option Actor) → slice_get stage.machines (control_number config) ≡ found → settled_by config stage.words (image_of found) ≡ view config stage.words
-  by_actor None here = refl
-  by_actor (Some k) here = by_machine k k.machine here refl
+  by_actor None control_there = refl
+  by_actor (Some control_actor) control_there = by_machine control_actor control_actor.machine control_there refl
 
   pub table_counts : settled config stage ≡ view config stage.words
   table_counts = by_actor (slice_get stage.machines (control_number config)) refl
 
 pub taken_regions_were_free : TakenRegionsWereFree
-taken_regions_were_free change law c s g begins events e x r inside takes =
-    let counts = table_counts change c g (go (kind change c) s events) (history change c s events) (goes_run change law c g s [] events (goes_begins c s g begins)) e x r takes in
-    (counts, subst (λ memory. IsIn (memory Free) r) (sym counts) takes.free)
+taken_regions_were_free change law config stage graph begins events event actor region region_below takes =
+    let counts = table_counts change config graph (go (kind change config) stage events) (history change config stage events) (goes_run change law config graph stage [] events (goes_begins config stage graph begins)) event actor region takes in
+    (counts, subst (λ memory. IsIn (memory Free) region) (sym counts) takes.free)

@@ -79,8 +79,8 @@ pub record IsWriting (world : World) (order : Order) (machine : Machine) (addres
   pub quiet : IsQuiet (world.memory Evac)
 
 -- what the next access of a machine is, if it is of such a word of a copy in the collection set
-abbrev pub IsSparing : Config → World → (seat : ℕ) → Order → Machine → (address k : ℕ) → Body → Type 0
-IsSparing config world seat order machine address k body = (plan_of config order machine ≡ Load (word_at config (Heap (address + k)))) ⊎ (IsPublishing config world seat address body (plan_of config order machine) ⊎ IsWriting world order machine address k body)
+abbrev pub IsSparing : Config → World → (seat : ℕ) → Order → Machine → (address offset : ℕ) → Body → Type 0
+IsSparing config world seat order machine address offset body = (plan_of config order machine ≡ Load (word_at config (Heap (address + offset)))) ⊎ (IsPublishing config world seat address body (plan_of config order machine) ⊎ IsWriting world order machine address offset body)
 
 -- Words and machines stand for a graph by some plot, and the next access of each machine, if it is of a word of a copy in the collection
 -- set, current or old, spares it; but for the control while it writes an image back.

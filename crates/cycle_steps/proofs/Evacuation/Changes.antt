@@ -1,4 +1,5 @@
 -- What a step owes that changes what is claimed, and on which unit a machine works.
+use Rattle.heap_words.specs.Phases.{evacuation_phase}
 use Rattle.std.proofs.Common.{◌≡◌, ◌≢◌, ℕ, ◌+◌, ◌<◌, ◌≤◌, ◌⊎◌, Option, Some, ⊎_elim, inl, inr, sym, ap, ◌∙◌, subst, arith}
 use Rattle.std.proofs.lemmas.Bool.{cases_eq}
 use Rattle.heap_words.specs.declared.config.Config.{Config}
@@ -20,16 +21,16 @@ world_then world seat claim unit = record { memory = write world.memory Claim cl
 pub cared_still : (config : Config) (evac : ℕ) (block : Plot) (working : ℕ → Option ℕ) (seat : ℕ) (unit : Option ℕ) (region : ℕ)
     → (working seat ≡ Some region → IsSweptTo config evac block region (base_of config (region + 1)) ⊎ (unit ≡ Some region))
     → IsCaredFor config evac block working region → IsCaredFor config evac block (updated working seat unit) region
-cared_still config evac block working seat unit region own (inl swept) = inl swept
-cared_still config evac block working seat unit region own (inr worker) = ⊎_elim
-    (λ (same : seat ≡ worker.0). ⊎_elim
+cared_still config evac block working seat unit region own_unit (inl swept) = inl swept
+cared_still config evac block working seat unit region own_unit (inr worker) = ⊎_elim
+    (λ (same_seat : seat ≡ worker.0). ⊎_elim
     (λ (swept : IsSweptTo config evac block region (base_of config (region + 1))). inl swept)
-    (λ (goes_on : unit ≡ Some region). inr (seat, subst (λ s. s < seat_count config.mutators config.helpers) (sym same) worker.1, updated_there working seat unit ∙ goes_on))
-    (own (ap working same ∙ worker.2)))
-    (λ (other : seat ≢ worker.0). inr (worker.0, worker.1, updated_else working seat unit worker.0 other ∙ worker.2))
+    (λ (goes_on : unit ≡ Some region). inr (seat, subst (λ worker_seat. worker_seat < seat_count config.mutators config.helpers) (sym same_seat) worker.1, updated_there working seat unit ∙ goes_on))
+    (own_unit (ap working same_seat ∙ worker.2)))
+    (λ (seats_differ : seat ≢ worker.0). inr (worker.0, worker.1, updated_else working seat unit worker.0 seats_differ ∙ worker.2))
     (cases_eq seat worker.0)
 
-module _ (config : Config) (world next_world : World) (seat claim : ℕ) (unit : Option ℕ) (on : next_world.memory Phase ≡ 2) (most : next_world.memory Claim ≤ claim) where
+module _ (config : Config) (world next_world : World) (seat claim : ℕ) (unit : Option ℕ) (evacuating_on : next_world.memory Phase ≡ evacuation_phase) (claim_bound : next_world.memory Claim ≤ claim) where
   -- machines share what they should
   shared_then : Shared config next_world → AreCaredFor config (next_world.memory Phase) (next_world.memory Cset) (next_world.memory Evac) claim next_world.block (updated next_world.ghost.working seat unit) → Shared config (world_then next_world seat claim unit)
   shared_then shared units = record {
@@ -46,42 +47,42 @@ module _ (config : Config) (world next_world : World) (seat claim : ℕ) (unit :
       kept = shared.evacuated.kept;
       units = units;
     };
-    updated = λ updating. absurd (omega (arith, updating, on));
+    updated = λ updating. absurd (omega (arith, updating, evacuating_on));
     pinned = shared.pinned;
   }
 
   -- the facts of the seat's machine stand
   keeps_then : Keeps config seat world next_world → Keeps config seat world (world_then next_world seat claim unit)
-  keeps_then keeps = record {
-    names = keeps.names;
-    targets = keeps.targets;
-    promises = keeps.promises;
-    no_promises = keeps.no_promises;
-    promise_words = keeps.promise_words;
-    root_words = keeps.root_words;
-    roots = keeps.roots;
-    pin_words = keeps.pin_words;
-    pins = keeps.pins;
-    count = keeps.count;
-    wait = keeps.wait;
-    answer = keeps.answer;
-    marks = record { phase = keeps.marks.phase; snapshot = keeps.marks.snapshot; markable = keeps.marks.markable; shapes = keeps.marks.shapes; noted = keeps.marks.noted };
+  keeps_then world_kept = record {
+    names = world_kept.names;
+    targets = world_kept.targets;
+    promises = world_kept.promises;
+    no_promises = world_kept.no_promises;
+    promise_words = world_kept.promise_words;
+    root_words = world_kept.root_words;
+    roots = world_kept.roots;
+    pin_words = world_kept.pin_words;
+    pins = world_kept.pins;
+    count = world_kept.count;
+    wait = world_kept.wait;
+    answer = world_kept.answer;
+    marks = record { phase = world_kept.marks.phase; snapshot = world_kept.marks.snapshot; markable = world_kept.marks.markable; shapes = world_kept.marks.shapes; noted = world_kept.marks.noted };
     copies = record {
-      cset = keeps.copies.cset;
-      bodies = keeps.copies.bodies;
-      moveds = keeps.copies.moveds;
-      spents = keeps.copies.spents;
-      pieces = keeps.copies.pieces;
-      no_new = keeps.copies.no_new;
-      tops = keeps.copies.tops;
-      out = keeps.copies.out;
-      quiet = keeps.copies.quiet;
+      cset = world_kept.copies.cset;
+      bodies = world_kept.copies.bodies;
+      moveds = world_kept.copies.moveds;
+      spents = world_kept.copies.spents;
+      pieces = world_kept.copies.pieces;
+      no_new = world_kept.copies.no_new;
+      tops = world_kept.copies.tops;
+      out = world_kept.copies.out;
+      quiet = world_kept.copies.quiet;
     };
   }
 
   -- others can rely on what they knew
-  others_then : (k : ℕ) → k ≢ seat → Rely config k world next_world → Rely config k world (world_then next_world seat claim unit)
-  others_then k differs rely = record {
+  others_then : (other_seat : ℕ) → other_seat ≢ seat → Rely config other_seat world next_world → Rely config other_seat world (world_then next_world seat claim unit)
+  others_then other_seat seats_differ rely = record {
     names = rely.names;
     targets = rely.targets;
     rooms = rely.rooms;
@@ -124,7 +125,7 @@ module _ (config : Config) (world next_world : World) (seat claim : ℕ) (unit :
         quiet = rely.copies.keeps.quiet;
       };
       copying = rely.copies.copying;
-      working = updated_else next_world.ghost.working seat unit k (λ e. differs (sym e)) ∙ rely.copies.working;
+      working = updated_else next_world.ghost.working seat unit other_seat (λ same_seat. seats_differ (sym same_seat)) ∙ rely.copies.working;
       words = rely.copies.words;
     };
     fields = record {
@@ -132,23 +133,23 @@ module _ (config : Config) (world next_world : World) (seat claim : ℕ) (unit :
       limits = rely.fields.limits;
       deads = rely.fields.deads;
       fillers = rely.fields.fillers;
-      claims = λ all. (let claimed = rely.fields.claims all in omega (arith, claimed, most));
+      claims = λ all_claimed. (let claimed = rely.fields.claims all_claimed in omega (arith, claimed, claim_bound));
       fields = rely.fields.fields;
     };
   }
 
   -- what the step owes, that led to the world but for these two, is owed then
-  pub step_then : (touch : Touch) (facts : World → Type 0) → write next_world.memory Claim claim ≡ touched world.memory touch → next_world.graph ≡ world.graph → Shared config next_world → Keeps config seat world next_world → ((k : ℕ) → k ≢ seat → Rely config k world next_world)
+  pub step_then : (touch : Touch) (facts : World → Type 0) → write next_world.memory Claim claim ≡ touched world.memory touch → next_world.graph ≡ world.graph → Shared config next_world → Keeps config seat world next_world → ((other_seat : ℕ) → other_seat ≢ seat → Rely config other_seat world next_world)
       → AreCaredFor config (next_world.memory Phase) (next_world.memory Cset) (next_world.memory Evac) claim next_world.block (updated next_world.ghost.working seat unit)
       → facts (world_then next_world seat claim unit) → PartStep config world seat touch facts
-  step_then touch facts memory graph shared keeps others units own = record {
+  step_then touch facts memory_touched same_graph shared world_kept others_rely units own_facts = record {
     world = world_then next_world seat claim unit;
-    memory = memory;
-    graph = graph;
+    memory = memory_touched;
+    graph = same_graph;
     shared = shared_then shared units;
-    own = own;
-    keeps = keeps_then keeps;
-    others = λ k differs. others_then k differs (others k differs);
+    own = own_facts;
+    keeps = keeps_then world_kept;
+    others = λ other_seat differs. others_then other_seat differs (others_rely other_seat differs);
   }
 
 -- the machine has nothing still

@@ -1,4 +1,5 @@
 -- What a step owes that changes only words of the heap, tops, the counter of copiers, pieces, and who copies.
+use Rattle.heap_words.specs.Phases.{marking_phase, evacuation_phase}
 use Rattle.std.proofs.Common.{◌≡◌, ◌≢◌, ℕ, ◌+◌, ◌<◌, ◌≤◌, ◌⊎◌, ⊎_elim, inl, inr, Bool, true, Option, Some, None, refl, sym, ap, ◌∙◌, subst, arith}
 use Rattle.std.proofs.Math.Path.{fun_ext}
 use Rattle.std.proofs.lemmas.Option.{none-some, same_Some}
@@ -28,11 +29,11 @@ with_words memory heap top evac Evac = evac
 with_words memory heap top evac word = memory word
 
 -- a word of the heap is written
-pub heap_written : (memory : Word → ℕ) (at value : ℕ) → with_words memory (updated (λ address. memory (Heap address)) at value) (λ region. memory (Top region)) (memory Evac) ≡ write memory (Heap at) value
-heap_written memory at value = fun_ext same
+pub heap_written : (memory : Word → ℕ) (word_address value : ℕ) → with_words memory (updated (λ address. memory (Heap address)) word_address value) (λ region. memory (Top region)) (memory Evac) ≡ write memory (Heap word_address) value
+heap_written memory word_address value = fun_ext same
   where
-    same : (word : Word) → with_words memory (updated (λ address. memory (Heap address)) at value) (λ region. memory (Top region)) (memory Evac) word ≡ write memory (Heap at) value word
-    same (Heap a) = refl
+    same : (word : Word) → with_words memory (updated (λ address. memory (Heap address)) word_address value) (λ region. memory (Top region)) (memory Evac) word ≡ write memory (Heap word_address) value word
+    same (Heap asked_address) = refl
     same _ = refl
 
 -- or the counter
@@ -45,18 +46,18 @@ evac_written memory value = fun_ext same
 
 -- In other phases than that of marking all that marking counts on holds, for there is no snapshot.
 pub unmarked : (config : Config) (phase : ℕ) (grey black count : ℕ → ℕ) (buffer : ℕ → ℕ → ℕ) (top tams heap : ℕ → ℕ) (block : Plot) (snapshot : Snapshot) (recording : ℕ → Option ℕ) (scanning : ℕ → Option Scan)
-    → phase ≢ 1 → snapshot ≡ no_snapshot → KeepsSnapshot config phase grey black count buffer top tams heap block snapshot recording scanning
-unmarked config phase grey black count buffer top tams heap block snapshot recording scanning other none = subst (λ snapshot. KeepsSnapshot config phase grey black count buffer top tams heap block snapshot recording scanning) (sym none) (record {
-  empty = λ is. refl;
+    → phase ≢ marking_phase → snapshot ≡ no_snapshot → KeepsSnapshot config phase grey black count buffer top tams heap block snapshot recording scanning
+unmarked config phase grey black count buffer top tams heap block snapshot recording scanning not_marking snapshot_none = subst (λ snapshot. KeepsSnapshot config phase grey black count buffer top tams heap block snapshot recording scanning) (sym snapshot_none) (record {
+  empty = λ idle. refl;
   traced = record {
-    edges = λ address refs nums k name there. absurd (none-some _ there);
-    starts = λ a there. absurd (false≢true there);
+    edges = λ address refs nums index name in_snapshot. absurd (none-some _ in_snapshot);
+    starts = λ object_address in_snapshot. absurd (false≢true in_snapshot);
   };
-  led = λ a refs nums name there. absurd (none-some _ there);
-  old = λ a refs nums name there. absurd (none-some _ there);
-  kept = λ a refs nums name there. absurd (none-some _ there);
-  floors = λ r inside. omega arith;
-  marking = λ on. absurd (other on);
+  led = λ object_address refs nums name in_snapshot. absurd (none-some _ in_snapshot);
+  old = λ object_address refs nums name in_snapshot. absurd (none-some _ in_snapshot);
+  kept = λ object_address refs nums name in_snapshot. absurd (none-some _ in_snapshot);
+  floors = λ region inside. omega arith;
+  marking = λ in_marking. absurd (not_marking in_marking);
 })
 
 module _ (config : Config) (world : World) (seat : ℕ) (heap top : ℕ → ℕ) (evac : ℕ) (block : Plot) (copying : ℕ → Bool) where
@@ -75,51 +76,51 @@ module _ (config : Config) (world : World) (seat : ℕ) (heap top : ℕ → ℕ)
     pub kept : 2 ≤ world.memory Phase → AreKept config (world.memory Cset) (λ number. world.memory (Black number)) top (λ region. world.memory (Tams region)) block
     pub bodies : (address : ℕ) (body : Body) → body_at (world.block address) ≡ Some body → body_at (block address) ≡ Some body
     pub targets : (address refs nums : ℕ) (name : Name) → Target config (world.memory Cset) (world.memory Evac) world.block address refs nums name → Target config (world.memory Cset) evac block address refs nums name
-    pub moveds : (address refs nums to : ℕ) (name : Name) → world.block address ≡ Some (moved name refs nums to) → block address ≡ Some (moved name refs nums to)
-    pub spents : (address words to : ℕ) → world.block address ≡ Some (spent words to) → block address ≡ Some (spent words to)
-    pub pieces : (address : ℕ) (piece : Block) → IsCollected config (world.memory Cset) address → world.block address ≡ Some piece → (other_piece : Block) × (block address ≡ Some other_piece) × (words_of other_piece ≡ words_of piece) × (filling other_piece ≡ filling piece)
+    pub moveds : (address refs nums moved_to : ℕ) (name : Name) → world.block address ≡ Some (moved name refs nums moved_to) → block address ≡ Some (moved name refs nums moved_to)
+    pub spents : (address words moved_to : ℕ) → world.block address ≡ Some (spent words moved_to) → block address ≡ Some (spent words moved_to)
+    pub pieces : (address : ℕ) (piece : Block) → IsCollected config (world.memory Cset) address → world.block address ≡ Some piece → (later_piece : Block) × (block address ≡ Some later_piece) × (words_of later_piece ≡ words_of piece) × (filling later_piece ≡ filling piece)
     pub no_new : (address refs nums : ℕ) (name : Name) → IsCollected config (world.memory Cset) address → block address ≡ Some (thing name refs nums) → world.block address ≡ Some (thing name refs nums)
     pub set_tops : (region : ℕ) → IsIn (world.memory Cset) region → top region ≡ world.memory (Top region)
     pub out : is_out_of_room (world.memory Evac) ≡ true → is_out_of_room evac ≡ true
     pub quiet : IsQuiet (world.memory Evac) → IsQuiet evac
-    pub rooms : (j address : ℕ) (piece : Block) → j ≢ seat → world.block address ≡ Some piece → room_of piece ≡ Some j → block address ≡ Some piece
-    pub no_rooms : (j address : ℕ) (piece : Block) → block address ≡ Some piece → room_of piece ≡ Some j → world.block address ≡ Some piece
-    pub promises : (address j words : ℕ) → world.block address ≡ Some (promised j words) → block address ≡ Some (promised j words)
-    pub no_promises : (address j words : ℕ) → block address ≡ Some (promised j words) → world.block address ≡ Some (promised j words)
+    pub rooms : (asked_seat address : ℕ) (piece : Block) → asked_seat ≢ seat → world.block address ≡ Some piece → room_of piece ≡ Some asked_seat → block address ≡ Some piece
+    pub no_rooms : (asked_seat address : ℕ) (piece : Block) → block address ≡ Some piece → room_of piece ≡ Some asked_seat → world.block address ≡ Some piece
+    pub promises : (address asked_seat words : ℕ) → world.block address ≡ Some (promised asked_seat words) → block address ≡ Some (promised asked_seat words)
+    pub no_promises : (address asked_seat words : ℕ) → block address ≡ Some (promised asked_seat words) → world.block address ≡ Some (promised asked_seat words)
     pub deads : (address words : ℕ) → world.block address ≡ Some (dead words) → block address ≡ Some (dead words)
     pub fillers : (address words : ℕ) → world.block address ≡ Some (filler words) → block address ≡ Some (filler words)
     pub no_deads : (address words : ℕ) → block address ≡ Some (dead words) → world.block address ≡ Some (dead words)
     pub no_fillers : (address words : ℕ) → block address ≡ Some (filler words) → world.block address ≡ Some (filler words)
-    pub words : (address k : ℕ) (piece : Block) → world.block address ≡ Some piece → k < words_of piece → room_of piece ≢ Some seat → (1 ≤ k) ⊎ (name_at (Some piece) ≡ None) → heap (address + k) ≡ world.memory (Heap (address + k))
-    pub own_tops : (region j : ℕ) → j ≢ seat → world.ghost.owner region ≡ Some j → top region ≡ world.memory (Top region)
-    pub copiers_else : (j : ℕ) → j ≢ seat → copying j ≡ world.ghost.copying j
+    pub words : (address word_offset : ℕ) (piece : Block) → world.block address ≡ Some piece → word_offset < words_of piece → room_of piece ≢ Some seat → (1 ≤ word_offset) ⊎ (name_at (Some piece) ≡ None) → heap (address + word_offset) ≡ world.memory (Heap (address + word_offset))
+    pub own_tops : (region asked_seat : ℕ) → asked_seat ≢ seat → world.ghost.owner region ≡ Some asked_seat → top region ≡ world.memory (Top region)
+    pub copiers_else : (asked_seat : ℕ) → asked_seat ≢ seat → copying asked_seat ≡ world.ghost.copying asked_seat
 
-  module _ (shared : Shared config world) (on : world.memory Phase ≡ 2) (step : IsCopyingStep) where
+  module _ (shared : Shared config world) (evacuating : world.memory Phase ≡ evacuation_phase) (step : IsCopyingStep) where
     -- what stands for an object still does
     names_after : (address : ℕ) (name : Name) → name_at (world.block address) ≡ Some name → name_at (block address) ≡ Some name
-    names_after address name is = let body = named_body (world.block address) name is in body_named (block address) (body_of name body.0 body.1) (step.bodies address (body_of name body.0 body.1) body.2)
+    names_after address name has_name = let body = named_body (world.block address) name has_name in body_named (block address) (body_of name body.0 body.1) (step.bodies address (body_of name body.0 body.1) body.2)
 
     -- a dead object has its header still
     dead_header : (address words : ℕ) → world.block address ≡ Some (dead words) → heap address ≡ world.memory (Heap address)
-    dead_header address words is =
-        let there : address + 0 ≡ address = omega arith in
-        subst (λ address. heap address ≡ world.memory (Heap address)) there
-        (step.words address 0 (dead words) is (let long = shared.parsable.deads address words is in omega (arith, long)) (λ own. none-some seat own) (inr refl))
+    dead_header address words has_dead =
+        let same_sum : address + 0 ≡ address = omega arith in
+        subst (λ address. heap address ≡ world.memory (Heap address)) same_sum
+        (step.words address 0 (dead words) has_dead (let long_enough = shared.parsable.deads address words has_dead in omega (arith, long_enough)) (λ owned. none-some seat owned) (inr refl))
 
     -- and its length
     dead_shape : (address words : ℕ) → world.block address ≡ Some (dead words) → heap (address + 1) ≡ world.memory (Heap (address + 1))
-    dead_shape address words is =
-        step.words address 1 (dead words) is (let long = shared.parsable.deads address words is in omega (arith, long)) (λ own. none-some seat own) (inr refl)
+    dead_shape address words has_dead =
+        step.words address 1 (dead words) has_dead (let long_enough = shared.parsable.deads address words has_dead in omega (arith, long_enough)) (λ owned. none-some seat owned) (inr refl)
 
     -- words that only fill have their header still
     filler_header_stays : (address words : ℕ) → world.block address ≡ Some (filler words) → heap address ≡ world.memory (Heap address)
-    filler_header_stays address words is =
-        let there : address + 0 ≡ address = omega arith in
-        subst (λ address. heap address ≡ world.memory (Heap address)) there (step.words address 0 (filler words) is (shared.parsable.fillers address words is) (λ own. none-some seat own) (inr refl))
+    filler_header_stays address words has_filler =
+        let same_sum : address + 0 ≡ address = omega arith in
+        subst (λ address. heap address ≡ world.memory (Heap address)) same_sum (step.words address 0 (filler words) has_filler (shared.parsable.fillers address words has_filler) (λ owned. none-some seat owned) (inr refl))
 
     -- the words of a promised object stay
-    promise_after : (address j words k : ℕ) → world.block address ≡ Some (promised j words) → k < words → heap (address + k) ≡ world.memory (Heap (address + k))
-    promise_after address j words k is below = step.words address k (promised j words) is below (λ own. none-some seat own) (inr refl)
+    promise_after : (address any_seat words offset : ℕ) → world.block address ≡ Some (promised any_seat words) → offset < words → heap (address + offset) ≡ world.memory (Heap (address + offset))
+    promise_after address any_seat words offset has_promise offset_below = step.words address offset (promised any_seat words) has_promise offset_below (λ owned. none-some seat owned) (inr refl)
 
     -- machines share what they should
     pub shared_after : Shared config world_after
@@ -127,14 +128,14 @@ module _ (config : Config) (world : World) (seat : ℕ) (heap top : ℕ → ℕ)
       parsable = step.parsable;
       contents = record { objects = step.objects; given = shared.contents.given };
       owned = step.owned;
-      phased = record { phase_is = shared.phased.phase_is; cset_is = λ early. absurd (omega (arith, early, on)); evac_is = λ other. absurd (other on) };
+      phased = record { phase_is = shared.phased.phase_is; cset_is = λ early. absurd (omega (arith, early, evacuating)); evac_is = λ not_evacuating. absurd (not_evacuating evacuating) };
       unwritten = unwritten_stays (λ address. world.memory (Heap address)) heap world.block block
-          (λ address j words is. let was = step.no_promises address j words is in (was, λ k below. promise_after address j words k was below))
-          (λ address words is. let was = step.no_deads address words is in (was, dead_header address words was, dead_shape address words was))
-          (λ address words is. let was = step.no_fillers address words is in (was, filler_header_stays address words was))
+          (λ address any_seat words stands. let stood = step.no_promises address any_seat words stands in (stood, λ offset offset_below. promise_after address any_seat words offset stood offset_below))
+          (λ address words stands. let stood = step.no_deads address words stands in (stood, dead_header address words stood, dead_shape address words stood))
+          (λ address words stands. let stood = step.no_fillers address words stands in (stood, filler_header_stays address words stood))
           shared.unwritten;
       marked = unmarked config (world.memory Phase) (λ number. world.memory (Grey number)) (λ number. world.memory (Black number)) (λ mutator. world.memory (Count mutator)) (λ mutator entry. world.memory (Buffer mutator entry)) top (λ region. world.memory (Tams region)) heap block world.ghost.snapshot world.ghost.recording world.ghost.scanning
-          (λ marking. omega (arith, marking, on)) (shared.marked.empty (λ marking. omega (arith, marking, on)));
+          (λ marking. omega (arith, marking, evacuating)) (shared.marked.empty (λ marking. omega (arith, marking, evacuating)));
       evacuated = record {
         moved = step.moved_are;
         counted = step.counted;
@@ -142,39 +143,39 @@ module _ (config : Config) (world : World) (seat : ℕ) (heap top : ℕ → ℕ)
           in_heap = shared.evacuated.aside.in_heap;
           in_use = shared.evacuated.aside.in_use;
           nobodys = shared.evacuated.aside.nobodys;
-          no_new = λ region is. step.set_tops region is ∙ shared.evacuated.aside.no_new region is;
-          no_promises = λ address j words is. shared.evacuated.aside.no_promises address j words (step.no_promises address j words is);
-          no_rooms = λ address j x is room. shared.evacuated.aside.no_rooms address j x (step.no_rooms j address x is room) room;
+          no_new = λ region stands. step.set_tops region stands ∙ shared.evacuated.aside.no_new region stands;
+          no_promises = λ address any_seat words stands. shared.evacuated.aside.no_promises address any_seat words (step.no_promises address any_seat words stands);
+          no_rooms = λ address any_seat piece stands room. shared.evacuated.aside.no_rooms address any_seat piece (step.no_rooms any_seat address piece stands room) room;
         };
         kept = step.kept;
-        units = λ still region claimed is. ⊎_elim
+        units = λ still_evacuating region claimed stands. ⊎_elim
             (λ swept. inl (⊎_elim
-            (λ out. inl (step.out out))
-            (λ none. inr (λ address refs nums name from to there. none address refs nums name from to (step.no_new address refs nums name (of_region region address is from to) there)))
+            (λ region_out. inl (step.out region_out))
+            (λ none_old. inr (λ address refs nums name from moved_to thing_there. none_old address refs nums name from moved_to (step.no_new address refs nums name (of_region region address stands from moved_to) thing_there)))
             swept))
             (λ works. inr works)
-            (shared.evacuated.units on region claimed is);
+            (shared.evacuated.units evacuating region claimed stands);
       };
-      updated = λ updating. absurd (omega (arith, updating, on));
+      updated = λ updating. absurd (omega (arith, updating, evacuating));
       pinned = pins_stay config (world.memory Cset) (world.memory Evac) (world.memory Cset) evac world.block block (λ mutator slot. world.memory (Pin mutator slot)) world.graph.pin step.targets shared.pinned;
     }
       where
         of_region : (region address : ℕ) → IsIn (world.memory Cset) region → base_of config region ≤ address → address < base_of config (region + 1) → IsCollected config (world.memory Cset) address
-        of_region region address is from to = subst (λ s. IsIn (world.memory Cset) s) (sym (regions_tile.of_no_other config region address (record { from = from; before = omega (arith, to) }))) is
+        of_region region address in_cset from before_end = subst (λ any_region. IsIn (world.memory Cset) any_region) (sym (regions_tile.of_no_other config region address (record { from = from; before = omega (arith, before_end) }))) in_cset
 
     -- what holds of marking holds
     marks_kept : KeepsMarks config world world_after
     marks_kept = record {
       phase = refl;
       snapshot = refl;
-      markable = λ other. absurd (other on);
+      markable = λ not_evacuating. absurd (not_evacuating evacuating);
       shapes = shapes;
-      noted = noted_same config world world_after (λ n. refl) (λ t. refl) (λ t k. refl) (λ t. refl);
+      noted = noted_same config world world_after (λ n. refl) (λ mutator. refl) (λ mutator entry. refl) (λ mutator. refl);
     }
       where
         shapes : (address : ℕ) → IsMarkable world.block address → heap (address + 1) ≡ world.memory (Heap (address + 1))
-        shapes address (IsMarkable.object name refs nums is) = step.words address 1 (thing name refs nums) is (omega arith) (λ own. none-some seat own) (inl (omega arith))
-        shapes address (IsMarkable.to_come j words is) = promise_after address j words 1 is (let long = shared.parsable.promises address j words is in omega (arith, long))
+        shapes address (IsMarkable.object name refs nums piece_stands) = step.words address 1 (thing name refs nums) piece_stands (omega arith) (λ owned. none-some seat owned) (inl (omega arith))
+        shapes address (IsMarkable.to_come any_seat words piece_stands) = promise_after address any_seat words 1 piece_stands (let long_enough = shared.parsable.promises address any_seat words piece_stands in omega (arith, long_enough))
 
     -- and what holds of evacuation
     copies_kept : KeepsCopies config world world_after
@@ -195,9 +196,9 @@ module _ (config : Config) (world : World) (seat : ℕ) (heap top : ℕ → ℕ)
     keeps_after = record {
       names = names_after;
       targets = step.targets;
-      promises = λ a words is. step.promises a seat words is;
-      no_promises = λ address words is. step.no_promises address seat words is;
-      promise_words = λ address words k is below. promise_after address seat words k is below;
+      promises = λ piece_address words stands. step.promises piece_address seat words stands;
+      no_promises = λ address words stands. step.no_promises address seat words stands;
+      promise_words = λ address words offset stands offset_below. promise_after address seat words offset stands offset_below;
       root_words = λ i. refl;
       roots = λ i. refl;
       pin_words = λ index. refl;
@@ -210,20 +211,20 @@ module _ (config : Config) (world : World) (seat : ℕ) (heap top : ℕ → ℕ)
     }
 
     -- others can rely on what they knew
-    pub others_after : (j : ℕ) → j ≢ seat → Rely config j world world_after
-    others_after j differs = record {
+    pub others_after : (any_seat : ℕ) → any_seat ≢ seat → Rely config any_seat world world_after
+    others_after any_seat seats_differ = record {
       names = names_after;
       targets = step.targets;
-      rooms = λ a x is room. step.rooms j a x differs is room;
-      no_rooms = λ a x is room. step.no_rooms j a x is room;
-      room_words = λ a k piece is room below. step.words a k piece is below (λ own. differs (same_Some j seat (sym room ∙ own))) (inr (room_unnamed piece j room));
-      promises = λ a words is. step.promises a j words is;
-      no_promises = λ address words is. step.no_promises address j words is;
-      promise_words = λ address words k is below. promise_after address j words k is below;
+      rooms = λ piece_address room_piece stands room. step.rooms any_seat piece_address room_piece seats_differ stands room;
+      no_rooms = λ piece_address room_piece stands room. step.no_rooms any_seat piece_address room_piece stands room;
+      room_words = λ piece_address place piece stands room offset_below. step.words piece_address place piece stands offset_below (λ owned. seats_differ (same_Some any_seat seat (sym room ∙ owned))) (inr (room_unnamed piece any_seat room));
+      promises = λ piece_address words stands. step.promises piece_address any_seat words stands;
+      no_promises = λ address words stands. step.no_promises address any_seat words stands;
+      promise_words = λ address words place stands offset_below. promise_after address any_seat words place stands offset_below;
       current = refl;
-      opens = λ r is. is;
-      owners = λ region is. is;
-      tops = λ r is. step.own_tops r j differs is;
+      opens = λ any_region stands. stands;
+      owners = λ region stands. stands;
+      tops = λ any_region stands. step.own_tops any_region any_seat seats_differ stands;
       root_words = λ i. refl;
       roots = λ i. refl;
       pin_words = λ index. refl;
@@ -232,24 +233,24 @@ module _ (config : Config) (world : World) (seat : ℕ) (heap top : ℕ → ℕ)
       wait = refl;
       answer = refl;
       state = refl;
-      asked = λ is. is;
+      asked = λ stands. stands;
       marks = record {
         keeps = marks_kept;
         recording = refl;
         scanning = refl;
         entries = refl;
-        buffer = λ k. refl;
-        greys = λ a is. is;
+        buffer = λ place. refl;
+        greys = λ piece_address stands. stands;
       };
       copies = record {
         keeps = copies_kept;
-        copying = step.copiers_else j differs;
+        copying = step.copiers_else any_seat seats_differ;
         working = refl;
-        words = λ address k body seated counted inside is from below. let piece = body_piece (world.block address) body is in step.words address k piece.0 piece.1 (omega (arith, below, piece.2)) (λ own. none-some body.name (sym (room_unnamed piece.0 seat own) ∙ body_named (Some piece.0) body (ap body_at (sym piece.1) ∙ is))) (inl from);
+        words = λ address place body seated counted inside stands from offset_below. let piece = body_piece (world.block address) body stands in step.words address place piece.0 piece.1 (omega (arith, offset_below, piece.2)) (λ owned. none-some body.name (sym (room_unnamed piece.0 seat owned) ∙ body_named (Some piece.0) body (ap body_at (sym piece.1) ∙ stands))) (inl from);
       };
-      fields = record { tams = λ r. refl; limits = λ region. refl; deads = step.deads; fillers = step.fillers; claims = λ all. all; fields = λ updating. absurd (omega (arith, updating, on)) };
+      fields = record { tams = λ any_region. refl; limits = λ region. refl; deads = step.deads; fillers = step.fillers; claims = λ all_claims. all_claims; fields = λ updating. absurd (omega (arith, updating, evacuating)) };
     }
 
     -- the step owes no more
     pub step_after : (touch : Touch) (facts : World → Type 0) → with_words world.memory heap top evac ≡ touched world.memory touch → facts world_after → PartStep config world seat touch facts
-    step_after touch facts memory own = record { world = world_after; memory = memory; graph = refl; shared = shared_after; own = own; keeps = keeps_after; others = others_after }
+    step_after touch facts memory_touched own_facts = record { world = world_after; memory = memory_touched; graph = refl; shared = shared_after; own = own_facts; keeps = keeps_after; others = others_after }

@@ -1,4 +1,5 @@
 -- The counter of copiers moves, and who copies with it.
+use Rattle.heap_words.specs.Phases.{evacuation_phase}
 use Rattle.std.proofs.Common.{◌≡◌, ◌≢◌, ℕ, zero, suc, ◌+◌, ◌<◌, ◌≤◌, Bool, true, false, cond, ⊎_elim, refl, sym, ap, ◌∙◌, subst, arith}
 use Rattle.std.proofs.lemmas.Bool.{cases_eq}
 use Rattle.heap_words.specs.declared.config.Config.{Config}
@@ -21,56 +22,56 @@ abbrev tally : Bool → ℕ
 tally holds = cond holds 1 0
 
 -- as many copy where the same seats do
-copiers_same : (copying then_copying : ℕ → Bool) (n : ℕ) → ((s : ℕ) → s < n → then_copying s ≡ copying s) → copiers then_copying n ≡ copiers copying n
+copiers_same : (copying then_copying : ℕ → Bool) (count : ℕ) → ((seat : ℕ) → seat < count → then_copying seat ≡ copying seat) → copiers then_copying count ≡ copiers copying count
 unfolding copiers
-copiers_same copying then_copying zero same = refl
-copiers_same copying then_copying (suc n) same =
-    let rest = copiers_same copying then_copying n (λ s below. same s (omega (arith, below))) in
-    let own : tally (then_copying n) ≡ tally (copying n) = ap tally (same n (omega arith)) in
-    omega (arith, rest, own)
+copiers_same copying then_copying zero same_copying = refl
+copiers_same copying then_copying (suc count) same_copying =
+    let same_rest = copiers_same copying then_copying count (λ seat seat_below. same_copying seat (omega (arith, seat_below))) in
+    let same_tally : tally (then_copying count) ≡ tally (copying count) = ap tally (same_copying count (omega arith)) in
+    omega (arith, same_rest, same_tally)
 
 -- no more copy than there are seats
-copiers_most : (copying : ℕ → Bool) (n : ℕ) → copiers copying n ≤ n
+copiers_most : (copying : ℕ → Bool) (count : ℕ) → copiers copying count ≤ count
 unfolding copiers
 copiers_most copying zero = omega arith
-copiers_most copying (suc n) = let rest = copiers_most copying n in let one = cond_most (copying n) in omega (arith, rest, one)
+copiers_most copying (suc count) = let rest_most = copiers_most copying count in let last_tally = cond_most (copying count) in omega (arith, rest_most, last_tally)
   where
     cond_most : (holds : Bool) → tally holds ≤ 1
     cond_most true = omega arith
     cond_most false = omega arith
 
 -- one seat copies now, or does not
-copiers_moved : (copying : ℕ → Bool) (seat n : ℕ) (holds : Bool) → seat < n → copiers (updated copying seat holds) n + tally (copying seat) ≡ copiers copying n + tally holds
+copiers_moved : (copying : ℕ → Bool) (seat count : ℕ) (holds : Bool) → seat < count → copiers (updated copying seat holds) count + tally (copying seat) ≡ copiers copying count + tally holds
 unfolding copiers
-copiers_moved copying seat zero holds below = absurd (omega (arith, below))
-copiers_moved copying seat (suc n) holds below = ⊎_elim
-    (λ (same : seat ≡ n).
-    let rest = copiers_same copying (updated copying seat holds) n (λ s less. updated_else copying seat holds s (λ e. omega (arith, e, same, less))) in
-    let own : tally (updated copying seat holds n) ≡ tally holds = ap tally (updated_same copying seat holds n same) in
-    let was : tally (copying seat) ≡ tally (copying n) = ap (λ s. tally (copying s)) same in
-    omega (arith, rest, own, was))
-    (λ (other : seat ≢ n).
-    let rest = copiers_moved copying seat n holds (omega (arith, below, other)) in
-    let own : tally (updated copying seat holds n) ≡ tally (copying n) = ap tally (updated_else copying seat holds n other) in
-    omega (arith, rest, own))
-    (cases_eq seat n)
+copiers_moved copying seat zero holds seat_below = absurd (omega (arith, seat_below))
+copiers_moved copying seat (suc count) holds seat_below = ⊎_elim
+    (λ (same_seat : seat ≡ count).
+    let rest_counted = copiers_same copying (updated copying seat holds) count (λ any_seat seat_less. updated_else copying seat holds any_seat (λ seats_equal. omega (arith, seats_equal, same_seat, seat_less))) in
+    let tally_then : tally (updated copying seat holds count) ≡ tally holds = ap tally (updated_same copying seat holds count same_seat) in
+    let tally_before : tally (copying seat) ≡ tally (copying count) = ap (λ any_seat. tally (copying any_seat)) same_seat in
+    omega (arith, rest_counted, tally_then, tally_before))
+    (λ (seats_differ : seat ≢ count).
+    let rest_counted = copiers_moved copying seat count holds (omega (arith, seat_below, seats_differ)) in
+    let tally_then : tally (updated copying seat holds count) ≡ tally (copying count) = ap tally (updated_else copying seat holds count seats_differ) in
+    omega (arith, rest_counted, tally_then))
+    (cases_eq seat count)
 
-module _ (config : Config) (world : World) (seat : ℕ) (spot : RoomSpot) (shared : Shared config world) (on : world.memory Phase ≡ 2) (seated : seat < seat_count config.mutators config.helpers)
-    (going : is_ended spot ≡ false) (copying : world.ghost.copying seat ≡ is_counted spot) (mine : Mine (world.memory Evac) spot) where
+module _ (config : Config) (world : World) (seat : ℕ) (spot : RoomSpot) (shared : Shared config world) (evacuating : world.memory Phase ≡ evacuation_phase) (seated : seat < seat_count config.mutators config.helpers)
+    (spot_going : is_ended spot ≡ false) (copying : world.ghost.copying seat ≡ is_counted spot) (spot_facts : Mine (world.memory Evac) spot) where
   -- the copier can step
   pub can_step : CanStep (world.memory Evac) spot
   can_step = record {
-    going = going;
+    going = spot_going;
     is_word = shared.evacuated.counted.is_word;
     few = (let counts = shared.evacuated.counted.counts in
-        let most = copiers_most world.ghost.copying (seat_count config.mutators config.helpers) in
+        let copiers_bound = copiers_most world.ghost.copying (seat_count config.mutators config.helpers) in
         let few_mutators = config.in_range.most_mutators in
         let few_helpers = config.in_range.most_helpers in
-        omega (arith, counts, most, few_mutators, few_helpers));
+        omega (arith, counts, copiers_bound, few_mutators, few_helpers));
     is_in = λ counted. (let counts = shared.evacuated.counted.counts in
-        let some = counted_one world.ghost.copying (seat_count config.mutators config.helpers) seat seated (copying ∙ counted) in
-        omega (arith, counts, some));
-    mine = mine;
+        let some_copier = counted_one world.ghost.copying (seat_count config.mutators config.helpers) seat seated (copying ∙ counted) in
+        omega (arith, counts, some_copier));
+    mine = spot_facts;
   }
 
   -- what its step keeps
@@ -90,10 +91,10 @@ module _ (config : Config) (world : World) (seat : ℕ) (spot : RoomSpot) (share
   counted_then = record {
     is_word = counter_kept.is_word;
     counts = (let counts = shared.evacuated.counted.counts in
-        let kept = counter_kept.counts in
+        let counts_kept = counter_kept.counts in
         let moves = copiers_moved world.ghost.copying seat (seat_count config.mutators config.helpers) (is_counted (next_at spot (world.memory Evac))) seated in
-        let was : tally (world.ghost.copying seat) ≡ tally (is_counted spot) = ap tally copying in
-        omega (arith, counts, kept, moves, was));
+        let tally_before : tally (world.ghost.copying seat) ≡ tally (is_counted spot) = ap tally copying in
+        omega (arith, counts, counts_kept, moves, tally_before));
   }
 
   -- once nobody copies any more, it stays so
@@ -108,26 +109,26 @@ module _ (config : Config) (world : World) (seat : ℕ) (spot : RoomSpot) (share
     moved_are = shared.evacuated.moved;
     counted = counted_then;
     kept = shared.evacuated.kept;
-    bodies = λ a body is. is;
-    targets = λ address refs nums name is. record { piece = is.piece; safe = λ inside. quiet_then (is.safe inside) };
-    moveds = λ a refs nums to name is. is;
-    spents = λ a words to is. is;
-    pieces = λ a x inside is. (x, is, refl, refl);
-    no_new = λ a refs nums name inside is. is;
-    set_tops = λ region is. refl;
+    bodies = λ piece_address body stands. stands;
+    targets = λ address refs nums name stands. record { piece = stands.piece; safe = λ inside. quiet_then (stands.safe inside) };
+    moveds = λ piece_address refs nums moved_to name stands. stands;
+    spents = λ piece_address words moved_to stands. stands;
+    pieces = λ piece_address piece inside stands. (piece, stands, refl, refl);
+    no_new = λ piece_address refs nums name inside stands. stands;
+    set_tops = λ region stands. refl;
     out = counter_kept.bit_stays;
     quiet = quiet_then;
-    rooms = λ j a x differs is own. is;
-    no_rooms = λ j a x is own. is;
-    promises = λ a j words is. is;
-    no_promises = λ address j words is. is;
-    deads = λ a words is. is;
-    fillers = λ a words is. is;
-    no_deads = λ address words is. is;
-    no_fillers = λ address words is. is;
-    words = λ a k x is below no_room which. refl;
-    own_tops = λ region j differs is. refl;
-    copiers_else = λ j differs. updated_else world.ghost.copying seat (is_counted (next_at spot (world.memory Evac))) j (λ same. differs (sym same));
+    rooms = λ any_seat piece_address piece differs stands owned. stands;
+    no_rooms = λ any_seat piece_address piece stands owned. stands;
+    promises = λ piece_address any_seat words stands. stands;
+    no_promises = λ address any_seat words stands. stands;
+    deads = λ piece_address words stands. stands;
+    fillers = λ piece_address words stands. stands;
+    no_deads = λ address words stands. stands;
+    no_fillers = λ address words stands. stands;
+    words = λ piece_address offset piece stands offset_below no_room which. refl;
+    own_tops = λ region any_seat differs stands. refl;
+    copiers_else = λ any_seat differs. updated_else world.ghost.copying seat (is_counted (next_at spot (world.memory Evac))) any_seat (λ same_seat. differs (sym same_seat));
   }
 
   -- who copies is as the spot says
@@ -136,5 +137,5 @@ module _ (config : Config) (world : World) (seat : ℕ) (spot : RoomSpot) (share
 
   -- the step of the counter owes no more
   pub counts_step : (facts : World → Type 0) → facts counted_world → PartStep config world seat (touch Evac (form_at spot)) facts
-  counts_step facts own = step_after config world seat (λ address. world.memory (Heap address)) (λ region. world.memory (Top region)) (after (world.memory Evac) spot) world.block copying_then shared on counting
-      (touch Evac (form_at spot)) facts (evac_written world.memory (formed (form_at spot) (world.memory Evac))) own
+  counts_step facts own_facts = step_after config world seat (λ address. world.memory (Heap address)) (λ region. world.memory (Top region)) (after (world.memory Evac) spot) world.block copying_then shared evacuating counting
+      (touch Evac (form_at spot)) facts (evac_written world.memory (formed (form_at spot) (world.memory Evac))) own_facts

@@ -24,81 +24,81 @@ use Rattle.cycle_steps.proofs.Resolving.Common.{CanResolveFor, ResolveStep, move
 module _ (config : Config) (world : World) (seat address : ℕ) (unit : Option ℕ) (shared : Shared config world) where
   -- the first load of the header
   pub at_load_header : CanResolveFor config world seat address unit LoadHeader → ResolveStep config world seat address unit LoadHeader
-  at_load_header can = by_copy can.resolves.there
+  at_load_header can_resolve = by_copy can_resolve.resolves.there
     where
-      answered : (to : ℕ) → world.memory (Heap address) ≡ header_word to → is_word config (Heap to) ≡ true → IsAnswer config world address to → ResolveStep config world seat address unit LoadHeader
-      answered to header inside answer =
-          steps.leads_to config world seat address unit shared LoadHeader (Resolved to) (ap (after_header address evacuation_phase) header ∙ steps.leads_header config world seat address unit shared to)
-          (steps.looked config world seat address unit shared LoadHeader (Resolved to) (load_keeps world.memory (Heap address)) (steps.can_at config world seat address unit shared LoadHeader (Resolved to) can refl (λ d x room. room) inside answer))
+      answered : (copy : ℕ) → world.memory (Heap address) ≡ header_word copy → is_word config (Heap copy) ≡ true → IsAnswer config world address copy → ResolveStep config world seat address unit LoadHeader
+      answered copy header_is copy_inside answer =
+          steps.leads_to config world seat address unit shared LoadHeader (Resolved copy) (ap (after_header address evacuation_phase) header_is ∙ steps.leads_header config world seat address unit shared copy)
+          (steps.looked config world seat address unit shared LoadHeader (Resolved copy) (load_keeps world.memory (Heap address)) (steps.can_at config world seat address unit shared LoadHeader (Resolved copy) can_resolve refl (λ room_address piece room. room) copy_inside answer))
 
       by_copy : HasCopy world.block address → ResolveStep config world seat address unit LoadHeader
-      by_copy (HasCopy.copy b is) = ⊎_elim
+      by_copy (HasCopy.copy body has_piece) = ⊎_elim
           (λ current.
-          steps.leads_to config world seat address unit shared LoadHeader (Entering Look) (ap (after_header address evacuation_phase) (steps.header_plain config world seat address unit shared b current))
-          (steps.looked config world seat address unit shared LoadHeader (Entering Look) (load_keeps world.memory (Heap address)) (steps.can_at config world seat address unit shared LoadHeader (Entering Look) can refl (λ d x room. room) refl (b, is, tt))))
-          (λ old. answered old.0 (steps.header_leads config world seat address unit shared b old.0 old.1) (steps.answer_word config world seat address unit shared b old.0 old.1) (moved_answer config world address old.0 b shared old.1))
-          (copy_cases (world.block address) b is)
-      by_copy (HasCopy.spent_copy words to is) =
-          let leads = shared.evacuated.moved.spents address words to is in
-          let piece = markable_piece config world shared to leads.copy in
-          answered to leads.header (piece_begins config world shared to piece.0 piece.1 (let long = piece.2 in omega (arith, long))) (spent_answer config world address words to shared is)
+          steps.leads_to config world seat address unit shared LoadHeader (Entering Look) (ap (after_header address evacuation_phase) (steps.header_plain config world seat address unit shared body current))
+          (steps.looked config world seat address unit shared LoadHeader (Entering Look) (load_keeps world.memory (Heap address)) (steps.can_at config world seat address unit shared LoadHeader (Entering Look) can_resolve refl (λ room_address room_piece room. room) refl (body, has_piece, tt))))
+          (λ old. answered old.0 (steps.header_leads config world seat address unit shared body old.0 old.1) (steps.answer_word config world seat address unit shared body old.0 old.1) (moved_answer config world address old.0 body shared old.1))
+          (copy_cases (world.block address) body has_piece)
+      by_copy (HasCopy.spent_copy words copy has_piece) =
+          let leads = shared.evacuated.moved.spents address words copy has_piece in
+          let piece = markable_piece config world shared copy leads.copy in
+          answered copy leads.header (piece_begins config world shared copy piece.0 piece.1 (let piece_long = piece.2 in omega (arith, piece_long))) (spent_answer config world address words copy shared has_piece)
 
   -- the load of the counter on the way in
   pub at_look : CanResolveFor config world seat address unit (Entering Look) → ResolveStep config world seat address unit (Entering Look)
-  at_look can = by_bit (is_out_of_room (world.memory Evac)) (count_of (world.memory Evac) == 0) refl refl
+  at_look can_resolve = by_bit (is_out_of_room (world.memory Evac)) (count_of (world.memory Evac) == 0) refl refl
     where
-      body : (b : Body) × (body_at (world.block address) ≡ Some b)
-      body = (can.resolves.facts.0, can.resolves.facts.1)
+      body : (found_body : Body) × (body_at (world.block address) ≡ Some found_body)
+      body = (can_resolve.resolves.facts.0, can_resolve.resolves.facts.1)
 
-      by_bit : (b holds : Bool) → is_out_of_room (world.memory Evac) ≡ b → (count_of (world.memory Evac) == 0) ≡ holds → steps.StepTo config world seat address unit shared (Entering Look) (after_enter (if b then (if holds then Stopped else Look) else Raise (world.memory Evac)))
-      by_bit true true out none =
-          steps.looked config world seat address unit shared (Entering Look) LoadAgain (load_keeps world.memory Evac) (steps.can_at config world seat address unit shared (Entering Look) LoadAgain can refl (λ d x room. room) refl (body.0, body.1, record { out_of_room = out; nobody = grind (arith, nat_tests) }))
-      by_bit true false out none =
-          steps.looked config world seat address unit shared (Entering Look) (Entering Look) (load_keeps world.memory Evac) (steps.can_at config world seat address unit shared (Entering Look) (Entering Look) can refl (λ d x room. room) refl (body.0, body.1, tt))
-      by_bit false holds out none =
+      by_bit : (full holds : Bool) → is_out_of_room (world.memory Evac) ≡ full → (count_of (world.memory Evac) == 0) ≡ holds → steps.StepTo config world seat address unit shared (Entering Look) (after_enter (if full then (if holds then Stopped else Look) else Raise (world.memory Evac)))
+      by_bit true true out_of_room none_counted =
+          steps.looked config world seat address unit shared (Entering Look) LoadAgain (load_keeps world.memory Evac) (steps.can_at config world seat address unit shared (Entering Look) LoadAgain can_resolve refl (λ room_address piece room. room) refl (body.0, body.1, record { out_of_room = out_of_room; nobody = grind (arith, nat_tests) }))
+      by_bit true false out_of_room none_counted =
+          steps.looked config world seat address unit shared (Entering Look) (Entering Look) (load_keeps world.memory Evac) (steps.can_at config world seat address unit shared (Entering Look) (Entering Look) can_resolve refl (λ room_address piece room. room) refl (body.0, body.1, tt))
+      by_bit false holds out_of_room none_counted =
           steps.looked config world seat address unit shared (Entering Look) (Entering (Raise (world.memory Evac))) (load_keeps world.memory Evac)
-          (steps.can_at config world seat address unit shared (Entering Look) (Entering (Raise (world.memory Evac))) can refl (λ d x room. room) (let clear : nat_lt (world.memory Evac) (2 ^ 63) ≡ true = grind (arith, nat_tests) in and_from true _ refl (and_from _ true clear refl)) (body.0, body.1, tt))
+          (steps.can_at config world seat address unit shared (Entering Look) (Entering (Raise (world.memory Evac))) can_resolve refl (λ room_address piece room. room) (let clear : nat_lt (world.memory Evac) (2 ^ 63) ≡ true = grind (arith, nat_tests) in and_from true _ refl (and_from _ true clear refl)) (body.0, body.1, tt))
 
   -- the exchange of the counter on the way in
   pub at_raise : (found : ℕ) → CanResolveFor config world seat address unit (Entering (Raise found)) → ResolveStep config world seat address unit (Entering (Raise found))
-  at_raise found can = by_found (world.memory Evac == found) refl
+  at_raise found can_resolve = by_found (world.memory Evac == found) refl
     where
       clear : found < 2 ^ 63
-      clear = ltb-true _ _ (and_parts (nat_lt found (2 ^ 63)) true can.resolves.ready).0
+      clear = ltb-true _ _ (and_parts (nat_lt found (2 ^ 63)) true can_resolve.resolves.ready).0
 
       by_found : (holds : Bool) → (world.memory Evac == found) ≡ holds → steps.StepTo config world seat address unit shared (Entering (Raise found)) (after_enter (if holds then Inside else Look))
-      by_found true is = steps.counter_moves config world seat address unit shared (Entering (Raise found)) (Raise found) can refl refl clear refl LoadShape
-          (sym (ap is_counted (cond-true (world.memory Evac == found) Inside Look is))) (λ d x room. room) (shape_word_ready) (can.resolves.facts.0, can.resolves.facts.1, tt)
+      by_found true evac_test = steps.counter_moves config world seat address unit shared (Entering (Raise found)) (Raise found) can_resolve refl refl clear refl LoadShape
+          (sym (ap is_counted (cond-true (world.memory Evac == found) Inside Look evac_test))) (λ room_address room_piece room. room) (shape_word_ready) (can_resolve.resolves.facts.0, can_resolve.resolves.facts.1, tt)
         where
           shape_word_ready : is_word config (Heap (address + 1)) ≡ true
-          shape_word_ready = let piece = copy_piece config world shared address can.resolves.there in piece_word_is config world shared address 1 piece.0 piece.1 (let long = piece.2 in omega (arith, long))
-      by_found false is = steps.counter_moves config world seat address unit shared (Entering (Raise found)) (Raise found) can refl refl clear refl (Entering Look)
-          (sym (ap is_counted (cond-false (world.memory Evac == found) Inside Look is))) (λ d x room. room) refl (can.resolves.facts.0, can.resolves.facts.1, tt)
+          shape_word_ready = let piece = copy_piece config world shared address can_resolve.resolves.there in piece_word_is config world shared address 1 piece.0 piece.1 (let piece_long = piece.2 in omega (arith, piece_long))
+      by_found false evac_test = steps.counter_moves config world seat address unit shared (Entering (Raise found)) (Raise found) can_resolve refl refl clear refl (Entering Look)
+          (sym (ap is_counted (cond-false (world.memory Evac == found) Inside Look evac_test))) (λ room_address room_piece room. room) refl (can_resolve.resolves.facts.0, can_resolve.resolves.facts.1, tt)
 
   -- the load of the shape
   pub at_load_shape : CanResolveFor config world seat address unit LoadShape → ResolveStep config world seat address unit LoadShape
-  at_load_shape can =
-      let facts = can.resolves.facts.0 in
-      let is = can.resolves.facts.1 in
-      let long = body_long config world shared address facts is in
-      let small = body_small config world shared address facts is in
-      let seated = can.resolves.seated in
-      steps.leads_to config world seat address unit shared LoadShape (Taking (body_words facts) take.LoadBuffer) (ap (λ words. Taking words take.LoadBuffer) long)
-      (steps.looked config world seat address unit shared LoadShape (Taking (body_words facts) take.LoadBuffer) (load_keeps world.memory (Heap (address + 1))) (steps.can_at config world seat address unit shared LoadShape (Taking (body_words facts) take.LoadBuffer) can refl (λ d x room. room)
-      (and_from _ _ (body_lies config world shared address facts is) (and_from _ _ (and_from _ _ (lt-ltb _ _ seated) refl) refl)) (
+  at_load_shape can_resolve =
+      let facts = can_resolve.resolves.facts.0 in
+      let has_body = can_resolve.resolves.facts.1 in
+      let long_body = body_long config world shared address facts has_body in
+      let body_fits = body_small config world shared address facts has_body in
+      let seated = can_resolve.resolves.seated in
+      steps.leads_to config world seat address unit shared LoadShape (Taking (body_words facts) take.LoadBuffer) (ap (λ words. Taking words take.LoadBuffer) long_body)
+      (steps.looked config world seat address unit shared LoadShape (Taking (body_words facts) take.LoadBuffer) (load_keeps world.memory (Heap (address + 1))) (steps.can_at config world seat address unit shared LoadShape (Taking (body_words facts) take.LoadBuffer) can_resolve refl (λ room_address piece room. room)
+      (and_from _ _ (body_lies config world shared address facts has_body) (and_from _ _ (and_from _ _ (lt-ltb _ _ seated) refl) refl)) (
         facts,
-        is,
+        has_body,
         (
           refl,
           record {
             seated = seated;
             least = omega arith;
-            most = small;
+            most = body_fits;
             ready = and_from _ _ (and_from _ _ (lt-ltb _ _ seated) refl) refl;
             facts = tt;
-            rooms = λ d x there own. can.resolves.rooms d x there own;
-            records_none = can.resolves.records_none;
-            scans_none = can.resolves.scans_none;
+            rooms = λ room_address piece has_piece own_room. can_resolve.resolves.rooms room_address piece has_piece own_room;
+            records_none = can_resolve.resolves.records_none;
+            scans_none = can_resolve.resolves.scans_none;
           },
         ),
       )))

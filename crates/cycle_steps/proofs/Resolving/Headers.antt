@@ -11,29 +11,29 @@ use Rattle.cycle_steps.specs.Resolving.Laws.{HeadersLead}
 module _ (config : Config) (world : World) (shared : Shared config world) (address : ℕ) (body : Body) where
   -- the header of a current copy
   plain : world.block address ≡ Some (thing body.name body.refs body.nums) → world.memory (Heap address) ≡ plain_header
-  plain is = (shared.contents.objects.each address body.refs body.nums body.name is).2.header
+  plain has_piece = (shared.contents.objects.each address body.refs body.nums body.name has_piece).2.header
 
   -- that of an old one
-  led : (to : ℕ) → world.block address ≡ Some (moved body.name body.refs body.nums to) → world.memory (Heap address) ≡ header_word to
-  led to is = (shared.evacuated.moved.moveds address body.refs body.nums to body.name is).header
+  led : (copy : ℕ) → world.block address ≡ Some (moved body.name body.refs body.nums copy) → world.memory (Heap address) ≡ header_word copy
+  led copy has_piece = (shared.evacuated.moved.moveds address body.refs body.nums copy body.name has_piece).header
 
   -- where it leads
-  leads_to : (to : ℕ) → world.block address ≡ Some (moved body.name body.refs body.nums to) → TargetIn config world to body.refs body.nums body.name × (world.memory (Heap to) ≡ plain_header)
-  leads_to to is =
-      let old = shared.evacuated.moved.moveds address body.refs body.nums to body.name is in
-      (record { piece = old.copy; safe = λ inside. absurd (old.outside inside) }, (shared.contents.objects.each to body.refs body.nums body.name old.copy).2.header)
+  leads_to : (copy : ℕ) → world.block address ≡ Some (moved body.name body.refs body.nums copy) → TargetIn config world copy body.refs body.nums body.name × (world.memory (Heap copy) ≡ plain_header)
+  leads_to copy has_piece =
+      let old = shared.evacuated.moved.moveds address body.refs body.nums copy body.name has_piece in
+      (record { piece = old.copy; safe = λ inside. absurd (old.outside inside) }, (shared.contents.objects.each copy body.refs body.nums body.name old.copy).2.header)
 
 pub headers_lead : HeadersLead
 headers_lead = record {
-  leads = λ c w address body shared is forwarded. ⊎_elim
-      (λ current. absurd (let differ : false ≡ true = sym (ap is_forwarded (plain c w shared address body current)) ∙ forwarded in cc))
-      (λ old. subst (λ to. TargetIn c w to body.refs body.nums body.name × (w.memory (Heap to) ≡ plain_header)) (sym (ap forwardee_in (led c w shared address body old.0 old.1) ∙ header_names old.0)) (leads_to c w shared address body old.0 old.1))
-      (copy_cases (w.block address) body is);
-  once = λ c u w address body before after keeps is. ⊎_elim
+  leads = λ config world address body shared has_body address_forwarded. ⊎_elim
+      (λ current. absurd (let differ : false ≡ true = sym (ap is_forwarded (plain config world shared address body current)) ∙ address_forwarded in cc))
+      (λ old. subst (λ copy. TargetIn config world copy body.refs body.nums body.name × (world.memory (Heap copy) ≡ plain_header)) (sym (ap forwardee_in (led config world shared address body old.0 old.1) ∙ header_names old.0)) (leads_to config world shared address body old.0 old.1))
+      (copy_cases (world.block address) body has_body);
+  once = λ config old_world world address body before after keeps has_body. ⊎_elim
       (λ was_current. ⊎_elim
-      (λ current. inl (plain c w after address body current ∙ sym (plain c u before address body was_current)))
-      (λ old. inr (plain c u before address body was_current, ap is_forwarded (led c w after address body old.0 old.1) ∙ header_forwarded old.0))
-      (copy_cases (w.block address) body (keeps.bodies address body is)))
-      (λ was_old. inl (led c w after address body was_old.0 (keeps.moveds address body.refs body.nums was_old.0 body.name was_old.1) ∙ sym (led c u before address body was_old.0 was_old.1)))
-      (copy_cases (u.block address) body is);
+      (λ current. inl (plain config world after address body current ∙ sym (plain config old_world before address body was_current)))
+      (λ old. inr (plain config old_world before address body was_current, ap is_forwarded (led config world after address body old.0 old.1) ∙ header_forwarded old.0))
+      (copy_cases (world.block address) body (keeps.bodies address body has_body)))
+      (λ was_old. inl (led config world after address body was_old.0 (keeps.moveds address body.refs body.nums was_old.0 body.name was_old.1) ∙ sym (led config old_world before address body was_old.0 was_old.1)))
+      (copy_cases (old_world.block address) body has_body);
 }

@@ -25,96 +25,96 @@ use Rattle.cycle_steps.proofs.Resolving.Leaving.{each_resolve}
 module _ (config : Config) (world : World) (seat address : ℕ) (shared : Shared config world) where
   -- who leaves is counted
   leaves_fit : (spot : ResolveSpot) → CanResolve config world seat address spot → LeavesFit spot (world.memory (touch_at config seat address spot).word)
-  leaves_fit (Leaving answer) can = λ none.
+  leaves_fit (Leaving answer) resolvable = λ no_count.
       let counts = shared.evacuated.counted.counts in
-      let some = counted_one world.ghost.copying (seat_count config.mutators config.helpers) seat can.seated can.copying in
-      omega (arith, none, counts, some)
-  leaves_fit LoadHeader can = tt
-  leaves_fit (Entering spot) can = tt
-  leaves_fit LoadShape can = tt
-  leaves_fit (Taking words spot) can = tt
-  leaves_fit (Copying copy end spot) can = tt
-  leaves_fit (Stopping spot) can = tt
-  leaves_fit LoadAgain can = tt
-  leaves_fit (Resolved answer) can = tt
+      let seat_counted = counted_one world.ghost.copying (seat_count config.mutators config.helpers) seat resolvable.seated resolvable.copying in
+      omega (arith, no_count, counts, seat_counted)
+  leaves_fit LoadHeader resolvable = tt
+  leaves_fit (Entering spot) resolvable = tt
+  leaves_fit LoadShape resolvable = tt
+  leaves_fit (Taking words spot) resolvable = tt
+  leaves_fit (Copying copy end spot) resolvable = tt
+  leaves_fit (Stopping spot) resolvable = tt
+  leaves_fit LoadAgain resolvable = tt
+  leaves_fit (Resolved answer) resolvable = tt
 
   -- the next access is of the table
   inside_at : (spot : ResolveSpot) → CanResolve config world seat address spot → IsWord config (touch_at config seat address spot).word
-  inside_at spot can =
-      let piece = copy_piece config world shared address can.there in
-      resolve_inside config seat address spot can.seated (piece_begins config world shared address piece.0 piece.1 (let long = piece.2 in omega (arith, long))) can.ready
+  inside_at spot resolvable =
+      let piece = copy_piece config world shared address resolvable.there in
+      resolve_inside config seat address spot resolvable.seated (piece_begins config world shared address piece.0 piece.1 (let piece_long = piece.2 in omega (arith, piece_long))) resolvable.ready
 
-module _ (config : Config) (world : World) (seat a address k : ℕ) (body : Body) (shared : Shared config world) (is : body_at (world.block address) ≡ Some body) (below : k < body_words body) where
+module _ (config : Config) (world : World) (seat resolved_address address offset : ℕ) (body : Body) (shared : Shared config world) (body_there : body_at (world.block address) ≡ Some body) (offset_below : offset < body_words body) where
   -- what it accesses of copies
   abbrev IsSpared : ResolveSpot → Type 0
-  IsSpared spot = (touch_at config seat a spot).word ≡ Heap (address + k) → ((touch_at config seat a spot).form ≡ loads) ⊎ ((copy : ℕ) × (end : ℕ) × (spot ≡ Copying copy end Publish) × (address ≡ a) × (k ≡ 0))
+  IsSpared spot = (touch_at config seat resolved_address spot).word ≡ Heap (address + offset) → ((touch_at config seat resolved_address spot).form ≡ loads) ⊎ ((copy : ℕ) × (end : ℕ) × (spot ≡ Copying copy end Publish) × (address ≡ resolved_address) × (offset ≡ 0))
 
   -- no word of its room is one of a copy
-  room_far : (copy index words : ℕ) → world.block copy ≡ Some (hand seat words) → index < words → copy + index ≢ address + k
-  room_far copy index words room inside =
-      let piece = body_piece (world.block address) body is in
-      let long = piece.2 in
-      far config (λ region. world.memory (Top region)) world.block shared.parsable.plotted copy address index k (hand seat words) piece.0 room piece.1
-      (λ same. room_no_copy config world shared copy seat words room body (ap (λ address. body_at (world.block address)) same ∙ is)) inside (omega (arith, below, long))
+  room_far : (copy index words : ℕ) → world.block copy ≡ Some (hand seat words) → index < words → copy + index ≢ address + offset
+  room_far copy index words room_there index_inside =
+      let piece = body_piece (world.block address) body body_there in
+      let piece_long = piece.2 in
+      far config (λ region. world.memory (Top region)) world.block shared.parsable.plotted copy address index offset (hand seat words) piece.0 room_there piece.1
+      (λ same_address. room_no_copy config world shared copy seat words room_there body (ap (λ address. body_at (world.block address)) same_address ∙ body_there)) index_inside (omega (arith, offset_below, piece_long))
 
   -- no free words of its buffer begin within a copy
-  spare_far : (more : ℕ) → world.block (address + k) ≡ Some (spare seat more) → 1 ≤ more → ⊥
-  spare_far more there positive =
-      let piece = body_piece (world.block address) body is in
-      let long = piece.2 in
-      far config (λ region. world.memory (Top region)) world.block shared.parsable.plotted (address + k) address 0 k (spare seat more) piece.0 there piece.1
-      (λ same. (let both = sym (ap (λ address. body_at (world.block address)) same ∙ is) ∙ ap body_at there in cc)) (omega (arith, positive)) (omega (arith, below, long)) (omega arith)
+  spare_far : (spare_words : ℕ) → world.block (address + offset) ≡ Some (spare seat spare_words) → 1 ≤ spare_words → ⊥
+  spare_far spare_words spare_there spare_positive =
+      let piece = body_piece (world.block address) body body_there in
+      let piece_long = piece.2 in
+      far config (λ region. world.memory (Top region)) world.block shared.parsable.plotted (address + offset) address 0 offset (spare seat spare_words) piece.0 spare_there piece.1
+      (λ same_address. (let both_bodies = sym (ap (λ address. body_at (world.block address)) same_address ∙ body_there) ∙ ap body_at spare_there in cc)) (omega (arith, spare_positive)) (omega (arith, offset_below, piece_long)) (omega arith)
 
   -- one word of the heap has one address
   one_address : (address other_address : ℕ) → Heap address ≡ Heap other_address → address ≡ other_address
-  one_address address other_address same = cc
+  one_address address other_address same_word = cc
 
-  copy_spares : (copy end : ℕ) (spot : CopySpot) → CanResolve config world seat a (Copying copy end spot) → IsSpared (Copying copy end spot)
-  copy_spares copy end (LoadWord words index) can word = inl refl
-  copy_spares copy end (StoreWord words index found) can word =
-      absurd (room_far copy index (body_words can.facts.0) can.facts.2.3.taken.here (let less = can.facts.2.2 in let long = can.facts.2.0 in omega (arith, less, long)) (one_address _ _ word))
-  copy_spares copy end StoreHeader can word =
-      absurd (room_far copy 0 (body_words can.facts.0) can.facts.2.taken.here (omega arith) (let same = one_address copy (address + k) word in omega (arith, same)))
-  copy_spares copy end Publish can word =
-      let there = copy_piece config world shared a can.there in
-      let piece = body_piece (world.block address) body is in
-      let long = piece.2 in
-      let same = one_address a (address + k) word in
-      let some = there.2 in
-      let one : address ≡ a = one_piece config (λ region. world.memory (Top region)) world.block shared.parsable.plotted address a a piece.0 there.0 piece.1 there.1 (omega (arith, same)) (omega (arith, same, below, long)) (omega arith) (omega (arith, some)) in
-      inr (copy, end, refl, one, omega (arith, same, one))
-  copy_spares copy end (GiveBack answer) can word = absurd (cc (word))
+  copy_spares : (copy end : ℕ) (spot : CopySpot) → CanResolve config world seat resolved_address (Copying copy end spot) → IsSpared (Copying copy end spot)
+  copy_spares copy end (LoadWord words index) resolvable word = inl refl
+  copy_spares copy end (StoreWord words index found) resolvable word =
+      absurd (room_far copy index (body_words resolvable.facts.0) resolvable.facts.2.3.taken.here (let index_less = resolvable.facts.2.2 in let long_enough = resolvable.facts.2.0 in omega (arith, index_less, long_enough)) (one_address _ _ word))
+  copy_spares copy end StoreHeader resolvable word =
+      absurd (room_far copy 0 (body_words resolvable.facts.0) resolvable.facts.2.taken.here (omega arith) (let same_address = one_address copy (address + offset) word in omega (arith, same_address)))
+  copy_spares copy end Publish resolvable word =
+      let copy_there = copy_piece config world shared resolved_address resolvable.there in
+      let piece = body_piece (world.block address) body body_there in
+      let long_enough = piece.2 in
+      let same_address = one_address resolved_address (address + offset) word in
+      let some_words = copy_there.2 in
+      let address_is : address ≡ resolved_address = one_piece config (λ region. world.memory (Top region)) world.block shared.parsable.plotted address resolved_address resolved_address piece.0 copy_there.0 piece.1 copy_there.1 (omega (arith, same_address)) (omega (arith, same_address, offset_below, long_enough)) (omega arith) (omega (arith, some_words)) in
+      inr (copy, end, refl, address_is, omega (arith, same_address, address_is))
+  copy_spares copy end (GiveBack answer) resolvable word = absurd (cc (word))
 
-  spares_at : (spot : ResolveSpot) → CanResolve config world seat a spot → IsSpared spot
-  spares_at LoadHeader can word = inl refl
-  spares_at (Entering spot) can word = absurd (cc (word))
-  spares_at LoadShape can word = inl refl
-  spares_at (Taking words spot) can word = (let there = writes_spare config world seat words spot can.facts.2.1 (address + k) word in absurd (spare_far there.0 there.1 there.2))
-  spares_at (Copying copy end spot) can word = copy_spares copy end spot can word
-  spares_at (Leaving answer) can word = absurd (cc (word))
-  spares_at (Stopping spot) can word = absurd (cc (word))
-  spares_at LoadAgain can word = inl refl
-  spares_at (Resolved answer) can word = inl refl
+  spares_at : (spot : ResolveSpot) → CanResolve config world seat resolved_address spot → IsSpared spot
+  spares_at LoadHeader resolvable word = inl refl
+  spares_at (Entering spot) resolvable word = absurd (cc (word))
+  spares_at LoadShape resolvable word = inl refl
+  spares_at (Taking words spot) resolvable word = (let writes_there = writes_spare config world seat words spot resolvable.facts.2.1 (address + offset) word in absurd (spare_far writes_there.0 writes_there.1 writes_there.2))
+  spares_at (Copying copy end spot) resolvable word = copy_spares copy end spot resolvable word
+  spares_at (Leaving answer) resolvable word = absurd (cc (word))
+  spares_at (Stopping spot) resolvable word = absurd (cc (word))
+  spares_at LoadAgain resolvable word = inl refl
+  spares_at (Resolved answer) resolvable word = inl refl
 
 -- what the steps of resolving owe
 pub resolving_steps : ResolvingSteps
 resolving_steps = record {
-  begins = λ c u seat a seated on inside there copying records scans none. record {
+  begins = λ config world seat address seated in_phase inside word_there copying records scans no_rooms. record {
     seated = seated;
-    phase = on;
+    phase = in_phase;
     inside = inside;
-    there = there;
+    there = word_there;
     copying = copying;
     records_none = records;
     scans_none = scans;
-    rooms = λ b x is own. none b x is own;
+    rooms = λ b piece piece_there own_room. no_rooms b piece piece_there own_room;
     ready = refl;
     facts = tt;
   };
-  steps = λ c seat a. record {
-    stands = λ u at shared can. record { stays = λ w rely. can_resolve_stays c u w seat a shared rely at can; inside = inside_at c u seat a shared at can };
-    goes = λ u at going shared can.
-        let step = each_resolve c u seat a (u.ghost.working seat) shared at going (record { resolves = can; working = refl }) in
+  steps = λ config seat address. record {
+    stands = λ world spot shared resolvable. record { stays = λ later_world rely. can_resolve_stays config world later_world seat address shared rely spot resolvable; inside = inside_at config world seat address shared spot resolvable };
+    goes = λ world spot going shared resolvable.
+        let step = each_resolve config world seat address (world.ghost.working seat) shared spot going (record { resolves = resolvable; working = refl }) in
         record {
           step = record {
             world = step.world;
@@ -125,9 +125,9 @@ resolving_steps = record {
             keeps = step.keeps;
             others = step.others;
           };
-          fits = (step.own.resolves.ready, leaves_fit c u seat a shared at can);
+          fits = (step.own.resolves.ready, leaves_fit config world seat address shared spot resolvable);
         };
   };
-  spares = λ c u seat a at d k b shared can is below word. spares_at c u seat a d k b shared is below at can word;
-  answers = λ c u seat a answer can. can.facts;
+  spares = λ config world seat address spot copy_address offset b shared resolvable piece_there offset_below word. spares_at config world seat address copy_address offset b shared piece_there offset_below spot resolvable word;
+  answers = λ config world seat address answer resolvable. resolvable.facts;
 }

@@ -18,99 +18,99 @@ use Rattle.load_barrier.specs.declared.spot.ResolveSpot.TheVariants.{LoadHeader,
 use Rattle.load_barrier.specs.Alone.{is_copier}
 use Rattle.cycle_steps.specs.Resolving.Facts.{IsAnswer, IsCopied, CopyFacts, StopFacts, BodyFacts, ResolveFacts, CanResolve}
 
-module _ (config : Config) (world other_world : World) (seat address : ℕ) (shared : Shared config world) (rely : Rely config seat world other_world) where
+module _ (config : Config) (world later_world : World) (seat address : ℕ) (shared : Shared config world) (rely : Rely config seat world later_world) where
   -- a copy stays one
-  copy_stays : HasCopy world.block address → HasCopy other_world.block address
-  copy_stays (HasCopy.copy b is) = HasCopy.copy b (rely.copies.keeps.bodies address b is)
-  copy_stays (HasCopy.spent_copy words to is) = HasCopy.spent_copy words to (rely.copies.keeps.spents address words to is)
+  copy_stays : HasCopy world.block address → HasCopy later_world.block address
+  copy_stays (HasCopy.copy had_copy body_there) = HasCopy.copy had_copy (rely.copies.keeps.bodies address had_copy body_there)
+  copy_stays (HasCopy.spent_copy words target body_there) = HasCopy.spent_copy words target (rely.copies.keeps.spents address words target body_there)
 
   -- what is in the set was, and is
-  was_inside : (b : ℕ) → IsCollected config (other_world.memory Cset) b → IsCollected config (world.memory Cset) b
-  was_inside b inside = subst (λ set. IsCollected config set b) rely.copies.keeps.cset inside
+  was_inside : (address : ℕ) → IsCollected config (later_world.memory Cset) address → IsCollected config (world.memory Cset) address
+  was_inside address address_inside = subst (λ any_set. IsCollected config any_set address) rely.copies.keeps.cset address_inside
 
-  now_inside : (b : ℕ) → IsCollected config (world.memory Cset) b → IsCollected config (other_world.memory Cset) b
-  now_inside b inside = subst (λ set. IsCollected config set b) (sym rely.copies.keeps.cset) inside
+  now_inside : (address : ℕ) → IsCollected config (world.memory Cset) address → IsCollected config (later_world.memory Cset) address
+  now_inside address address_inside = subst (λ any_set. IsCollected config any_set address) (sym rely.copies.keeps.cset) address_inside
 
   -- the answer stays right
-  pub answer_stays : (to : ℕ) → HasCopy world.block address → IsCollected config (world.memory Cset) address → IsAnswer config world address to → IsAnswer config other_world address to
-  answer_stays to there inside answer = record {
-    named = λ b is. rely.targets to b.refs b.nums b.name (answer.named b (was_body there b is));
-    passed = λ out refs nums name is. answer.passed (λ in_set. out (now_inside to in_set)) refs nums name (rely.copies.keeps.no_new address refs nums name inside is);
-    stopped = λ in_set. rely.copies.keeps.out (answer.stopped (was_inside to in_set));
+  pub answer_stays : (answered : ℕ) → HasCopy world.block address → IsCollected config (world.memory Cset) address → IsAnswer config world address answered → IsAnswer config later_world address answered
+  answer_stays answered copy_there address_inside answer = record {
+    named = λ named_body piece_there. rely.targets answered named_body.refs named_body.nums named_body.name (answer.named named_body (was_body copy_there named_body piece_there));
+    passed = λ not_in_set refs nums name piece_there. answer.passed (λ in_set. not_in_set (now_inside answered in_set)) refs nums name (rely.copies.keeps.no_new address refs nums name address_inside piece_there);
+    stopped = λ in_set. rely.copies.keeps.out (answer.stopped (was_inside answered in_set));
   }
     where
-      was_body : HasCopy world.block address → (b : Body) → body_at (other_world.block address) ≡ Some b → body_at (world.block address) ≡ Some b
-      was_body (HasCopy.copy d was) b is = was ∙ sym (rely.copies.keeps.bodies address d was) ∙ is
-      was_body (HasCopy.spent_copy words to was) b is = absurd (none-some b (sym (ap body_at (rely.copies.keeps.spents address words to was)) ∙ is))
+      was_body : HasCopy world.block address → (body : Body) → body_at (later_world.block address) ≡ Some body → body_at (world.block address) ≡ Some body
+      was_body (HasCopy.copy copied_body was_there) body body_there = was_there ∙ sym (rely.copies.keeps.bodies address copied_body was_there) ∙ body_there
+      was_body (HasCopy.spent_copy words target was_there) body body_there = absurd (none-some body (sym (ap body_at (rely.copies.keeps.spents address words target was_there)) ∙ body_there))
 
-  module _ (seated : seat < seat_count config.mutators config.helpers) (inside : IsCollected config (world.memory Cset) address) (b : Body) (is : body_at (world.block address) ≡ Some b) where
+  module _ (seated : seat < seat_count config.mutators config.helpers) (address_inside : IsCollected config (world.memory Cset) address) (body : Body) (body_there : body_at (world.block address) ≡ Some body) where
     -- words that are copied stay so, for its room is its own and while it copies the object's words stay
-    copied_stays : (copy end index : ℕ) → world.ghost.copying seat ≡ true → index ≤ body_words b → IsCopied config world seat address copy end b index → IsCopied config other_world seat address copy end b index
-    copied_stays copy end index counted most copied = record {
-      taken = take_stays config world other_world seat rely (body_words b) (Ended (At copy) end) copied.taken;
-      same = λ k some below.
-          rely.room_words copy k _ copied.taken.here refl (omega (arith, below, most))
-          ∙ copied.same k some below
-          ∙ sym (rely.copies.words address k b seated counted inside is some (omega (arith, below, most)));
+    copied_stays : (copy end index : ℕ) → world.ghost.copying seat ≡ true → index ≤ body_words body → IsCopied config world seat address copy end body index → IsCopied config later_world seat address copy end body index
+    copied_stays copy end index counted index_most object_copied = record {
+      taken = take_stays config world later_world seat rely (body_words body) (Ended (At copy) end) object_copied.taken;
+      same = λ field index_positive index_below.
+          rely.room_words copy field _ object_copied.taken.here refl (omega (arith, index_below, index_most))
+          ∙ object_copied.same field index_positive index_below
+          ∙ sym (rely.copies.words address field body seated counted address_inside body_there index_positive (omega (arith, index_below, index_most)));
     }
 
-    copy_facts_stay : (copy end : ℕ) (spot : CopySpot) → world.ghost.copying seat ≡ true → CopyFacts config world seat address copy end b spot → CopyFacts config other_world seat address copy end b spot
+    copy_facts_stay : (copy end : ℕ) (spot : CopySpot) → world.ghost.copying seat ≡ true → CopyFacts config world seat address copy end body spot → CopyFacts config later_world seat address copy end body spot
     copy_facts_stay copy end (LoadWord words index) counted facts =
-        let long = facts.0 in let below = facts.2 in (facts.0, facts.1, facts.2, copied_stays copy end index counted (omega (arith, long, below)) facts.3)
+        let copy_long = facts.0 in let index_below = facts.2 in (facts.0, facts.1, facts.2, copied_stays copy end index counted (omega (arith, copy_long, index_below)) facts.3)
     copy_facts_stay copy end (StoreWord words index found) counted facts =
-        let long = facts.0 in
-        let below = facts.2 in
-        let some = facts.1 in (
+        let copy_long = facts.0 in
+        let index_below = facts.2 in
+        let index_positive = facts.1 in (
           facts.0,
           facts.1,
           facts.2,
-          copied_stays copy end index counted (omega (arith, long, below)) facts.3,
-          facts.4 ∙ sym (rely.copies.words address index b seated counted inside is some (omega (arith, long, below))),
+          copied_stays copy end index counted (omega (arith, copy_long, index_below)) facts.3,
+          facts.4 ∙ sym (rely.copies.words address index body seated counted address_inside body_there index_positive (omega (arith, copy_long, index_below))),
         )
-    copy_facts_stay copy end StoreHeader counted facts = copied_stays copy end (body_words b) counted (omega arith) facts
+    copy_facts_stay copy end StoreHeader counted facts = copied_stays copy end (body_words body) counted (omega arith) facts
     copy_facts_stay copy end Publish counted facts = (
-      copied_stays copy end (body_words b) counted (omega arith) facts.0,
-      (let there : copy + 0 ≡ copy = omega arith in subst (λ address. other_world.memory (Heap address) ≡ world.memory (Heap address)) there (rely.room_words copy 0 _ facts.0.taken.here refl (omega arith))) ∙ facts.1,
+      copied_stays copy end (body_words body) counted (omega arith) facts.0,
+      (let first_word : copy + 0 ≡ copy = omega arith in subst (λ address. later_world.memory (Heap address) ≡ world.memory (Heap address)) first_word (rely.room_words copy 0 _ facts.0.taken.here refl (omega arith))) ∙ facts.1,
     )
-    copy_facts_stay copy end (GiveBack answer) counted facts = (take_stays config world other_world seat rely (body_words b) (Ended (At copy) end) facts.0, rely.copies.keeps.moveds address b.refs b.nums answer b.name facts.1)
+    copy_facts_stay copy end (GiveBack answer) counted facts = (take_stays config world later_world seat rely (body_words body) (Ended (At copy) end) facts.0, rely.copies.keeps.moveds address body.refs body.nums answer body.name facts.1)
 
-    stop_stays : (spot : RoomSpot) → StopFacts (world.memory Evac) spot → StopFacts (other_world.memory Evac) spot
+    stop_stays : (spot : RoomSpot) → StopFacts (world.memory Evac) spot → StopFacts (later_world.memory Evac) spot
     stop_stays Wait facts = rely.copies.keeps.out facts
     stop_stays _ facts = tt
 
-    body_facts_stay : (spot : ResolveSpot) → world.ghost.copying seat ≡ is_copier spot → BodyFacts config world seat address b spot → BodyFacts config other_world seat address b spot
+    body_facts_stay : (spot : ResolveSpot) → world.ghost.copying seat ≡ is_copier spot → BodyFacts config world seat address body spot → BodyFacts config later_world seat address body spot
     body_facts_stay LoadHeader copying facts = tt
     body_facts_stay (Entering spot) copying facts = tt
     body_facts_stay LoadShape copying facts = tt
-    body_facts_stay (Taking words spot) copying facts = (facts.0, can_take_stays config world other_world seat words spot rely facts.1)
+    body_facts_stay (Taking words spot) copying facts = (facts.0, can_take_stays config world later_world seat words spot rely facts.1)
     body_facts_stay (Copying copy end spot) copying facts = copy_facts_stay copy end spot copying facts
-    body_facts_stay (Leaving answer) copying facts = rely.copies.keeps.moveds address b.refs b.nums answer b.name facts
+    body_facts_stay (Leaving answer) copying facts = rely.copies.keeps.moveds address body.refs body.nums answer body.name facts
     body_facts_stay (Stopping spot) copying facts = stop_stays spot facts
     body_facts_stay LoadAgain copying facts = rely.copies.keeps.quiet facts
     body_facts_stay (Resolved answer) copying facts = tt
 
-  facts_stay : (spot : ResolveSpot) → CanResolve config world seat address spot → ResolveFacts config world seat address spot → ResolveFacts config other_world seat address spot
-  facts_stay LoadHeader can facts = tt
-  facts_stay (Resolved answer) can facts = answer_stays answer can.there can.inside facts
-  facts_stay (Entering spot) can facts = (facts.0, rely.copies.keeps.bodies address facts.0 facts.1, tt)
-  facts_stay LoadShape can facts = (facts.0, rely.copies.keeps.bodies address facts.0 facts.1, tt)
-  facts_stay (Taking words spot) can facts = (facts.0, rely.copies.keeps.bodies address facts.0 facts.1, body_facts_stay can.seated can.inside facts.0 facts.1 (Taking words spot) can.copying facts.2)
-  facts_stay (Copying copy end spot) can facts = (facts.0, rely.copies.keeps.bodies address facts.0 facts.1, body_facts_stay can.seated can.inside facts.0 facts.1 (Copying copy end spot) can.copying facts.2)
-  facts_stay (Leaving answer) can facts = (facts.0, rely.copies.keeps.bodies address facts.0 facts.1, body_facts_stay can.seated can.inside facts.0 facts.1 (Leaving answer) can.copying facts.2)
-  facts_stay (Stopping spot) can facts = (facts.0, rely.copies.keeps.bodies address facts.0 facts.1, body_facts_stay can.seated can.inside facts.0 facts.1 (Stopping spot) can.copying facts.2)
-  facts_stay LoadAgain can facts = (facts.0, rely.copies.keeps.bodies address facts.0 facts.1, body_facts_stay can.seated can.inside facts.0 facts.1 LoadAgain can.copying facts.2)
+  facts_stay : (spot : ResolveSpot) → CanResolve config world seat address spot → ResolveFacts config world seat address spot → ResolveFacts config later_world seat address spot
+  facts_stay LoadHeader resolvable facts = tt
+  facts_stay (Resolved answer) resolvable facts = answer_stays answer resolvable.there resolvable.inside facts
+  facts_stay (Entering spot) resolvable facts = (facts.0, rely.copies.keeps.bodies address facts.0 facts.1, tt)
+  facts_stay LoadShape resolvable facts = (facts.0, rely.copies.keeps.bodies address facts.0 facts.1, tt)
+  facts_stay (Taking words spot) resolvable facts = (facts.0, rely.copies.keeps.bodies address facts.0 facts.1, body_facts_stay resolvable.seated resolvable.inside facts.0 facts.1 (Taking words spot) resolvable.copying facts.2)
+  facts_stay (Copying copy end spot) resolvable facts = (facts.0, rely.copies.keeps.bodies address facts.0 facts.1, body_facts_stay resolvable.seated resolvable.inside facts.0 facts.1 (Copying copy end spot) resolvable.copying facts.2)
+  facts_stay (Leaving answer) resolvable facts = (facts.0, rely.copies.keeps.bodies address facts.0 facts.1, body_facts_stay resolvable.seated resolvable.inside facts.0 facts.1 (Leaving answer) resolvable.copying facts.2)
+  facts_stay (Stopping spot) resolvable facts = (facts.0, rely.copies.keeps.bodies address facts.0 facts.1, body_facts_stay resolvable.seated resolvable.inside facts.0 facts.1 (Stopping spot) resolvable.copying facts.2)
+  facts_stay LoadAgain resolvable facts = (facts.0, rely.copies.keeps.bodies address facts.0 facts.1, body_facts_stay resolvable.seated resolvable.inside facts.0 facts.1 LoadAgain resolvable.copying facts.2)
 
   -- all that it counts on stays
-  pub can_resolve_stays : (spot : ResolveSpot) → CanResolve config world seat address spot → CanResolve config other_world seat address spot
-  can_resolve_stays spot can = record {
-    seated = can.seated;
-    phase = rely.marks.keeps.phase ∙ can.phase;
-    inside = now_inside address can.inside;
-    there = copy_stays can.there;
-    copying = rely.copies.copying ∙ can.copying;
-    records_none = rely.marks.recording ∙ can.records_none;
-    scans_none = rely.marks.scanning ∙ can.scans_none;
-    rooms = λ b x is own. can.rooms b x (rely.no_rooms b x is own) own;
-    ready = can.ready;
-    facts = facts_stay spot can can.facts;
+  pub can_resolve_stays : (spot : ResolveSpot) → CanResolve config world seat address spot → CanResolve config later_world seat address spot
+  can_resolve_stays spot resolvable = record {
+    seated = resolvable.seated;
+    phase = rely.marks.keeps.phase ∙ resolvable.phase;
+    inside = now_inside address resolvable.inside;
+    there = copy_stays resolvable.there;
+    copying = rely.copies.copying ∙ resolvable.copying;
+    records_none = rely.marks.recording ∙ resolvable.records_none;
+    scans_none = rely.marks.scanning ∙ resolvable.scans_none;
+    rooms = λ place piece piece_there own_room. resolvable.rooms place piece (rely.no_rooms place piece piece_there own_room) own_room;
+    ready = resolvable.ready;
+    facts = facts_stay spot resolvable resolvable.facts;
   }

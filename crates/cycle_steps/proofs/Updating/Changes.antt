@@ -1,4 +1,5 @@
 -- What a step owes that changes how many units are claimed, and where a machine stands in its unit.
+use Rattle.heap_words.specs.Phases.{marking_phase, updating_phase}
 use Rattle.std.proofs.Common.{◌≡◌, ◌≢◌, ℕ, ◌≤◌, Option, sym, ◌∙◌, subst, arith}
 use Rattle.heap_words.specs.declared.config.Config.{Config}
 use Rattle.heap_words.specs.Words.{Phase, Cset, Claim, Top, Tams, Limit, Count, Buffer, Grey, Black, Heap, write}
@@ -19,9 +20,9 @@ module _ (config : Config) (world next_world : World) (seat claim : ℕ) (pass :
   UpdatingThen = IsUpdating config (next_world.memory Cset) claim (λ region. next_world.memory (Top region)) (λ region. next_world.memory (Limit region)) (λ address. next_world.memory (Heap address)) next_world.block (updated next_world.ghost.scanning seat pass)
 
   -- machines share what they should
-  shared_then : Shared config next_world → next_world.memory Phase ≡ 3 → UpdatingThen → Shared config (world_then next_world seat claim pass)
-  shared_then shared on updating =
-      let other : next_world.memory Phase ≢ 1 = λ one. (omega (arith, on, one)) in
+  shared_then : Shared config next_world → next_world.memory Phase ≡ updating_phase → UpdatingThen → Shared config (world_then next_world seat claim pass)
+  shared_then shared is_updating updating =
+      let not_marking : next_world.memory Phase ≢ marking_phase = λ is_marking. (omega (arith, is_updating, is_marking)) in
       record {
         parsable = shared.parsable;
         contents = shared.contents;
@@ -29,46 +30,46 @@ module _ (config : Config) (world next_world : World) (seat claim : ℕ) (pass :
         phased = shared.phased;
         unwritten = shared.unwritten;
         marked = subst (λ snapshot. KeepsSnapshot config (next_world.memory Phase) (λ number. next_world.memory (Grey number)) (λ number. next_world.memory (Black number)) (λ mutator. next_world.memory (Count mutator)) (λ mutator entry. next_world.memory (Buffer mutator entry)) (λ region. next_world.memory (Top region)) (λ region. next_world.memory (Tams region))
-            (λ address. next_world.memory (Heap address)) next_world.block snapshot next_world.ghost.recording (updated next_world.ghost.scanning seat pass)) (sym (shared.marked.empty other))
+            (λ address. next_world.memory (Heap address)) next_world.block snapshot next_world.ghost.recording (updated next_world.ghost.scanning seat pass)) (sym (shared.marked.empty not_marking))
             (none_marked_in config (next_world.memory Phase) (λ number. next_world.memory (Grey number)) (λ number. next_world.memory (Black number)) (λ mutator. next_world.memory (Count mutator)) (λ mutator entry. next_world.memory (Buffer mutator entry)) (λ region. next_world.memory (Top region)) (λ region. next_world.memory (Tams region))
-            (λ address. next_world.memory (Heap address)) next_world.block next_world.ghost.recording (updated next_world.ghost.scanning seat pass) other);
+            (λ address. next_world.memory (Heap address)) next_world.block next_world.ghost.recording (updated next_world.ghost.scanning seat pass) not_marking);
         evacuated = record {
           moved = shared.evacuated.moved;
           counted = shared.evacuated.counted;
           aside = shared.evacuated.aside;
           kept = shared.evacuated.kept;
-          units = λ two. absurd (omega (arith, on, two));
+          units = λ is_moving. absurd (omega (arith, is_updating, is_moving));
         };
-        updated = λ still. updating;
+        updated = λ still_on. updating;
         pinned = shared.pinned;
       }
 
   -- the facts of the seat's machine stand
   pub keeps_then : Keeps config seat world next_world → Keeps config seat world (world_then next_world seat claim pass)
-  keeps_then keeps = record {
-    names = keeps.names;
-    targets = keeps.targets;
-    promises = keeps.promises;
-    no_promises = keeps.no_promises;
-    promise_words = keeps.promise_words;
-    root_words = keeps.root_words;
-    roots = keeps.roots;
-    pin_words = keeps.pin_words;
-    pins = keeps.pins;
-    count = keeps.count;
-    wait = keeps.wait;
-    answer = keeps.answer;
-    marks = record { phase = keeps.marks.phase; snapshot = keeps.marks.snapshot; markable = keeps.marks.markable; shapes = keeps.marks.shapes; noted = keeps.marks.noted };
+  keeps_then world_kept = record {
+    names = world_kept.names;
+    targets = world_kept.targets;
+    promises = world_kept.promises;
+    no_promises = world_kept.no_promises;
+    promise_words = world_kept.promise_words;
+    root_words = world_kept.root_words;
+    roots = world_kept.roots;
+    pin_words = world_kept.pin_words;
+    pins = world_kept.pins;
+    count = world_kept.count;
+    wait = world_kept.wait;
+    answer = world_kept.answer;
+    marks = record { phase = world_kept.marks.phase; snapshot = world_kept.marks.snapshot; markable = world_kept.marks.markable; shapes = world_kept.marks.shapes; noted = world_kept.marks.noted };
     copies = record {
-      cset = keeps.copies.cset;
-      bodies = keeps.copies.bodies;
-      moveds = keeps.copies.moveds;
-      spents = keeps.copies.spents;
-      pieces = keeps.copies.pieces;
-      no_new = keeps.copies.no_new;
-      tops = keeps.copies.tops;
-      out = keeps.copies.out;
-      quiet = keeps.copies.quiet;
+      cset = world_kept.copies.cset;
+      bodies = world_kept.copies.bodies;
+      moveds = world_kept.copies.moveds;
+      spents = world_kept.copies.spents;
+      pieces = world_kept.copies.pieces;
+      no_new = world_kept.copies.no_new;
+      tops = world_kept.copies.tops;
+      out = world_kept.copies.out;
+      quiet = world_kept.copies.quiet;
     };
   }
 
@@ -77,8 +78,8 @@ module _ (config : Config) (world next_world : World) (seat claim : ℕ) (pass :
   fields_then claims fields = record { tams = fields.tams; limits = fields.limits; deads = fields.deads; fillers = fields.fillers; claims = claims; fields = fields.fields }
 
   -- others can rely on what they knew
-  others_then : (config.regions ≤ world.memory Claim → config.regions ≤ claim) → (k : ℕ) → k ≢ seat → Rely config k world next_world → Rely config k world (world_then next_world seat claim pass)
-  others_then claims k differs rely = record {
+  others_then : (config.regions ≤ world.memory Claim → config.regions ≤ claim) → (machine : ℕ) → machine ≢ seat → Rely config machine world next_world → Rely config machine world (world_then next_world seat claim pass)
+  others_then claims machine machine_differs rely = record {
     names = rely.names;
     targets = rely.targets;
     rooms = rely.rooms;
@@ -103,7 +104,7 @@ module _ (config : Config) (world next_world : World) (seat claim : ℕ) (pass :
     marks = record {
       keeps = record { phase = rely.marks.keeps.phase; snapshot = rely.marks.keeps.snapshot; markable = rely.marks.keeps.markable; shapes = rely.marks.keeps.shapes; noted = rely.marks.keeps.noted };
       recording = rely.marks.recording;
-      scanning = updated_else next_world.ghost.scanning seat pass k (λ e. differs (sym e)) ∙ rely.marks.scanning;
+      scanning = updated_else next_world.ghost.scanning seat pass machine (λ same_seat. machine_differs (sym same_seat)) ∙ rely.marks.scanning;
       entries = rely.marks.entries;
       buffer = rely.marks.buffer;
       greys = rely.marks.greys;
@@ -128,14 +129,14 @@ module _ (config : Config) (world next_world : World) (seat claim : ℕ) (pass :
   }
 
   -- what the step owes, that led to the world but for these two, is owed then
-  pub step_then : (touch : Touch) (facts : World → Type 0) → write next_world.memory Claim claim ≡ touched world.memory touch → next_world.graph ≡ world.graph → Shared config next_world → next_world.memory Phase ≡ 3 → (config.regions ≤ world.memory Claim → config.regions ≤ claim)
-      → Keeps config seat world next_world → ((k : ℕ) → k ≢ seat → Rely config k world next_world) → UpdatingThen → facts (world_then next_world seat claim pass) → PartStep config world seat touch facts
-  step_then touch facts memory graph shared on claims keeps others updating own = record {
+  pub step_then : (touch : Touch) (facts : World → Type 0) → write next_world.memory Claim claim ≡ touched world.memory touch → next_world.graph ≡ world.graph → Shared config next_world → next_world.memory Phase ≡ updating_phase → (config.regions ≤ world.memory Claim → config.regions ≤ claim)
+      → Keeps config seat world next_world → ((machine : ℕ) → machine ≢ seat → Rely config machine world next_world) → UpdatingThen → facts (world_then next_world seat claim pass) → PartStep config world seat touch facts
+  step_then touch facts same_memory same_graph shared is_updating claims world_kept others_rely updating own_facts = record {
     world = world_then next_world seat claim pass;
-    memory = memory;
-    graph = graph;
-    shared = shared_then shared on updating;
-    own = own;
-    keeps = keeps_then keeps;
-    others = λ k differs. others_then claims k differs (others k differs);
+    memory = same_memory;
+    graph = same_graph;
+    shared = shared_then shared is_updating updating;
+    own = own_facts;
+    keeps = keeps_then world_kept;
+    others = λ machine differs. others_then claims machine differs (others_rely machine differs);
   }

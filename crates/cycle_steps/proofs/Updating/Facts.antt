@@ -1,4 +1,5 @@
 -- What a machine counts on while it works on a unit of updating stays while others step, and while it goes on itself.
+use Rattle.heap_words.specs.Phases.{updating_phase}
 use Rattle.std.proofs.Common.{◌≡◌, ℕ, ◌+◌, Some, ⊎_elim, inl, inr, sym, ap, ◌∙◌, subst, arith}
 use Rattle.heap_words.specs.declared.config.Config.{Config}
 use Rattle.heap_words.specs.Encoding.{refs_in}
@@ -16,10 +17,10 @@ use Rattle.unit_part.specs.declared.update_spot.UpdateSpot.TheVariants.{LoadClai
 use Rattle.cycle_steps.specs.Updating.Facts.{IsUnit, HasComeTo, IsPiece, HasPiece, HasShape, HasField, HasFound, UpdateFacts, CanUpdate}
 
 -- Outside pauses, whoever steps: what holds by where a machine stands does so then.
-module _ (config : Config) (world other_world : World) (seat : ℕ) (shared : Shared config world) (on : world.memory Phase ≡ 3) (keeps : Keeps config seat world other_world) (fields : KeepsFields config world other_world) where
+module _ (config : Config) (world other_world : World) (seat : ℕ) (shared : Shared config world) (is_updating : world.memory Phase ≡ updating_phase) (world_kept : Keeps config seat world other_world) (fields : KeepsFields config world other_world) where
   -- a region that can be a unit
   unit_stays : (region : ℕ) → IsUnit config world region → IsUnit config other_world region
-  unit_stays region unit = (unit.0, λ is. unit.1 (subst (λ set. IsIn set region) keeps.copies.cset is))
+  unit_stays region unit = (unit.0, λ region_in_set. unit.1 (subst (λ any_set. IsIn any_set region) world_kept.copies.cset region_in_set))
 
   -- a walk of it
   walked_stays : (walk : Walk) (address : ℕ) → HasComeTo config world walk address → HasComeTo config other_world walk address
@@ -33,7 +34,7 @@ module _ (config : Config) (world other_world : World) (seat : ℕ) (shared : Sh
 
   -- an object, of the graph or promised
   alive_stays : (address : ℕ) → IsMarkable world.block address → IsMarkable other_world.block address
-  alive_stays = keeps.marks.markable (λ two. omega (arith, on, two))
+  alive_stays = world_kept.marks.markable (λ phase_two. omega (arith, is_updating, phase_two))
 
   -- a piece
   piece_stays : (address : ℕ) → IsPiece world address → IsPiece other_world address
@@ -47,42 +48,42 @@ module _ (config : Config) (world other_world : World) (seat : ℕ) (shared : Sh
 
   -- the shape word of a piece
   shape_stays : (address shape : ℕ) → HasShape world address shape → HasShape other_world address shape
-  shape_stays address shape (inl object) = inl (alive_stays address object.0, object.1 ∙ sym (keeps.marks.shapes address object.0))
+  shape_stays address shape (inl object) = inl (alive_stays address object.0, object.1 ∙ sym (world_kept.marks.shapes address object.0))
   shape_stays address shape (inr fills) = inr (fills.0, fields.deads address fills.0 fills.1, fills.2)
 
   -- a reference of an object
   pub field_stays : (visit : Visit) (field : ℕ) → HasField config world visit field → HasField config other_world visit field
-  field_stays visit field has = record {
-    walked = walked_stays visit.walk visit.address has.walked;
-    alive = alive_stays visit.address has.alive;
-    shape_is = has.shape_is ∙ sym (keeps.marks.shapes visit.address has.alive);
-    below = has.below;
+  field_stays visit field holds_field = record {
+    walked = walked_stays visit.walk visit.address holds_field.walked;
+    alive = alive_stays visit.address holds_field.alive;
+    shape_is = holds_field.shape_is ∙ sym (world_kept.marks.shapes visit.address holds_field.alive);
+    below = holds_field.below;
   }
 
   -- an object of the graph lies outside of the collection set, so that it stays where it is
   thing_stays : (address refs nums : ℕ) (name : Name) → world.block address ≡ Some (thing name refs nums) → other_world.block address ≡ Some (thing name refs nums)
-  thing_stays address refs nums name is = (keeps.targets address refs nums name (record { piece = is; safe = λ inside. absurd ((shared.updated on).outside address refs nums name is inside) })).piece
+  thing_stays address refs nums name object_there = (world_kept.targets address refs nums name (record { piece = object_there; safe = λ inside. absurd ((shared.updated is_updating).outside address refs nums name object_there inside) })).piece
 
   -- what the reference was found to be
-  found_stays : (visit : Visit) (field found to : ℕ) → HasField config world visit field → HasFound world visit field found to → HasFound other_world visit field found to
-  found_stays visit field found to has finds =
+  found_stays : (visit : Visit) (field found copy : ℕ) → HasField config world visit field → HasFound world visit field found copy → HasFound other_world visit field found copy
+  found_stays visit field found copy holds_field finds =
       let holder = finds.holder in
-      let there = (shared.contents.objects.each visit.address holder.1 holder.2 holder.0 holder.3).2 in
-      let all : refs_in visit.shape ≡ holder.1 = ap refs_in (has.shape_is ∙ there.shape) ∙ refs_in-shape_word holder.1 holder.2 there.few_refs there.few_nums in
-      let below = has.below in
+      let object_facts = (shared.contents.objects.each visit.address holder.1 holder.2 holder.0 holder.3).2 in
+      let same_refs : refs_in visit.shape ≡ holder.1 = ap refs_in (holds_field.shape_is ∙ object_facts.shape) ∙ refs_in-shape_word holder.1 holder.2 object_facts.few_refs object_facts.few_nums in
+      let field_below = holds_field.below in
       record {
         holder = (holder.0, holder.1, holder.2, thing_stays visit.address holder.1 holder.2 holder.0 holder.3);
         refs = finds.refs;
         nums = finds.nums;
         name = finds.name;
-        old = keeps.copies.moveds found finds.refs finds.nums to finds.name finds.old;
+        old = world_kept.copies.moveds found finds.refs finds.nums copy finds.name finds.old;
         still = ⊎_elim
-            (λ (same : other_world.memory (Heap (visit.address + 3 + field)) ≡ world.memory (Heap (visit.address + 3 + field))). ⊎_elim
-            (λ (is : world.memory (Heap (visit.address + 3 + field)) ≡ found). inl (same ∙ is))
-            (λ (current : IsCurrent world.block (world.memory (Heap (visit.address + 3 + field)))). inr (subst (IsCurrent other_world.block) (sym same) (current_stays world.block other_world.block thing_stays _ current)))
+            (λ (same_word : other_world.memory (Heap (visit.address + 3 + field)) ≡ world.memory (Heap (visit.address + 3 + field))). ⊎_elim
+            (λ (word_is : world.memory (Heap (visit.address + 3 + field)) ≡ found). inl (same_word ∙ word_is))
+            (λ (current : IsCurrent world.block (world.memory (Heap (visit.address + 3 + field)))). inr (subst (IsCurrent other_world.block) (sym same_word) (current_stays world.block other_world.block thing_stays _ current)))
             finds.still)
             (λ (current : IsCurrent other_world.block (other_world.memory (Heap (visit.address + 3 + field)))). inr current)
-            (fields.fields on visit.address holder.1 holder.2 field holder.0 holder.3 (omega (arith, below, all)));
+            (fields.fields is_updating visit.address holder.1 holder.2 field holder.0 holder.3 (omega (arith, field_below, same_refs)));
       }
 
   -- so do all of them
@@ -93,22 +94,22 @@ module _ (config : Config) (world other_world : World) (seat : ℕ) (shared : Sh
   facts_stay (LoadTams region limit) facts = (unit_stays region facts.0, facts.1 ∙ sym (fields.limits region), facts.2)
   facts_stay (LoadFirst walk address) facts = (walked_stays walk address facts.0, any_stays address facts.1)
   facts_stay (LoadShape walk address) facts = (walked_stays walk address facts.0, piece_stays address facts.1)
-  facts_stay (LoadBlack at) facts = (walked_stays at.walk at.address facts.0, shape_stays at.address at.shape facts.1, facts.2, facts.3)
-  facts_stay (LoadField at field) facts = field_stays at field facts
-  facts_stay (LoadHeader at field found) facts = (field_stays at field facts.0, (facts.1.0, found_stays at field found facts.1.0 facts.0 facts.1.1))
-  facts_stay (ExchangeField at field found copy) facts = (field_stays at field facts.0, found_stays at field found copy facts.0 facts.1)
+  facts_stay (LoadBlack visit) facts = (walked_stays visit.walk visit.address facts.0, shape_stays visit.address visit.shape facts.1, facts.2, facts.3)
+  facts_stay (LoadField visit field) facts = field_stays visit field facts
+  facts_stay (LoadHeader visit field found) facts = (field_stays visit field facts.0, (facts.1.0, found_stays visit field found facts.1.0 facts.0 facts.1.1))
+  facts_stay (ExchangeField visit field found copy) facts = (field_stays visit field facts.0, found_stays visit field found copy facts.0 facts.1)
   facts_stay (Ended unit) facts = tt
 
 -- While others step, what it counts on stays.
 pub can_update_stays : (config : Config) (world next_world : World) (seat cset : ℕ) (spot : UpdateSpot) → Shared config world → Keeps config seat world next_world → Rely config seat world next_world → CanUpdate config world seat cset spot → CanUpdate config next_world seat cset spot
-can_update_stays config world next_world seat cset spot shared keeps rely can = record {
-  seated = can.seated;
-  phase = rely.marks.keeps.phase ∙ can.phase;
-  set_is = can.set_is ∙ sym rely.copies.keeps.cset;
-  copying = rely.copies.copying ∙ can.copying;
-  working = rely.copies.working ∙ can.working;
-  records_none = rely.marks.recording ∙ can.records_none;
-  scanning = rely.marks.scanning ∙ can.scanning;
-  rooms = λ a x is room. can.rooms a x (rely.no_rooms a x is room) room;
-  facts = facts_stay config world next_world seat shared can.phase keeps rely.fields spot can.facts;
+can_update_stays config world next_world seat cset spot shared world_kept rely can_update = record {
+  seated = can_update.seated;
+  phase = rely.marks.keeps.phase ∙ can_update.phase;
+  set_is = can_update.set_is ∙ sym rely.copies.keeps.cset;
+  copying = rely.copies.copying ∙ can_update.copying;
+  working = rely.copies.working ∙ can_update.working;
+  records_none = rely.marks.recording ∙ can_update.records_none;
+  scanning = rely.marks.scanning ∙ can_update.scanning;
+  rooms = λ address piece piece_there room. can_update.rooms address piece (rely.no_rooms address piece piece_there room) room;
+  facts = facts_stay config world next_world seat shared can_update.phase world_kept rely.fields spot can_update.facts;
 }

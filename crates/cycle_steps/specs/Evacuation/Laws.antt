@@ -31,8 +31,8 @@ evacuating_part config seat cset = record {
   touch = touch_at config seat;
   next = next_at config cset;
   IsFit = IsFit config seat cset;
-  Can = λ world at. CanEvacuate config world seat cset at;
-  Then = λ world next_world at. CanEvacuate config next_world seat cset at;
+  Can = λ world spot. CanEvacuate config world seat cset spot;
+  Then = λ world next_world spot. CanEvacuate config next_world seat cset spot;
 }
 
 -- once it ends a unit, the region on which it worked is swept

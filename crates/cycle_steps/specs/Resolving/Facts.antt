@@ -68,9 +68,9 @@ ResolveFacts config world seat address spot = (body : Body) × (body_at (world.b
 
 -- What room the machine has: free words of its buffer; besides, what a taking says, and the room for its copy.
 abbrev pub IsResolvingRoom : ℕ → ResolveSpot → ℕ → Block → Type 0
-IsResolvingRoom seat (Taking words spot) a piece = takes.IsRoomAt seat words spot a piece
-IsResolvingRoom seat (Copying copy end spot) a piece = IsSpare seat piece ⊎ (a ≡ copy)
-IsResolvingRoom seat _ a piece = IsSpare seat piece
+IsResolvingRoom seat (Taking words spot) address piece = takes.IsRoomAt seat words spot address piece
+IsResolvingRoom seat (Copying copy end spot) address piece = IsSpare seat piece ⊎ (address ≡ copy)
+IsResolvingRoom seat _ address piece = IsSpare seat piece
 
 -- Objects are evacuated, and the address lies in the collection set and is that of a copy, current or old. The counter counts the
 -- machine where it copies; all its room is what the spot says, and it neither records nor scans.

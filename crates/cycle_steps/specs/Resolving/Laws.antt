@@ -25,8 +25,8 @@ resolving_part config seat address = record {
   touch = touch_at config seat address;
   next = next_at config address evacuation_phase;
   IsFit = IsFit config seat address evacuation_phase;
-  Can = λ world at. CanResolve config world seat address at;
-  Then = λ world next_world at. CanResolve config next_world seat address at × (next_world.ghost.working seat ≡ world.ghost.working seat);
+  Can = λ world spot. CanResolve config world seat address spot;
+  Then = λ world next_world spot. CanResolve config next_world seat address spot × (next_world.ghost.working seat ≡ world.ghost.working seat);
 }
 
 -- A machine that resolves an address finds the object's current copy, or makes it. Its accesses to words of copies are loads, but for the

@@ -23,10 +23,10 @@ pass_of config (LoadLimit region) = Some (record { object = base_of config regio
 pass_of config (LoadTams region limit) = Some (record { object = base_of config region; field = 0 })
 pass_of config (LoadFirst walk address) = Some (record { object = address; field = 0 })
 pass_of config (LoadShape walk address) = Some (record { object = address; field = 0 })
-pass_of config (LoadBlack at) = Some (record { object = at.address; field = 0 })
-pass_of config (LoadField at field) = Some (record { object = at.address; field = field })
-pass_of config (LoadHeader at field found) = Some (record { object = at.address; field = field })
-pass_of config (ExchangeField at field found copy) = Some (record { object = at.address; field = field })
+pass_of config (LoadBlack visit) = Some (record { object = visit.address; field = 0 })
+pass_of config (LoadField visit field) = Some (record { object = visit.address; field = field })
+pass_of config (LoadHeader visit field found) = Some (record { object = visit.address; field = field })
+pass_of config (ExchangeField visit field found copy) = Some (record { object = visit.address; field = field })
 pass_of config _ = None
 
 -- a region that can be a unit: it is one of the heap, and not of the collection set
@@ -82,10 +82,10 @@ UpdateFacts config world (LoadLimit region) = IsUnit config world region
 UpdateFacts config world (LoadTams region limit) = IsUnit config world region × (limit ≡ world.memory (Limit region)) × (limit ≢ 0)
 UpdateFacts config world (LoadFirst walk address) = HasComeTo config world walk address × HasPiece world address
 UpdateFacts config world (LoadShape walk address) = HasComeTo config world walk address × IsPiece world address
-UpdateFacts config world (LoadBlack at) = HasComeTo config world at.walk at.address × HasShape world at.address at.shape × (refs_in at.shape ≢ 0) × (at.address < tams_of config at.walk)
-UpdateFacts config world (LoadField at field) = HasField config world at field
-UpdateFacts config world (LoadHeader at field found) = HasField config world at field × ((to : ℕ) × HasFound world at field found to)
-UpdateFacts config world (ExchangeField at field found copy) = HasField config world at field × HasFound world at field found copy
+UpdateFacts config world (LoadBlack visit) = HasComeTo config world visit.walk visit.address × HasShape world visit.address visit.shape × (refs_in visit.shape ≢ 0) × (visit.address < tams_of config visit.walk)
+UpdateFacts config world (LoadField visit field) = HasField config world visit field
+UpdateFacts config world (LoadHeader visit field found) = HasField config world visit field × ((to : ℕ) × HasFound world visit field found to)
+UpdateFacts config world (ExchangeField visit field found copy) = HasField config world visit field × HasFound world visit field found copy
 UpdateFacts config world _ = ⊤
 
 -- References are updated, the machine knows the collection set, and stands in its unit where its spot says. It copies and records nothing,

@@ -31,8 +31,8 @@ updating_part config seat cset = record {
   touch = touch_at config;
   next = next_at config cset;
   IsFit = IsFit config cset;
-  Can = λ world at. CanUpdate config world seat cset at;
-  Then = λ world next_world at. CanUpdate config next_world seat cset at;
+  Can = λ world spot. CanUpdate config world seat cset spot;
+  Then = λ world next_world spot. CanUpdate config next_world seat cset spot;
 }
 
 -- A machine that updates claims regions outside of the collection set, and sees to it that their fields become current. Of the words of
@@ -53,8 +53,8 @@ following_part config seat address = record {
   touch = resolves.touch_at config seat address;
   next = resolves.next_at config address updating_phase;
   IsFit = resolve.IsFit config seat address updating_phase;
-  Can = λ world at. CanFollow config world seat address at;
-  Then = λ world next_world at. CanFollow config next_world seat address at;
+  Can = λ world spot. CanFollow config world seat address spot;
+  Then = λ world next_world spot. CanFollow config next_world seat address spot;
 }
 
 -- A machine that resolves an address while references are updated finds the object's current copy by one load of the header, and makes no
@@ -70,7 +70,7 @@ pub record FollowingSteps : Type 0 where
 
 -- nobody stands in the unit of a region
 abbrev pub NobodyUpdates : Config → World → ℕ → Type 0
-NobodyUpdates config world region = (seat : ℕ) (at : Scan) → seat < seat_count config.mutators config.helpers → world.ghost.scanning seat ≡ Some at → region_with config at.object ≡ region → ⊥
+NobodyUpdates config world region = (seat : ℕ) (scan : Scan) → seat < seat_count config.mutators config.helpers → world.ghost.scanning seat ≡ Some scan → region_with config scan.object ≡ region → ⊥
 
 -- A unit is done that is claimed and in which nobody stands: then no field of a current copy there names the collection set, nor does
 -- one at or above its region's limit.
@@ -84,4 +84,4 @@ pub record UnitsAreUpdated : Type 0 where
 -- Where all regions are claimed and nobody stands in a unit, all fields of current copies are current.
 abbrev pub AllIsUpdated : Type 0
 AllIsUpdated = (config : Config) (world : World) → Shared config world → world.memory Phase ≡ updating_phase → ((seat : ℕ) → seat < seat_count config.mutators config.helpers → world.ghost.scanning seat ≡ None)
-    → config.regions ≤ world.memory Claim → (address refs nums k : ℕ) (name : Name) → world.block address ≡ Some (thing name refs nums) → k < refs → IsCurrent world.block (world.memory (Heap (address + 3 + k)))
+    → config.regions ≤ world.memory Claim → (address refs nums field : ℕ) (name : Name) → world.block address ≡ Some (thing name refs nums) → field < refs → IsCurrent world.block (world.memory (Heap (address + 3 + field)))

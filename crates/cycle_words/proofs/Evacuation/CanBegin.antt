@@ -38,107 +38,107 @@ use Rattle.cycle_words.proofs.Evacuation.Front.{member_is}
 use Rattle.cycle_words.proofs.Evacuation.RegionAddresses.{some_words, from_base}
 
 -- Words that hold a graph once marking has ended: what can be reached is kept, and what is marked is an object.
-module _ (config : Config) (memory : Word → ℕ) (left : Plot) (owner : ℕ → Option ℕ) (promises : Promises) (graph : Graph) (after : HoldsBy config memory left owner promises graph) (calm : memory Cset ≡ 0)
-    (through : IsMarkedThrough config memory left) (marked_object : (address : ℕ) → is_black config memory address ≡ true → IsObjectAt memory left address) where
+module _ (config : Config) (memory : Word → ℕ) (left_plot : Plot) (owner : ℕ → Option ℕ) (promises : Promises) (graph : Graph) (graph_held : HoldsBy config memory left_plot owner promises graph) (no_set : memory Cset ≡ 0)
+    (through : IsMarkedThrough config memory left_plot) (marked_object : (address : ℕ) → is_black config memory address ≡ true → IsObjectAt memory left_plot address) where
   abbrev top : ℕ → ℕ
   top region = memory (Top region)
 
   -- the words of an object by its shape
-  words_are : (address : ℕ) (is : IsObjectAt memory left address) → words_at memory address ≡ 3 + is.refs + is.nums
-  words_are address is = ap object_words is.shape ∙ words_read is.refs is.nums is.few_refs is.few_nums
+  words_are : (address : ℕ) (object : IsObjectAt memory left_plot address) → words_at memory address ≡ 3 + object.refs + object.nums
+  words_are address object = ap object_words object.shape ∙ words_read object.refs object.nums object.few_refs object.few_nums
 
   -- where something is counted an object is marked
   counted : (address : ℕ) → 0 < marked_words config memory address → is_black config memory address ≡ true
-  counted address some = ⊎_elim
-      (λ (yes : is_black config memory address ≡ true). yes)
-      (λ (no : is_black config memory address ≡ false). absurd (let none : marked_words config memory address ≡ 0 = cond-false (is_black config memory address) (words_at memory address) 0 no in omega (arith, none, some)))
+  counted address has_words = ⊎_elim
+      (λ (black_address : is_black config memory address ≡ true). black_address)
+      (λ (not_black : is_black config memory address ≡ false). absurd (let no_words : marked_words config memory address ≡ 0 = cond-false (is_black config memory address) (words_at memory address) 0 not_black in omega (arith, no_words, has_words)))
       (cases_Bool (is_black config memory address))
 
-  counted_words : (address : ℕ) (is : IsObjectAt memory left address) → marked_words config memory address ≤ 3 + is.refs + is.nums
-  counted_words address is =
-      let size = words_are address is in
-      cond_both (is_black config memory address) (words_at memory address) 0 (λ x. x ≤ 3 + is.refs + is.nums) (λ _. omega (arith, size)) (λ _. omega arith)
+  counted_words : (address : ℕ) (object : IsObjectAt memory left_plot address) → marked_words config memory address ≤ 3 + object.refs + object.nums
+  counted_words address object =
+      let size = words_are address object in
+      cond_both (is_black config memory address) (words_at memory address) 0 (λ any_words. any_words ≤ 3 + object.refs + object.nums) (λ _. omega (arith, size)) (λ _. omega arith)
 
   lie_apart : LieApart config.region_words (marked_words config memory)
   lie_apart = record {
     some = some_words config;
-    above = λ address some. (leb-true config.region_words address (and_parts (nat_le config.region_words address) _ (counted address some)).0);
-    within = λ address some.
-        let is = marked_object address (counted address some) in
-        let at = below_top config top left after.objects.plotted address (thing is.name is.refs is.nums) is.here (omega arith) in
-        let most = after.objects.plotted.tops (region_with config address) at.0 in
-        let above = leb-true config.region_words address (and_parts (nat_le config.region_words address) _ (counted address some)).0 in
-        let again = from_base config.region_words address (some_words config) above in
-        omega (arith, at.2, most, again, counted_words address is);
-    apart = λ address b some_a some_b less.
-        let one = marked_object address (counted address some_a) in
-        let two = marked_object b (counted b some_b) in
-        let lie = after.objects.plotted.apart address b (thing one.name one.refs one.nums) (thing two.name two.refs two.nums) one.here two.here less in
-        omega (arith, lie, counted_words address one);
+    above = λ address has_words. (leb-true config.region_words address (and_parts (nat_le config.region_words address) _ (counted address has_words)).0);
+    within = λ address has_words.
+        let object = marked_object address (counted address has_words) in
+        let top_above = below_top config top left_plot graph_held.objects.plotted address (thing object.name object.refs object.nums) object.here (omega arith) in
+        let top_bound = graph_held.objects.plotted.tops (region_with config address) top_above.0 in
+        let address_above = leb-true config.region_words address (and_parts (nat_le config.region_words address) _ (counted address has_words)).0 in
+        let address_split = from_base config.region_words address (some_words config) address_above in
+        omega (arith, top_above.2, top_bound, address_split, counted_words address object);
+    apart = λ address other_address first_counted second_counted address_less.
+        let first_object = marked_object address (counted address first_counted) in
+        let second_object = marked_object other_address (counted other_address second_counted) in
+        let objects_apart = graph_held.objects.plotted.apart address other_address (thing first_object.name first_object.refs first_object.nums) (thing second_object.name second_object.refs second_object.nums) first_object.here second_object.here address_less in
+        omega (arith, objects_apart, counted_words address first_object);
   }
 
   unmoved : (address : ℕ) → is_black config memory address ≡ true → is_forwarded (memory (Heap address)) ≡ false
-  unmoved address black =
-      let is = marked_object address black in
+  unmoved address black_address =
+      let object = marked_object address black_address in
       false_from_ne_true (is_forwarded (memory (Heap address))) (λ forwarded.
-      let moved = after.moved address is.refs is.nums is.name is.here forwarded in
-      let none : bit_at (memory Cset) (region_with config address) ≡ 0 = ap (λ s. bit_at s (region_with config address)) calm ∙ bit_at-zero (region_with config address) in
-      let member = moved.in_set in
-      omega (arith, member, none))
+      let address_moved = graph_held.moved address object.refs object.nums object.name object.here forwarded in
+      let not_chosen : bit_at (memory Cset) (region_with config address) ≡ 0 = ap (λ cset. bit_at cset (region_with config address)) no_set ∙ bit_at-zero (region_with config address) in
+      let region_member = address_moved.in_set in
+      omega (arith, region_member, not_chosen))
 
   -- what a root or an answer names in a chosen region is marked, for nothing new is there
-  module _ (address : ℕ) (among : IsAmong (held_words config memory) address) (some : address ≢ 0) (member : IsIn (chosen config memory) (region_with config address)) where
-    is_object : IsObjectAt memory left address
-    is_object = reached_object config memory left owner promises graph after calm address (root_reached config memory left owner promises graph after calm address among some)
+  module _ (address : ℕ) (address_among : IsAmong (held_words config memory) address) (some_address : address ≢ 0) (region_member : IsIn (chosen config memory) (region_with config address)) where
+    is_object : IsObjectAt memory left_plot address
+    is_object = reached_object config memory left_plot owner promises graph graph_held no_set address (root_reached config memory left_plot owner promises graph graph_held no_set address address_among some_address)
 
     old : IsNew config memory address → ⊥
     old fresh =
-        let is = is_object in
-        let at = object_below config memory left owner promises graph after calm address is.refs is.nums is.name is.here in
-        let front = member_is config.regions (copy_limit config memory) (live_words config memory) (is_candidate config memory) (region_with config address) member in
+        let object = is_object in
+        let top_above = object_below config memory left_plot owner promises graph graph_held no_set address object.refs object.nums object.name object.here in
+        let front = member_is config.regions (copy_limit config memory) (live_words config memory) (is_candidate config memory) (region_with config address) region_member in
         let no_new = ((candidate_is_candidate config memory (region_with config address)).0 front.1).no_new in
-        omega (arith, fresh, at.2, no_new)
+        omega (arith, fresh, top_above.2, no_new)
 
     copyable : IsCopyable config memory address
     copyable =
-        let is = is_object in
-        let black : is_black config memory address ≡ true = ⊎_elim
-        (λ (marked : is_black config memory address ≡ true). marked)
+        let object = is_object in
+        let black_address : is_black config memory address ≡ true = ⊎_elim
+        (λ (address_marked : is_black config memory address ≡ true). address_marked)
         (λ (fresh : IsNew config memory address). absurd (old fresh))
-        (through.reachable address (root_reached config memory left owner promises graph after calm address among some)) in
-        let front = member_is config.regions (copy_limit config memory) (live_words config memory) (is_candidate config memory) (region_with config address) member in
-        let size = words_are address is in
-        record { marked = black; of_region = front.0; short = (let refs = is.few_refs in let nums = is.few_nums in omega (arith, size, refs, nums)) }
+        (through.reachable address (root_reached config memory left_plot owner promises graph graph_held no_set address address_among some_address)) in
+        let front = member_is config.regions (copy_limit config memory) (live_words config memory) (is_candidate config memory) (region_with config address) region_member in
+        let size = words_are address object in
+        record { marked = black_address; of_region = front.0; short = (let refs = object.few_refs in let nums = object.few_nums in omega (arith, size, refs, nums)) }
 
   named_copyable : (place : Word) → Contains (naming_places config) place → is_collected config (with_set memory (chosen config memory)) (memory place) ≡ true → IsCopyable config memory (memory place)
-  named_copyable place has collected =
-      let parts = and_parts (nat_le config.region_words (memory place)) (bit_at (chosen config memory) (region_with config (memory place)) == 1) collected in
-      let above = leb-true config.region_words (memory place) parts.0 in
-      let member = eqb-true (bit_at (chosen config memory) (region_with config (memory place))) 1 parts.1 in
-      let long : 64 ≤ config.region_words = (let range = config.in_range in omega (arith, range.least_words)) in
-      let some : memory place ≢ 0 = λ none. omega (arith, none, above, long) in
-      let among : IsAmong (held_words config memory) (memory place) = ⊎_elim
+  named_copyable place has_place place_collected =
+      let collected_parts = and_parts (nat_le config.region_words (memory place)) (bit_at (chosen config memory) (region_with config (memory place)) == 1) place_collected in
+      let address_above = leb-true config.region_words (memory place) collected_parts.0 in
+      let region_member = eqb-true (bit_at (chosen config memory) (region_with config (memory place))) 1 collected_parts.1 in
+      let region_long : 64 ≤ config.region_words = (let range = config.in_range in omega (arith, range.least_words)) in
+      let some_address : memory place ≢ 0 = λ no_address. omega (arith, no_address, address_above, region_long) in
+      let reference_among : IsAmong (held_words config memory) (memory place) = ⊎_elim
       (λ (root : Contains (root_places config.mutators) place).
-      let at = in_rows config.mutators place root in
-      subst (λ w. IsAmong (held_words config memory) (memory w)) at.4 (root_among config top memory left graph promises after.objects.plotted after.rooted at.0 at.1 at.2 at.3))
+      let row_place = in_rows config.mutators place root in
+      subst (λ word. IsAmong (held_words config memory) (memory word)) row_place.4 (root_among config top memory left_plot graph promises graph_held.objects.plotted graph_held.rooted row_place.0 row_place.1 row_place.2 row_place.3))
       (λ (answer : Contains (map Answer (range_with_len 0 config.mutators)) place).
-      let at = in_row Answer config.mutators place answer in
-      let here : memory (Answer at.0) ≡ memory place = ap memory at.2 in
-      subst (λ w. IsAmong (held_words config memory) (memory w)) at.2 (answer_among config top memory left graph promises after.objects.plotted after.rooted at.0 at.1 (omega (arith, here, above, long))))
-      (Contains-append_cases (root_places config.mutators) (map Answer (range_with_len 0 config.mutators)) place has) in
-      copyable (memory place) among some member
+      let row_place = in_row Answer config.mutators place answer in
+      let same_answer : memory (Answer row_place.0) ≡ memory place = ap memory row_place.2 in
+      subst (λ word. IsAmong (held_words config memory) (memory word)) row_place.2 (answer_among config top memory left_plot graph promises graph_held.objects.plotted graph_held.rooted row_place.0 row_place.1 (omega (arith, same_answer, address_above, region_long))))
+      (Contains-append_cases (root_places config.mutators) (map Answer (range_with_len 0 config.mutators)) place has_place) in
+      copyable (memory place) reference_among some_address region_member
 
   pub ended_can_begin : CanBegin config memory
   ended_can_begin = record {
-    free = after.free_word.no_more;
-    empty = after.free_word.empty;
-    within = after.objects.plotted.tops;
+    free = graph_held.free_word.no_more;
+    empty = graph_held.free_word.empty;
+    within = graph_held.objects.plotted.tops;
     apart = lie_apart;
     unmoved = unmoved;
     copyable = named_copyable;
   }
 
-module _ (config : Config) (memory : Word → ℕ) (block : Plot) (owner : ℕ → Option ℕ) (promises : Promises) (graph : Graph) (holds : HoldsBy config memory block owner promises graph) (marking : IsMarking config memory block) (seats : HasNoMoreSeats config memory) where
+module _ (config : Config) (memory : Word → ℕ) (block : Plot) (owner : ℕ → Option ℕ) (promises : Promises) (graph : Graph) (graph_held : HoldsBy config memory block owner promises graph) (marking : IsMarking config memory block) (seats : HasNoMoreSeats config memory) where
   abbrev now : Word → ℕ
   now = final_marked config memory
 
@@ -149,39 +149,39 @@ module _ (config : Config) (memory : Word → ℕ) (block : Plot) (owner : ℕ �
   left = freed_block config out block
 
   after : HoldsBy config now left (freed_owner out owner) promises graph
-  after = ended_holds config memory block owner promises graph holds marking seats
+  after = ended_holds config memory block owner promises graph graph_held marking seats
 
   through : IsMarkedThrough config now left
-  through = ended_through config memory block owner promises graph holds marking seats
+  through = ended_through config memory block owner promises graph graph_held marking seats
 
   -- what is marked is an object, which is left
   marked_was : (address : ℕ) → is_black config now address ≡ true → IsObjectAt memory block address
-  marked_was address black = ⊎_elim
-      (λ (before : is_black config memory address ≡ true). markable_object config memory block owner promises graph holds marking address (black_markable config memory block owner promises graph holds marking address before))
-      (λ (traced : IsTraced config memory address). markable_object config memory block owner promises graph holds marking address (traced_markable config memory block owner promises graph holds marking address traced))
-      (((are_closed config memory block owner promises graph holds marking).black address).0 black)
+  marked_was address black_now = ⊎_elim
+      (λ (black_before : is_black config memory address ≡ true). markable_object config memory block owner promises graph graph_held marking address (black_markable config memory block owner promises graph graph_held marking address black_before))
+      (λ (traced : IsTraced config memory address). markable_object config memory block owner promises graph graph_held marking address (traced_markable config memory block owner promises graph graph_held marking address traced))
+      (((are_closed config memory block owner promises graph graph_held marking).black address).0 black_now)
 
   marked_alive : (address : ℕ) → is_black config now address ≡ true → out (region_with config address) ≡ false
-  marked_alive address black = object_alive config memory block owner promises graph holds marking address (marked_was address black)
+  marked_alive address black_now = object_alive config memory block owner promises graph graph_held marking address (marked_was address black_now)
 
   pub marked_object : (address : ℕ) → is_black config now address ≡ true → IsObjectAt now left address
-  marked_object address black =
-      let is = marked_was address black in
+  marked_object address black_now =
+      let object = marked_was address black_now in
       record {
-        name = is.name;
-        refs = is.refs;
-        nums = is.nums;
-        here = cond-false (out (region_with config address)) None (block address) (marked_alive address black) ∙ is.here;
-        shape = is.shape;
-        few_refs = is.few_refs;
-        few_nums = is.few_nums;
+        name = object.name;
+        refs = object.refs;
+        nums = object.nums;
+        here = cond-false (out (region_with config address)) None (block address) (marked_alive address black_now) ∙ object.here;
+        shape = object.shape;
+        few_refs = object.few_refs;
+        few_nums = object.few_nums;
       }
 
   pub can_begin : CanBegin config now
   can_begin = ended_can_begin config now left (freed_owner out owner) promises graph after marking.uncollected through marked_object
 
 pub evacuation_can_begin : EvacuationCanBegin
-evacuation_can_begin c m block owner p g holds marking seats = can_begin c m block owner p g holds marking seats
+evacuation_can_begin config memory block owner promises graph graph_held marking seats = can_begin config memory block owner promises graph graph_held marking seats
 
 pub marked_can_begin : MarkedCanBegin
-marked_can_begin c n left owner p g after through calm marked = ended_can_begin c n left owner p g after calm through marked
+marked_can_begin config memory left_plot owner promises graph graph_held through no_set marked_objects = ended_can_begin config memory left_plot owner promises graph graph_held no_set through marked_objects

@@ -26,28 +26,28 @@ module _ (config : Config) (memory : Word → ℕ) (region : ℕ) where
   wasted = nat_le (config.region_words / 4) (garbage config memory region)
 
   is_so : is_candidate config memory region ≡ true → IsCandidate config memory region
-  is_so is =
-      let first = and_parts (used && loose && unseated && filled) wasted is in
-      let second = and_parts (used && loose && unseated) filled first.0 in
-      let third = and_parts (used && loose) unseated second.0 in
-      let fourth = and_parts used loose third.0 in
+  is_so candidate =
+      let test_parts = and_parts (used && loose && unseated && filled) wasted candidate in
+      let second_parts = and_parts (used && loose && unseated) filled test_parts.0 in
+      let third_parts = and_parts (used && loose) unseated second_parts.0 in
+      let fourth_parts = and_parts used loose third_parts.0 in
       record {
-        in_use = eqb-true (bit_at (memory Free) region) 0 fourth.0;
-        unpinned = not-true (is_pinned config memory region) fourth.1;
-        nobodys = λ seat. both_ways (is_current config memory region) (not-true (is_current config memory region) third.1) (is_current_of config memory region seat);
-        no_new = eqb-true (memory (Top region)) (memory (Tams region)) second.1;
-        quarter = leb-true (config.region_words / 4) (garbage config memory region) first.1;
+        in_use = eqb-true (bit_at (memory Free) region) 0 fourth_parts.0;
+        unpinned = not-true (is_pinned config memory region) fourth_parts.1;
+        nobodys = λ seat. both_ways (is_current config memory region) (not-true (is_current config memory region) third_parts.1) (is_current_of config memory region seat);
+        no_new = eqb-true (memory (Top region)) (memory (Tams region)) second_parts.1;
+        quarter = leb-true (config.region_words / 4) (garbage config memory region) test_parts.1;
       }
 
   is_told : IsCandidate config memory region → is_candidate config memory region ≡ true
-  is_told is =
-      let no_seat : is_current config memory region ≡ false = false_from_ne_true (is_current config memory region) (λ seat. is.nobodys (current_is config memory region seat)) in
+  is_told candidate =
+      let no_seat : is_current config memory region ≡ false = false_from_ne_true (is_current config memory region) (λ seat. candidate.nobodys (current_is config memory region seat)) in
       and_from (used && loose && unseated && filled) wasted
       (and_from (used && loose && unseated) filled
-      (and_from (used && loose) unseated (and_from used loose (eq-eqb (bit_at (memory Free) region) 0 is.in_use) (not_from_false (is_pinned config memory region) is.unpinned))
+      (and_from (used && loose) unseated (and_from used loose (eq-eqb (bit_at (memory Free) region) 0 candidate.in_use) (not_from_false (is_pinned config memory region) candidate.unpinned))
       (not_from_false (is_current config memory region) no_seat))
-      (eq-eqb (memory (Top region)) (memory (Tams region)) is.no_new))
-      (le-leb (config.region_words / 4) (garbage config memory region) is.quarter)
+      (eq-eqb (memory (Top region)) (memory (Tams region)) candidate.no_new))
+      (le-leb (config.region_words / 4) (garbage config memory region) candidate.quarter)
 
   pub candidate_is_candidate : (is_candidate config memory region ≡ true) ↔ IsCandidate config memory region
   candidate_is_candidate = (is_so, is_told)

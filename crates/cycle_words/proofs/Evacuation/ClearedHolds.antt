@@ -58,7 +58,7 @@ record StillSo (config : Config) (before after : Word → ℕ) (block : Plot) (o
   order : IsInOrder config before block → IsInOrder config after pieces
   pins : (mutator index : ℕ) → after (Pin mutator index) ≡ before (Pin mutator index)
 
-module _ (config : Config) (memory : Word → ℕ) (block : Plot) (owner : ℕ → Option ℕ) (promises : Promises) (graph : Graph) (holds : HoldsBy config memory block owner promises graph) (apart : PinsOutside config memory) where
+module _ (config : Config) (memory : Word → ℕ) (block : Plot) (owner : ℕ → Option ℕ) (promises : Promises) (graph : Graph) (graph_held : HoldsBy config memory block owner promises graph) (apart : PinsOutside config memory) where
   abbrev top : ℕ → ℕ
   top region = memory (Top region)
 
@@ -67,264 +67,264 @@ module _ (config : Config) (memory : Word → ℕ) (block : Plot) (owner : ℕ �
 
   -- what held stays where nothing changes
   as_it_is : StillSo config memory memory block owner promises graph
-  as_it_is = record { pieces = block; stay = λ address b is. is; set = refl; holds = holds; sized = λ sized. sized; order = λ order. order; pins = λ t i. refl }
+  as_it_is = record { pieces = block; stay = λ address piece piece_there. piece_there; set = refl; holds = graph_held; sized = λ sized. sized; order = λ order. order; pins = λ t i. refl }
 
   -- an object of the set to which a root or an answer leads is copied out, unless it was before
-  module _ (address refs nums : ℕ) (name : Name) (here : block address ≡ Some (thing name refs nums)) (led : IsLed (now_in memory address)) (collected : is_collected config memory address ≡ true) (can : CanClear config memory address) where
+  module _ (address refs nums : ℕ) (name : Name) (object_there : block address ≡ Some (thing name refs nums)) (led : IsLed (now_in memory address)) (address_collected : is_collected config memory address ≡ true) (can_clear : CanClear config memory address) where
     above : config.region_words ≤ address
-    above = leb-true config.region_words address (and_parts (nat_le config.region_words address) (bit_at (memory Cset) (region_with config address) == 1) collected).0
+    above = leb-true config.region_words address (and_parts (nat_le config.region_words address) (bit_at (memory Cset) (region_with config address) == 1) address_collected).0
 
     inside : IsCollected config (memory Cset) address
-    inside = eqb-true (bit_at (memory Cset) (region_with config address)) 1 (and_parts (nat_le config.region_words address) (bit_at (memory Cset) (region_with config address) == 1) collected).1
+    inside = eqb-true (bit_at (memory Cset) (region_with config address)) 1 (and_parts (nat_le config.region_words address) (bit_at (memory Cset) (region_with config address) == 1) address_collected).1
 
     -- no pin slot holds it
     unpinned : IsUnpinned config memory address
-    unpinned = unpinned_inside config memory apart address collected
+    unpinned = unpinned_inside config memory apart address address_collected
 
-    module _ (plain : is_forwarded (memory (Heap address)) ≡ false) where
+    module _ (not_forwarded : is_forwarded (memory (Heap address)) ≡ false) where
       size : words_at memory address ≡ 3 + refs + nums
       size =
-          let own : now_in memory address ≡ address = cond-false (is_forwarded (memory (Heap address))) (forwardee_in (memory (Heap address))) address plain in
-          let object = holds.objects.each address refs nums name (subst IsLed own led) here in
+          let own_address : now_in memory address ≡ address = cond-false (is_forwarded (memory (Heap address))) (forwardee_in (memory (Heap address))) address not_forwarded in
+          let object = graph_held.objects.each address refs nums name (subst IsLed own_address led) object_there in
           ap object_words object.2.shape ∙ words_read refs nums object.2.few_refs object.2.few_nums
 
       out : IsCopiedOut config memory (copied_out config memory address) address
-      out = copies_out config memory address above inside (can.room collected plain)
+      out = copies_out config memory address above inside (can_clear.room address_collected not_forwarded)
 
       copied : StillSo config memory (copied_out config memory address) block owner promises graph
       copied = record {
-        pieces = copy.plot config memory block owner promises graph holds address (thing name refs nums) here refl inside plain unpinned size out;
-        stay = copy.stays config memory block owner promises graph holds address (thing name refs nums) here refl inside plain unpinned size out;
-        set = copy.set_same config memory block owner promises graph holds address (thing name refs nums) here refl inside plain unpinned size out;
-        holds = copy.copied_holds config memory block owner promises graph holds address (thing name refs nums) here refl inside plain unpinned size out;
-        sized = copy.copied_sized config memory block owner promises graph holds address (thing name refs nums) here refl inside plain unpinned size out;
-        order = copy.order_still config memory block owner promises graph holds address (thing name refs nums) here refl inside plain unpinned size out;
-        pins = copy.pin_same config memory block owner promises graph holds address (thing name refs nums) here refl inside plain unpinned size out;
+        pieces = copy.plot config memory block owner promises graph graph_held address (thing name refs nums) object_there refl inside not_forwarded unpinned size out;
+        stay = copy.stays config memory block owner promises graph graph_held address (thing name refs nums) object_there refl inside not_forwarded unpinned size out;
+        set = copy.set_same config memory block owner promises graph graph_held address (thing name refs nums) object_there refl inside not_forwarded unpinned size out;
+        holds = copy.copied_holds config memory block owner promises graph graph_held address (thing name refs nums) object_there refl inside not_forwarded unpinned size out;
+        sized = copy.copied_sized config memory block owner promises graph graph_held address (thing name refs nums) object_there refl inside not_forwarded unpinned size out;
+        order = copy.order_still config memory block owner promises graph graph_held address (thing name refs nums) object_there refl inside not_forwarded unpinned size out;
+        pins = copy.pin_same config memory block owner promises graph graph_held address (thing name refs nums) object_there refl inside not_forwarded unpinned size out;
       }
 
       is_copied : copied_out config memory address ≡ moved_out config memory address
-      is_copied = fun_ext (λ word. sym (cond-false (is_forwarded (memory (Heap address))) (memory word) (copied_out config memory address word) plain))
+      is_copied = fun_ext (λ word. sym (cond-false (is_forwarded (memory (Heap address))) (memory word) (copied_out config memory address word) not_forwarded))
 
     moved : StillSo config memory (moved_out config memory address) block owner promises graph
     moved = ⊎_elim
-        (λ (before : is_forwarded (memory (Heap address)) ≡ true).
-        let same : memory ≡ moved_out config memory address = fun_ext (λ word. sym (cond-true (is_forwarded (memory (Heap address))) (memory word) (copied_out config memory address word) before)) in
-        subst (λ n. StillSo config memory n block owner promises graph) same as_it_is)
-        (λ (plain : is_forwarded (memory (Heap address)) ≡ false). subst (λ n. StillSo config memory n block owner promises graph) (is_copied plain) (copied plain))
+        (λ (was_forwarded : is_forwarded (memory (Heap address)) ≡ true).
+        let same_memory : memory ≡ moved_out config memory address = fun_ext (λ word. sym (cond-true (is_forwarded (memory (Heap address))) (memory word) (copied_out config memory address word) was_forwarded)) in
+        subst (λ next_memory. StillSo config memory next_memory block owner promises graph) same_memory as_it_is)
+        (λ (not_forwarded : is_forwarded (memory (Heap address)) ≡ false). subst (λ next_memory. StillSo config memory next_memory block owner promises graph) (is_copied not_forwarded) (copied not_forwarded))
         (cases_Bool (is_forwarded (memory (Heap address))))
 
     -- a word that names objects is as it was
     naming_same : (place : Word) → IsNaming place → moved_out config memory address place ≡ memory place
     naming_same place naming = ⊎_elim
-        (λ (before : is_forwarded (memory (Heap address)) ≡ true). cond-true (is_forwarded (memory (Heap address))) (memory place) (copied_out config memory address place) before)
-        (λ (plain : is_forwarded (memory (Heap address)) ≡ false).
-        cond-false (is_forwarded (memory (Heap address))) (memory place) (copied_out config memory address place) plain ∙ copied_naming config memory address (copy_room config memory address) place naming)
+        (λ (was_forwarded : is_forwarded (memory (Heap address)) ≡ true). cond-true (is_forwarded (memory (Heap address))) (memory place) (copied_out config memory address place) was_forwarded)
+        (λ (not_forwarded : is_forwarded (memory (Heap address)) ≡ false).
+        cond-false (is_forwarded (memory (Heap address))) (memory place) (copied_out config memory address place) not_forwarded ∙ copied_naming config memory address (copy_room config memory address) place naming)
         (cases_Bool (is_forwarded (memory (Heap address))))
 
     -- where it named the object it is renamed
     renamed : (place : Word) → IsNaming place → memory place ≡ address → IsRenamed (moved_out config memory address) (moved_out config memory address place) (now_in (moved_out config memory address) address)
     renamed place naming named =
-        let same : moved_out config memory address place ≡ address = naming_same place naming ∙ named in
+        let same_address : moved_out config memory address place ≡ address = naming_same place naming ∙ named in
         record {
-          small = λ low. absurd (let long = config.in_range.least_words in let least = above in omega (arith, low, same, least, long));
-          either = inr (ap (now_in (moved_out config memory address)) (sym same));
+          small = λ low. absurd (let region_long = config.in_range.least_words in let address_least = above in omega (arith, low, same_address, address_least, region_long));
+          either = inr (ap (now_in (moved_out config memory address)) (sym same_address));
         }
 
   -- a root is cleared
   root_cleared : (mutator index : ℕ) → mutator < config.mutators → index < 16 → CanClear config memory (memory (Root mutator index)) → is_collected config memory (memory (Root mutator index)) ≡ true → StillSo config memory (cleared_at config memory (Root mutator index)) block owner promises graph
-  root_cleared mutator index within below can collected =
-      let least = leb-true config.region_words (memory (Root mutator index)) (and_parts (nat_le config.region_words (memory (Root mutator index))) (bit_at (memory Cset) (region_with config (memory (Root mutator index))) == 1) collected).0 in
-      let some : memory (Root mutator index) ≢ 0 = λ none. (let long = config.in_range.least_words in omega (arith, none, least, long)) in
-      let named = named_if_not_0 config top block holds.objects.plotted (memory (Root mutator index)) (graph.root (mutator + 1) index) (holds.rooted.roots mutator index within below) some in
-      let at = holds.pieces.named (memory (Root mutator index)) named.0 named.2 in
-      let led : IsLed (now_in memory (memory (Root mutator index))) = from_root (memory (Root mutator index)) (root_among config top memory block graph promises holds.objects.plotted holds.rooted mutator index within below) some in
-      let out = moved (memory (Root mutator index)) at.0 at.1 named.0 at.2 led collected can in
-      subst (λ n. StillSo config memory n block owner promises graph) (sym (cleared_is config memory (Root mutator index) collected))
+  root_cleared mutator index mutator_below index_below can_clear root_collected =
+      let address_least = leb-true config.region_words (memory (Root mutator index)) (and_parts (nat_le config.region_words (memory (Root mutator index))) (bit_at (memory Cset) (region_with config (memory (Root mutator index))) == 1) root_collected).0 in
+      let some_address : memory (Root mutator index) ≢ 0 = λ no_address. (let region_long = config.in_range.least_words in omega (arith, no_address, address_least, region_long)) in
+      let named = named_if_not_0 config top block graph_held.objects.plotted (memory (Root mutator index)) (graph.root (mutator + 1) index) (graph_held.rooted.roots mutator index mutator_below index_below) some_address in
+      let named_object = graph_held.pieces.named (memory (Root mutator index)) named.0 named.2 in
+      let led : IsLed (now_in memory (memory (Root mutator index))) = from_root (memory (Root mutator index)) (root_among config top memory block graph promises graph_held.objects.plotted graph_held.rooted mutator index mutator_below index_below) some_address in
+      let object_moved = moved (memory (Root mutator index)) named_object.0 named_object.1 named.0 named_object.2 led root_collected can_clear in
+      subst (λ next_memory. StillSo config memory next_memory block owner promises graph) (sym (cleared_is config memory (Root mutator index) root_collected))
       (record {
-        pieces = out.pieces;
-        stay = out.stay;
-        set = out.set;
-        holds = root_renamed config (moved_out config memory (memory (Root mutator index))) out.pieces owner promises graph out.holds (now_in (moved_out config memory (memory (Root mutator index))) (memory (Root mutator index))) mutator index
-            (renamed (memory (Root mutator index)) at.0 at.1 named.0 at.2 led collected can (Root mutator index) tt refl);
-        sized = λ sized. sized_alike (moved_out config memory (memory (Root mutator index))) (write (moved_out config memory (memory (Root mutator index))) (Root mutator index) (now_in (moved_out config memory (memory (Root mutator index))) (memory (Root mutator index)))) out.pieces (λ address. refl) (out.sized sized);
+        pieces = object_moved.pieces;
+        stay = object_moved.stay;
+        set = object_moved.set;
+        holds = root_renamed config (moved_out config memory (memory (Root mutator index))) object_moved.pieces owner promises graph object_moved.holds (now_in (moved_out config memory (memory (Root mutator index))) (memory (Root mutator index))) mutator index
+            (renamed (memory (Root mutator index)) named_object.0 named_object.1 named.0 named_object.2 led root_collected can_clear (Root mutator index) tt refl);
+        sized = λ sized. sized_alike (moved_out config memory (memory (Root mutator index))) (write (moved_out config memory (memory (Root mutator index))) (Root mutator index) (now_in (moved_out config memory (memory (Root mutator index))) (memory (Root mutator index)))) object_moved.pieces (λ address. refl) (object_moved.sized sized);
         order = λ order.
-            let next = out.order order in
+            let next_order = object_moved.order order in
             record {
-              marked = next.marked;
-              reachable = λ y reached. next.reachable y
-                  (root_reached config (moved_out config memory (memory (Root mutator index))) out.pieces owner promises graph out.holds (now_in (moved_out config memory (memory (Root mutator index))) (memory (Root mutator index))) mutator index
-                  (renamed (memory (Root mutator index)) at.0 at.1 named.0 at.2 led collected can (Root mutator index) tt refl) y reached);
-              no_new = next.no_new;
-              floors = next.floors;
-              unseated = next.unseated;
-              young = next.young;
+              marked = next_order.marked;
+              reachable = λ reached_address reached. next_order.reachable reached_address
+                  (root_reached config (moved_out config memory (memory (Root mutator index))) object_moved.pieces owner promises graph object_moved.holds (now_in (moved_out config memory (memory (Root mutator index))) (memory (Root mutator index))) mutator index
+                  (renamed (memory (Root mutator index)) named_object.0 named_object.1 named.0 named_object.2 led root_collected can_clear (Root mutator index) tt refl) reached_address reached);
+              no_new = next_order.no_new;
+              floors = next_order.floors;
+              unseated = next_order.unseated;
+              young = next_order.young;
             };
-        pins = out.pins;
+        pins = object_moved.pins;
       })
 
   -- an answer is cleared
   answer_cleared : (mutator : ℕ) → mutator < config.mutators → CanClear config memory (memory (Answer mutator)) → is_collected config memory (memory (Answer mutator)) ≡ true → StillSo config memory (cleared_at config memory (Answer mutator)) block owner promises graph
-  answer_cleared mutator within can collected =
-      let least = leb-true config.region_words (memory (Answer mutator)) (and_parts (nat_le config.region_words (memory (Answer mutator))) (bit_at (memory Cset) (region_with config (memory (Answer mutator))) == 1) collected).0 in
-      let big : 1 < memory (Answer mutator) = (let long = config.in_range.least_words in omega (arith, least, long)) in
-      let named = answer_names config top memory block graph promises holds.objects.plotted holds.rooted (memory (Answer mutator)) (promises.ref (mutator + 1)) big (holds.rooted.answers mutator within) in
-      let at = holds.pieces.named (memory (Answer mutator)) named.0 named.2 in
-      let led : IsLed (now_in memory (memory (Answer mutator))) = from_root (memory (Answer mutator)) (answer_among config top memory block graph promises holds.objects.plotted holds.rooted mutator within big) (λ none. omega (arith, none, big)) in
-      let out = moved (memory (Answer mutator)) at.0 at.1 named.0 at.2 led collected can in
-      subst (λ n. StillSo config memory n block owner promises graph) (sym (cleared_is config memory (Answer mutator) collected))
+  answer_cleared mutator mutator_below can_clear answer_collected =
+      let address_least = leb-true config.region_words (memory (Answer mutator)) (and_parts (nat_le config.region_words (memory (Answer mutator))) (bit_at (memory Cset) (region_with config (memory (Answer mutator))) == 1) answer_collected).0 in
+      let big : 1 < memory (Answer mutator) = (let region_long = config.in_range.least_words in omega (arith, address_least, region_long)) in
+      let named = answer_names config top memory block graph promises graph_held.objects.plotted graph_held.rooted (memory (Answer mutator)) (promises.ref (mutator + 1)) big (graph_held.rooted.answers mutator mutator_below) in
+      let named_object = graph_held.pieces.named (memory (Answer mutator)) named.0 named.2 in
+      let led : IsLed (now_in memory (memory (Answer mutator))) = from_root (memory (Answer mutator)) (answer_among config top memory block graph promises graph_held.objects.plotted graph_held.rooted mutator mutator_below big) (λ no_address. omega (arith, no_address, big)) in
+      let object_moved = moved (memory (Answer mutator)) named_object.0 named_object.1 named.0 named_object.2 led answer_collected can_clear in
+      subst (λ next_memory. StillSo config memory next_memory block owner promises graph) (sym (cleared_is config memory (Answer mutator) answer_collected))
       (record {
-        pieces = out.pieces;
-        stay = out.stay;
-        set = out.set;
-        holds = answer_renamed config (moved_out config memory (memory (Answer mutator))) out.pieces owner promises graph out.holds (now_in (moved_out config memory (memory (Answer mutator))) (memory (Answer mutator))) mutator
-            (renamed (memory (Answer mutator)) at.0 at.1 named.0 at.2 led collected can (Answer mutator) tt refl);
-        sized = λ sized. sized_alike (moved_out config memory (memory (Answer mutator))) (write (moved_out config memory (memory (Answer mutator))) (Answer mutator) (now_in (moved_out config memory (memory (Answer mutator))) (memory (Answer mutator)))) out.pieces (λ address. refl) (out.sized sized);
+        pieces = object_moved.pieces;
+        stay = object_moved.stay;
+        set = object_moved.set;
+        holds = answer_renamed config (moved_out config memory (memory (Answer mutator))) object_moved.pieces owner promises graph object_moved.holds (now_in (moved_out config memory (memory (Answer mutator))) (memory (Answer mutator))) mutator
+            (renamed (memory (Answer mutator)) named_object.0 named_object.1 named.0 named_object.2 led answer_collected can_clear (Answer mutator) tt refl);
+        sized = λ sized. sized_alike (moved_out config memory (memory (Answer mutator))) (write (moved_out config memory (memory (Answer mutator))) (Answer mutator) (now_in (moved_out config memory (memory (Answer mutator))) (memory (Answer mutator)))) object_moved.pieces (λ address. refl) (object_moved.sized sized);
         order = λ order.
-            let next = out.order order in
+            let next_order = object_moved.order order in
             record {
-              marked = next.marked;
-              reachable = λ y reached. next.reachable y
-                  (answer_reached config (moved_out config memory (memory (Answer mutator))) out.pieces owner promises graph out.holds (now_in (moved_out config memory (memory (Answer mutator))) (memory (Answer mutator))) mutator
-                  (renamed (memory (Answer mutator)) at.0 at.1 named.0 at.2 led collected can (Answer mutator) tt refl) y reached);
-              no_new = next.no_new;
-              floors = next.floors;
-              unseated = next.unseated;
-              young = next.young;
+              marked = next_order.marked;
+              reachable = λ reached_address reached. next_order.reachable reached_address
+                  (answer_reached config (moved_out config memory (memory (Answer mutator))) object_moved.pieces owner promises graph object_moved.holds (now_in (moved_out config memory (memory (Answer mutator))) (memory (Answer mutator))) mutator
+                  (renamed (memory (Answer mutator)) named_object.0 named_object.1 named.0 named_object.2 led answer_collected can_clear (Answer mutator) tt refl) reached_address reached);
+              no_new = next_order.no_new;
+              floors = next_order.floors;
+              unseated = next_order.unseated;
+              young = next_order.young;
             };
-        pins = out.pins;
+        pins = object_moved.pins;
       })
 
   spared : (place : Word) → is_collected config memory (memory place) ≡ false → StillSo config memory (cleared_at config memory place) block owner promises graph
-  spared place outside = subst (λ n. StillSo config memory n block owner promises graph) (sym (spared_is config memory place outside)) as_it_is
+  spared place outside = subst (λ next_memory. StillSo config memory next_memory block owner promises graph) (sym (spared_is config memory place outside)) as_it_is
 
   place_cleared : (place : Word) → IsPlace config place → CanClear config memory (memory place) → StillSo config memory (cleared_at config memory place) block owner promises graph
-  place_cleared (Root mutator index) place can = ⊎_elim
-      (λ (collected : is_collected config memory (memory (Root mutator index)) ≡ true). root_cleared mutator index place.0 place.1 can collected)
+  place_cleared (Root mutator index) place can_clear = ⊎_elim
+      (λ (word_collected : is_collected config memory (memory (Root mutator index)) ≡ true). root_cleared mutator index place.0 place.1 can_clear word_collected)
       (λ (outside : is_collected config memory (memory (Root mutator index)) ≡ false). spared (Root mutator index) outside)
       (cases_Bool (is_collected config memory (memory (Root mutator index))))
-  place_cleared (Answer mutator) place can = ⊎_elim
-      (λ (collected : is_collected config memory (memory (Answer mutator)) ≡ true). answer_cleared mutator place can collected)
+  place_cleared (Answer mutator) place can_clear = ⊎_elim
+      (λ (word_collected : is_collected config memory (memory (Answer mutator)) ≡ true). answer_cleared mutator place can_clear word_collected)
       (λ (outside : is_collected config memory (memory (Answer mutator)) ≡ false). spared (Answer mutator) outside)
       (cases_Bool (is_collected config memory (memory (Answer mutator))))
-  place_cleared _ place can = absurd place
+  place_cleared _ place can_clear = absurd place
 
 -- All places are cleared, one after the other.
 all_cleared : (config : Config) (owner : ℕ → Option ℕ) (promises : Promises) (graph : Graph) (places : List Word) (memory : Word → ℕ) (block : Plot)
     → ((place : Word) → Contains places place → IsPlace config place) → HoldsBy config memory block owner promises graph → PinsOutside config memory → CanClearInTurn config memory places
     → StillSo config memory (cleared_in_turn config memory places) block owner promises graph
 unfolding cleared_in_turn CanClearInTurn
-all_cleared config owner promises graph [] memory block are holds apart can = record { pieces = block; stay = λ a b is. is; set = refl; holds = holds; sized = λ sized. sized; order = λ order. order; pins = λ t i. refl }
-all_cleared config owner promises graph (place ∷ places) memory block are holds apart can =
-    let next = place_cleared config memory block owner promises graph holds apart place (are place (is_first place places)) can.0 in
-    let rest = all_cleared config owner promises graph places (cleared_at config memory place) next.pieces (λ other_place has. are other_place (is_later place places other_place has)) next.holds
-    (still_outside config memory (cleared_at config memory place) next.pins next.set apart) can.1 in
-    record { pieces = rest.pieces; stay = λ a b is. rest.stay a b (next.stay a b is); set = rest.set ∙ next.set; holds = rest.holds; sized = λ sized. rest.sized (next.sized sized); order = λ order. rest.order (next.order order); pins = λ t i. rest.pins t i ∙ next.pins t i }
+all_cleared config owner promises graph [] memory block each_is_place graph_held apart can_clear = record { pieces = block; stay = λ address piece piece_there. piece_there; set = refl; holds = graph_held; sized = λ sized. sized; order = λ order. order; pins = λ mutator slot. refl }
+all_cleared config owner promises graph (place ∷ places) memory block each_is_place graph_held apart can_clear =
+    let first_cleared = place_cleared config memory block owner promises graph graph_held apart place (each_is_place place (is_first place places)) can_clear.0 in
+    let rest_cleared = all_cleared config owner promises graph places (cleared_at config memory place) first_cleared.pieces (λ later_place has_place. each_is_place later_place (is_later place places later_place has_place)) first_cleared.holds
+    (still_outside config memory (cleared_at config memory place) first_cleared.pins first_cleared.set apart) can_clear.1 in
+    record { pieces = rest_cleared.pieces; stay = λ address piece piece_there. rest_cleared.stay address piece (first_cleared.stay address piece piece_there); set = rest_cleared.set ∙ first_cleared.set; holds = rest_cleared.holds; sized = λ sized. rest_cleared.sized (first_cleared.sized sized); order = λ order. rest_cleared.order (first_cleared.order order); pins = λ mutator slot. rest_cleared.pins mutator slot ∙ first_cleared.pins mutator slot }
 
 -- A collection set may be stored where no object has moved, if the shared region lies outside.
-module _ (config : Config) (memory : Word → ℕ) (block : Plot) (owner : ℕ → Option ℕ) (promises : Promises) (graph : Graph) (holds : HoldsBy config memory block owner promises graph)
-    (plain : (a refs nums : ℕ) (name : Name) → block a ≡ Some (thing name refs nums) → is_forwarded (memory (Heap a)) ≡ false)
+module _ (config : Config) (memory : Word → ℕ) (block : Plot) (owner : ℕ → Option ℕ) (promises : Promises) (graph : Graph) (graph_held : HoldsBy config memory block owner promises graph)
+    (headers_plain : (a refs nums : ℕ) (name : Name) → block a ≡ Some (thing name refs nums) → is_forwarded (memory (Heap a)) ≡ false)
     (set : ℕ) (away : (r : ℕ) → memory Share ≡ r + 1 → IsIn set r → ⊥) where
   asking : AreAsking config (with_set memory set) graph promises 0
-  asking t from below some =
-      let was = holds.asking t from below some in
-      record { shape = was.shape; few_refs = was.few_refs; few_nums = was.few_nums; unanswered = was.unanswered; new = was.new }
+  asking mutator from mutator_below some_wait =
+      let was_asking = graph_held.asking mutator from mutator_below some_wait in
+      record { shape = was_asking.shape; few_refs = was_asking.few_refs; few_nums = was_asking.few_nums; unanswered = was_asking.unanswered; new = was_asking.new }
 
   pub set_stored_holds : HoldsBy config (with_set memory set) block owner promises graph
   set_stored_holds = record {
     objects = subst (λ xs. HoldsGraph config (λ region. memory (Top region)) (λ address. memory (Heap address)) block (now_in memory) (IsAmong xs) (with_promised graph promises))
-        (sym (same_held_words memory (with_set memory set) (λ t i. refl) (λ t. refl) (λ t i. refl) config)) holds.objects;
-    rooted = record { roots = holds.rooted.roots; answers = holds.rooted.answers; no_more_roots = holds.rooted.no_more_roots; pins = holds.rooted.pins; no_more_pins = holds.rooted.no_more_pins; no_more_promised = holds.rooted.no_more_promised };
-    moved = λ a refs nums name is forwarded. absurd (true≢false (sym forwarded ∙ plain a refs nums name is));
-    filled = holds.filled;
-    pieces = holds.pieces;
-    free_word = holds.free_word;
-    shared_one = λ r is. let was = holds.shared_one r is in record { within = was.within; in_use = was.in_use; nobodys = was.nobodys; outside = away r is };
-    buffers = holds.buffers;
+        (sym (same_held_words memory (with_set memory set) (λ t i. refl) (λ t. refl) (λ t i. refl) config)) graph_held.objects;
+    rooted = record { roots = graph_held.rooted.roots; answers = graph_held.rooted.answers; no_more_roots = graph_held.rooted.no_more_roots; pins = graph_held.rooted.pins; no_more_pins = graph_held.rooted.no_more_pins; no_more_promised = graph_held.rooted.no_more_promised };
+    moved = λ object_address refs nums name thing_stands header_forwarded. absurd (true≢false (sym header_forwarded ∙ headers_plain object_address refs nums name thing_stands));
+    filled = graph_held.filled;
+    pieces = graph_held.pieces;
+    free_word = graph_held.free_word;
+    shared_one = λ shared_region thing_stands. let was_shared = graph_held.shared_one shared_region thing_stands in record { within = was_shared.within; in_use = was_shared.in_use; nobodys = was_shared.nobodys; outside = away shared_region thing_stands };
+    buffers = graph_held.buffers;
     asking = asking;
-    next = record { asked = holds.next.asked; promised = holds.next.promised; given = holds.next.given };
-    unreached = holds.unreached;
+    next = record { asked = graph_held.next.asked; promised = graph_held.next.promised; given = graph_held.next.given };
+    unreached = graph_held.unreached;
   }
 
 -- Evacuation begins from words without a collection set, in which no object has moved.
-module _ (config : Config) (m : Word → ℕ) (block : Plot) (owner : ℕ → Option ℕ) (promises : Promises) (graph : Graph) (holds : HoldsBy config m block owner promises graph) (calm : m Cset ≡ 0) (can : CanBegin config m) where
+module _ (config : Config) (start_memory : Word → ℕ) (block : Plot) (owner : ℕ → Option ℕ) (promises : Promises) (graph : Graph) (graph_held : HoldsBy config start_memory block owner promises graph) (cset_empty : start_memory Cset ≡ 0) (can_begin : CanBegin config start_memory) where
   abbrev set : ℕ
-  set = chosen config m
+  set = chosen config start_memory
 
   abbrev with : Word → ℕ
-  with = with_set m set
+  with = with_set start_memory set
 
-  unmoved : (address refs nums : ℕ) (name : Name) → block address ≡ Some (thing name refs nums) → is_forwarded (m (Heap address)) ≡ false
-  unmoved address refs nums name is = false_from_ne_true (is_forwarded (m (Heap address))) (λ forwarded.
-      let was = holds.moved address refs nums name is forwarded in
-      let none : bit_at (m Cset) (region_with config address) ≡ 0 = ap (λ k. bit_at k (region_with config address)) calm ∙ bit_at-zero (region_with config address) in
-      let member = was.in_set in
-      omega (arith, member, none))
+  unmoved : (address refs nums : ℕ) (name : Name) → block address ≡ Some (thing name refs nums) → is_forwarded (start_memory (Heap address)) ≡ false
+  unmoved address refs nums name object_there = false_from_ne_true (is_forwarded (start_memory (Heap address))) (λ forwarded.
+      let was_moved = graph_held.moved address refs nums name object_there forwarded in
+      let not_chosen : bit_at (start_memory Cset) (region_with config address) ≡ 0 = ap (λ set. bit_at set (region_with config address)) cset_empty ∙ bit_at-zero (region_with config address) in
+      let region_in_set = was_moved.in_set in
+      omega (arith, region_in_set, not_chosen))
 
   -- a region of the choice is a candidate
-  chosen_is : (region : ℕ) → IsIn set region → IsCandidate config m region
-  chosen_is region member = (candidate_is_candidate config m region).0 (member_is config.regions (copy_limit config m) (live_words config m) (is_candidate config m) region member).1
+  chosen_is : (region : ℕ) → IsIn set region → IsCandidate config start_memory region
+  chosen_is region region_in_set = (candidate_is_candidate config start_memory region).0 (member_is config.regions (copy_limit config start_memory) (live_words config start_memory) (is_candidate config start_memory) region region_in_set).1
 
   set_holds : HoldsBy config with block owner promises graph
-  set_holds = set_stored_holds config m block owner promises graph holds unmoved set (λ r is member. (chosen_is r member).nobodys (inl is))
+  set_holds = set_stored_holds config start_memory block owner promises graph graph_held unmoved set (λ region is_chosen member. (chosen_is region member).nobodys (inl is_chosen))
 
   -- for no candidate is pinned
   apart : PinsOutside config with
-  apart = pins_outside config with (λ r member. (chosen_is r member).unpinned)
+  apart = pins_outside config with (λ region member. (chosen_is region member).unpinned)
 
   abbrev cleared : Word → ℕ
-  cleared = roots_cleared config m set
+  cleared = roots_cleared config start_memory set
 
   all : StillSo config with cleared block owner promises graph
-  all = all_cleared config owner promises graph (naming_places config) with block (are_places config) set_holds apart (can_clear_in_turn config m can)
+  all = all_cleared config owner promises graph (naming_places config) with block (are_places config) set_holds apart (can_clear_in_turn config start_memory can_begin)
 
-  begun_some : HoldsStill config m (evac_started cleared) block owner promises graph
+  begun_some : HoldsStill config start_memory (evac_started cleared) block owner promises graph
   begun_some = record {
     pieces = all.pieces;
     stay = all.stay;
     holds = holds_alike cleared (evac_started cleared)
         (record { heap = λ a. refl; top = λ r. refl; root = λ t i. refl; answer = λ t. refl; wait = λ t. refl; current = λ s. refl; free = refl; cset = refl; share = refl; pin = λ t i. refl })
         config all.pieces owner promises graph all.holds;
-    sized = λ sized. sized_alike cleared (evac_started cleared) all.pieces (λ a. refl) (all.sized (sized_alike m with block (λ a. refl) sized));
+    sized = λ sized. sized_alike cleared (evac_started cleared) all.pieces (λ a. refl) (all.sized (sized_alike start_memory with block (λ a. refl) sized));
   }
 
-  begun_none : HoldsStill config m (evac_spared m) block owner promises graph
+  begun_none : HoldsStill config start_memory (evac_spared start_memory) block owner promises graph
   begun_none = record {
     pieces = block;
-    stay = λ a b is. is;
-    holds = holds_alike m (evac_spared m)
-        (record { heap = λ a. refl; top = λ r. refl; root = λ t i. refl; answer = λ t. refl; wait = λ t. refl; current = λ s. refl; free = refl; cset = sym calm; share = refl; pin = λ t i. refl })
-        config block owner promises graph holds;
-    sized = λ sized. sized_alike m (evac_spared m) block (λ a. refl) sized;
+    stay = λ address piece piece_there. piece_there;
+    holds = holds_alike start_memory (evac_spared start_memory)
+        (record { heap = λ address. refl; top = λ r. refl; root = λ t i. refl; answer = λ t. refl; wait = λ t. refl; current = λ s. refl; free = refl; cset = sym cset_empty; share = refl; pin = λ t i. refl })
+        config block owner promises graph graph_held;
+    sized = λ sized. sized_alike start_memory (evac_spared start_memory) block (λ address. refl) sized;
   }
 
-  none_is : set ≡ 0 → evac_spared m ≡ evac_begun config m set
-  none_is none = fun_ext (λ word. sym (cond-true (set == 0) (evac_spared m word) (evac_started cleared word) (eq-eqb set 0 none)))
+  none_is : set ≡ 0 → evac_spared start_memory ≡ evac_begun config start_memory set
+  none_is no_set = fun_ext (λ word. sym (cond-true (set == 0) (evac_spared start_memory word) (evac_started cleared word) (eq-eqb set 0 no_set)))
 
-  some_is : set ≢ 0 → evac_started cleared ≡ evac_begun config m set
-  some_is positive = fun_ext (λ word. sym (cond-false (set == 0) (evac_spared m word) (evac_started cleared word) (ne_eqb set 0 positive)))
+  some_is : set ≢ 0 → evac_started cleared ≡ evac_begun config start_memory set
+  some_is some_set = fun_ext (λ word. sym (cond-false (set == 0) (evac_spared start_memory word) (evac_started cleared word) (ne_eqb set 0 some_set)))
 
-  pub begun_holds : HoldsStill config m (evac_begun config m set) block owner promises graph
+  pub begun_holds : HoldsStill config start_memory (evac_begun config start_memory set) block owner promises graph
   begun_holds = ⊎_elim
-      (λ (none : set ≡ 0). subst (λ n. HoldsStill config m n block owner promises graph) (none_is none) begun_none)
-      (λ (some : set ≢ 0). subst (λ n. HoldsStill config m n block owner promises graph) (some_is some) begun_some)
+      (λ (no_set : set ≡ 0). subst (λ next_memory. HoldsStill config start_memory next_memory block owner promises graph) (none_is no_set) begun_none)
+      (λ (some_set : set ≢ 0). subst (λ next_memory. HoldsStill config start_memory next_memory block owner promises graph) (some_is some_set) begun_some)
       (cases_eq set 0)
 
   -- Where marking has ended, what finishing a cycle asks for holds then.
-  module _ (sized : AreSized m block) (through : IsMarkedThrough config m block) (marked : (a : ℕ) → is_black config m a ≡ true → IsObjectAt m block a)
-      (floors : (r : ℕ) → r < config.regions → m (Tams r) ≤ m (Top r)) (young : AreYoungRooms config (λ r. m (Tams r)) block) (seats : HasNoMoreSeats config m) where
+  module _ (sized : AreSized start_memory block) (through : IsMarkedThrough config start_memory block) (marked_objects : (object_address : ℕ) → is_black config start_memory object_address ≡ true → IsObjectAt start_memory block object_address)
+      (floors : (asked_region : ℕ) → asked_region < config.regions → start_memory (Tams asked_region) ≤ start_memory (Top asked_region)) (young : AreYoungRooms config (λ asked_region. start_memory (Tams asked_region)) block) (seats : HasNoMoreSeats config start_memory) where
     -- reaching goes by roots, answers and the heap
     reached_same : (memory other_memory : Word → ℕ) → held_words config memory ≡ held_words config other_memory → ((address : ℕ) → memory (Heap address) ≡ other_memory (Heap address)) → (address : ℕ) → CanBeReached config memory address → CanBeReached config other_memory address
     reached_same memory other_memory roots heap address =
         subst (λ xs. IsLedTo (now_in memory) (λ address. memory (Heap address)) (IsAmong xs) address → CanBeReached config other_memory address) (sym roots)
-        (subst (λ (f : ℕ → ℕ). IsLedTo (λ y. if is_forwarded (f y) then forwardee_in (f y) else y) f (IsAmong (held_words config other_memory)) address → CanBeReached config other_memory address) (sym (fun_ext heap)) (λ reached. reached))
+        (subst (λ (f : ℕ → ℕ). IsLedTo (λ place. if is_forwarded (f place) then forwardee_in (f place) else place) f (IsAmong (held_words config other_memory)) address → CanBeReached config other_memory address) (sym (fun_ext heap)) (λ reached. reached))
 
     order_first : IsInOrder config with block
     order_first = record {
-      marked = λ a collected black. let is = marked a black in (thing is.name is.refs is.nums, is.here, refl);
-      reachable = λ address reached. through.reachable address (reached_same with m (same_held_words m with (λ t i. refl) (λ t. refl) (λ t i. refl) config) (λ y. refl) address reached);
-      no_new = λ r member. (chosen_is r member).no_new;
+      marked = λ black_address collected black. let marked_object = marked_objects black_address black in (thing marked_object.name marked_object.refs marked_object.nums, marked_object.here, refl);
+      reachable = λ address reached. through.reachable address (reached_same with start_memory (same_held_words start_memory with (λ t i. refl) (λ t. refl) (λ t i. refl) config) (λ y. refl) address reached);
+      no_new = λ asked_region member. (chosen_is asked_region member).no_new;
       floors = floors;
-      unseated = λ seat region is member. (chosen_is region member).nobodys (seated config m seats seat region is);
+      unseated = λ seat region marked_object member. (chosen_is region member).nobodys (seated config start_memory seats seat region marked_object);
       young = young;
     }
 
@@ -338,37 +338,37 @@ module _ (config : Config) (m : Word → ℕ) (block : Plot) (owner : ℕ → Op
           sized = begun_some.sized sized;
           collecting = record {
             marked = order.marked;
-            reachable = λ some address reached. order.reachable address
+            reachable = λ some_set address reached. order.reachable address
                 (reached_same (evac_started cleared) cleared (same_held_words cleared (evac_started cleared) (λ t i. refl) (λ t. refl) (λ t i. refl) config) (λ y. refl) address reached);
             no_new = order.no_new;
-            floors = λ some. order.floors;
+            floors = λ some_set. order.floors;
             unseated = order.unseated;
-            young = λ some. order.young;
-            outside = λ off. absurd (off refl);
+            young = λ some_set. order.young;
+            outside = λ set_empty. absurd (set_empty refl);
           };
-          small = subst (λ k. k < 2 ^ config.regions) (sym all.set) (bits_small (is_in_front config.regions (copy_limit config m) (live_words config m) (is_candidate config m)) 0 config.regions);
+          small = subst (λ set. set < 2 ^ config.regions) (sym all.set) (bits_small (is_in_front config.regions (copy_limit config start_memory) (live_words config start_memory) (is_candidate config start_memory)) 0 config.regions);
         }
 
-    collecting_none : HoldsCollecting config (evac_spared m) owner promises graph
+    collecting_none : HoldsCollecting config (evac_spared start_memory) owner promises graph
     unfolding begun_none
     collecting_none = record {
       pieces = block;
       holds = begun_none.holds;
       sized = begun_none.sized sized;
       collecting = record {
-        marked = λ a collected black. let is = marked a black in (thing is.name is.refs is.nums, is.here, refl);
-        reachable = λ some. absurd (some refl);
-        no_new = λ r member. absurd (let none = bit_at-zero r in omega (arith, member, none));
-        floors = λ some. absurd (some refl);
-        unseated = λ seat region is member. (let none = bit_at-zero region in omega (arith, member, none));
-        young = λ some. absurd (some refl);
-        outside = λ off a reached member. absurd (let none = bit_at-zero (region_with config a) in omega (arith, member, none));
+        marked = λ marked_address collected black. let marked_object = marked_objects marked_address black in (thing marked_object.name marked_object.refs marked_object.nums, marked_object.here, refl);
+        reachable = λ some_set. absurd (some_set refl);
+        no_new = λ asked_region member. absurd (let no_member = bit_at-zero asked_region in omega (arith, member, no_member));
+        floors = λ some_set. absurd (some_set refl);
+        unseated = λ seat region marked_object member. (let no_member = bit_at-zero region in omega (arith, member, no_member));
+        young = λ some_set. absurd (some_set refl);
+        outside = λ set_empty marked_address reached member. absurd (let no_member = bit_at-zero (region_with config marked_address) in omega (arith, member, no_member));
       };
       small = pow_pos config.regions;
     }
 
-    pub begun_collecting : HoldsCollecting config (evac_begun config m set) owner promises graph
+    pub begun_collecting : HoldsCollecting config (evac_begun config start_memory set) owner promises graph
     begun_collecting = ⊎_elim
-        (λ (none : set ≡ 0). subst (λ memory. HoldsCollecting config memory owner promises graph) (none_is none) collecting_none)
-        (λ (some : set ≢ 0). subst (λ memory. HoldsCollecting config memory owner promises graph) (some_is some) collecting_some)
+        (λ (no_set : set ≡ 0). subst (λ memory. HoldsCollecting config memory owner promises graph) (none_is no_set) collecting_none)
+        (λ (some_set : set ≢ 0). subst (λ memory. HoldsCollecting config memory owner promises graph) (some_is some_set) collecting_some)
         (cases_eq set 0)

@@ -23,7 +23,7 @@ use Rattle.cycle_words.proofs.Evacuation.RegionAddresses.{of_its_region, regions
 use Rattle.cycle_words.proofs.Evacuation.Fits.{above_first, room_is_found}
 use Rattle.cycle_words.proofs.Evacuation.CopiedOut.{own_top, copying_copies}
 
-module _ (config : Config) (memory : Word → ℕ) (objects : List ℕ) (empty : FreeAreEmpty config memory) (lie : LieApart config.region_words (marked_words config memory))
+module _ (config : Config) (memory : Word → ℕ) (objects : List ℕ) (empty : FreeAreEmpty config memory) (lie_apart : LieApart config.region_words (marked_words config memory))
     (set_is : memory Cset ≡ chosen config memory) (to_copy : AreToCopy config memory (chosen config memory) objects) where
   abbrev region_words : ℕ
   region_words = config.region_words
@@ -50,112 +50,112 @@ module _ (config : Config) (memory : Word → ℕ) (objects : List ℕ) (empty :
 
   -- How the words are after so many turns: the tops are those of the numbers, and the words of the objects, headers aside,
   -- are as before.
-  record AreAt (index : ℕ) (other_memory : Word → ℕ) : Type 0 where
-    same_set : other_memory Cset ≡ set
-    tops : (r : ℕ) → tops_outside region_words set (λ region. other_memory (Top region)) r ≡ tops_after_copies config memory set objects index r
-    words : (address i : ℕ) → Contains objects address → 0 < i → i < words_at memory address → other_memory (Heap (address + i)) ≡ memory (Heap (address + i))
+  record AreAt (index : ℕ) (turn_memory : Word → ℕ) : Type 0 where
+    same_set : turn_memory Cset ≡ set
+    tops : (any_region : ℕ) → tops_outside region_words set (λ region. turn_memory (Top region)) any_region ≡ tops_after_copies config memory set objects index any_region
+    words : (address offset : ℕ) → Contains objects address → 0 < offset → offset < words_at memory address → turn_memory (Heap (address + offset)) ≡ memory (Heap (address + offset))
 
   at_first : AreAt 0 (now 0)
-  at_first = subst (AreAt 0) (sym now_first) (record { same_set = set_is; tops = λ r. sym (served_none region_words config.regions asked start r); words = λ a i _ _ _. refl })
+  at_first = subst (AreAt 0) (sym now_first) (record { same_set = set_is; tops = λ region. sym (served_none region_words config.regions asked start region); words = λ address offset _ _ _. refl })
 
   -- what is known of each object
-  first_is : (a : ℕ) → Contains objects a → region_words ≤ a
-  first_is a has = above_first config memory set objects to_copy a (to_copy.marked a has)
+  first_is : (object : ℕ) → Contains objects object → region_words ≤ object
+  first_is object object_listed = above_first config memory set objects to_copy object (to_copy.marked object object_listed)
 
-  all_marked : (a : ℕ) → Contains objects a → marked_words config memory a ≡ words_at memory a
-  all_marked a has = cond-true (is_black config memory a) (words_at memory a) 0 (to_copy.marked a has)
+  all_marked : (object : ℕ) → Contains objects object → marked_words config memory object ≡ words_at memory object
+  all_marked object object_listed = cond-true (is_black config memory object) (words_at memory object) 0 (to_copy.marked object object_listed)
 
   -- no word of an object but its first is where another object begins
-  never_begins : (a b i : ℕ) → Contains objects a → Contains objects b → 0 < i → i < words_at memory a → a + i ≢ b
-  never_begins a b i has_a has_b positive inside same =
-      let size = all_marked a has_a in
-      let other_size = all_marked b has_b in
-      let here : 0 < marked_words config memory a = omega (arith, size) in
-      let there : 0 < marked_words config memory b = omega (arith, other_size) in
-      let apart = lie.apart a b here there (omega (arith, same, positive)) in
-      omega (arith, apart, size, same, inside)
+  never_begins : (object later_object offset : ℕ) → Contains objects object → Contains objects later_object → 0 < offset → offset < words_at memory object → object + offset ≢ later_object
+  never_begins object later_object offset has_a has_b offset_positive offset_inside same_address =
+      let size = all_marked object has_a in
+      let second_size = all_marked later_object has_b in
+      let first_marked : 0 < marked_words config memory object = omega (arith, size) in
+      let second_marked : 0 < marked_words config memory later_object = omega (arith, second_size) in
+      let objects_apart = lie_apart.apart object later_object first_marked second_marked (omega (arith, same_address, offset_positive)) in
+      omega (arith, objects_apart, size, same_address, offset_inside)
 
-  module _ (index : ℕ) (other_memory : Word → ℕ) (inside : index < length objects) (at : AreAt index other_memory) where
+  module _ (index : ℕ) (turn_memory : Word → ℕ) (index_inside : index < length objects) (at_index : AreAt index turn_memory) where
     abbrev o : ℕ
     o = get_or objects index 0
 
     has : Contains objects o
-    has = Contains-get_or objects index 0 inside
+    has = Contains-get_or objects index 0 index_inside
 
     turn : FindsRoom config memory set objects index
-    turn = room_is_found config memory objects empty to_copy index inside
+    turn = room_is_found config memory objects empty to_copy index index_inside
 
-    same_size : words_at other_memory o ≡ words_at memory o
-    same_size = ap object_words (at.words o 1 has (omega arith) (omega arith))
+    same_size : words_at turn_memory o ≡ words_at memory o
+    same_size = ap object_words (at_index.words o 1 has (omega arith) (omega arith))
 
     -- the region by words is the region by numbers
-    same_region : copy_room config other_memory o ≡ room_at_turn region_words config.regions asked start index
+    same_region : copy_room config turn_memory o ≡ room_at_turn region_words config.regions asked start index
     same_region =
-        ap (λ set. lowest_room region_words (tops_outside region_words set (λ region. other_memory (Top region))) (words_at other_memory o) config.regions) at.same_set
-        ∙ ap (λ words. lowest_room region_words (tops_outside region_words set (λ region. other_memory (Top region))) words config.regions) same_size
-        ∙ same_room region_words (tops_outside region_words set (λ region. other_memory (Top region))) (tops_after_copies config memory set objects index) (asked index) config.regions (λ r _. at.tops r)
+        ap (λ set. lowest_room region_words (tops_outside region_words set (λ region. turn_memory (Top region))) (words_at turn_memory o) config.regions) at_index.same_set
+        ∙ ap (λ words. lowest_room region_words (tops_outside region_words set (λ region. turn_memory (Top region))) words config.regions) same_size
+        ∙ same_room region_words (tops_outside region_words set (λ region. turn_memory (Top region))) (tops_after_copies config memory set objects index) (asked index) config.regions (λ asked_region _. at_index.tops asked_region)
 
-    copied : IsCopiedOut config other_memory (copied_out config other_memory o) o
-    copied = copying_copies config other_memory o turn.region (first_is o has) (subst (λ s. IsIn s (region_with config o)) (sym at.same_set) (to_copy.in_set o has)) (same_region ∙ turn.found)
+    copied : IsCopiedOut config turn_memory (copied_out config turn_memory o) o
+    copied = copying_copies config turn_memory o turn.region (first_is o has) (subst (λ some_set. IsIn some_set (region_with config o)) (sym at_index.same_set) (to_copy.in_set o has)) (same_region ∙ turn.found)
 
     found_here : room_at_turn region_words config.regions asked start index ≡ Some copied.region
     found_here = sym same_region ∙ copied.found
 
     outside : IsOutside set copied.region
-    outside = ap (λ s. bit_at s copied.region) (sym at.same_set) ∙ copied.outside
+    outside = ap (λ some_set. bit_at some_set copied.region) (sym at_index.same_set) ∙ copied.outside
 
     -- the tops in numbers at the next turn
-    next_top : (q : ℕ) → tops_after_copies config memory set objects (suc index) q ≡ taken_in (tops_after_copies config memory set objects index) (asked index) (Some copied.region) q
-    next_top q = served_next region_words config.regions asked start index q ∙ ap (λ found. taken_in (tops_after_copies config memory set objects index) (asked index) found q) found_here
+    next_top : (asked_region : ℕ) → tops_after_copies config memory set objects (suc index) asked_region ≡ taken_in (tops_after_copies config memory set objects index) (asked index) (Some copied.region) asked_region
+    next_top asked_region = served_next region_words config.regions asked start index asked_region ∙ ap (λ found. taken_in (tops_after_copies config memory set objects index) (asked index) found asked_region) found_here
 
-    top_here : tops_outside region_words set (λ region. copied_out config other_memory o (Top region)) copied.region ≡ tops_after_copies config memory set objects (suc index) copied.region
+    top_here : tops_outside region_words set (λ region. copied_out config turn_memory o (Top region)) copied.region ≡ tops_after_copies config memory set objects (suc index) copied.region
     top_here =
-        own_top region_words set (λ region. copied_out config other_memory o (Top region)) copied.region outside
+        own_top region_words set (λ region. copied_out config turn_memory o (Top region)) copied.region outside
         ∙ copied.copied.top
-        ∙ ap (λ t. t + words_at other_memory o) (sym (own_top region_words set (λ region. other_memory (Top region)) copied.region outside) ∙ at.tops copied.region)
-        ∙ ap (λ n. tops_after_copies config memory set objects index copied.region + n) same_size
+        ∙ ap (λ top. top + words_at turn_memory o) (sym (own_top region_words set (λ region. turn_memory (Top region)) copied.region outside) ∙ at_index.tops copied.region)
+        ∙ ap (λ size. tops_after_copies config memory set objects index copied.region + size) same_size
         ∙ sym (taken_here (tops_after_copies config memory set objects index) (asked index) copied.region)
         ∙ sym (next_top copied.region)
 
-    top_elsewhere : (q : ℕ) → q ≢ copied.region → tops_outside region_words set (λ region. copied_out config other_memory o (Top region)) q ≡ tops_after_copies config memory set objects (suc index) q
-    top_elsewhere q other =
-        ap (λ t. if bit_at set q == 1 then region_words else t) (copied.copied.other_tops q other)
-        ∙ at.tops q
-        ∙ sym (taken_elsewhere (tops_after_copies config memory set objects index) (asked index) copied.region q other)
-        ∙ sym (next_top q)
+    top_elsewhere : (asked_region : ℕ) → asked_region ≢ copied.region → tops_outside region_words set (λ region. copied_out config turn_memory o (Top region)) asked_region ≡ tops_after_copies config memory set objects (suc index) asked_region
+    top_elsewhere asked_region other_region =
+        ap (λ top. if bit_at set asked_region == 1 then region_words else top) (copied.copied.other_tops asked_region other_region)
+        ∙ at_index.tops asked_region
+        ∙ sym (taken_elsewhere (tops_after_copies config memory set objects index) (asked index) copied.region asked_region other_region)
+        ∙ sym (next_top asked_region)
 
     -- the words of objects lie in regions of the set, where nothing is copied to
-    never_overwritten : (address i : ℕ) → Contains objects address → i < words_at memory address
-        → (address + i < top_address config other_memory copied.region) ⊎ (top_address config other_memory copied.region + words_at other_memory o ≤ address + i)
-    never_overwritten address i has_a less =
+    never_overwritten : (address offset : ℕ) → Contains objects address → offset < words_at memory address
+        → (address + offset < top_address config turn_memory copied.region) ⊎ (top_address config turn_memory copied.region + words_at turn_memory o ≤ address + offset)
+    never_overwritten address offset has_a offset_below =
         let size = all_marked address has_a in
-        let within = lie.within address (omega (arith, size)) in
-        let differ : region_with config address ≢ copied.region = λ same. (let member : bit_at set copied.region ≡ 1 = subst (IsIn set) same (to_copy.in_set address has_a) in omega (arith, member, outside)) in
-        regions_apart config (region_with config address) copied.region (address + i) (top_address config other_memory copied.region) (words_at other_memory o) differ
-        (of_its_region config address i (first_is address has_a) (omega (arith, within, size, less))) (omega arith) (omega (arith, copied.room))
+        let words_within = lie_apart.within address (omega (arith, size)) in
+        let differ : region_with config address ≢ copied.region = λ same_region. (let region_in_set : bit_at set copied.region ≡ 1 = subst (IsIn set) same_region (to_copy.in_set address has_a) in omega (arith, region_in_set, outside)) in
+        regions_apart config (region_with config address) copied.region (address + offset) (top_address config turn_memory copied.region) (words_at turn_memory o) differ
+        (of_its_region config address offset (first_is address has_a) (omega (arith, words_within, size, offset_below))) (omega arith) (omega (arith, copied.room))
 
-    at_next : AreAt (suc index) (copied_out config other_memory o)
+    at_next : AreAt (suc index) (copied_out config turn_memory o)
     at_next = record {
-      same_set = copied.copied.others Cset (λ never. never) ∙ at.same_set;
-      tops = λ q. ⊎_elim
-          (λ (here : q ≡ copied.region). subst (λ r. tops_outside region_words set (λ region. copied_out config other_memory o (Top region)) r ≡ tops_after_copies config memory set objects (suc index) r) (sym here) top_here)
-          (λ (other : q ≢ copied.region). top_elsewhere q other)
-          (cases_eq q copied.region);
-      words = λ a i has_a some less.
-          copied.copied.elsewhere (a + i) (never_begins a o i has_a has some less) (never_overwritten a i has_a less) ∙ at.words a i has_a some less;
+      same_set = copied.copied.others Cset (λ never. never) ∙ at_index.same_set;
+      tops = λ asked_region. ⊎_elim
+          (λ (copied_to : asked_region ≡ copied.region). subst (λ that_region. tops_outside region_words set (λ region. copied_out config turn_memory o (Top region)) that_region ≡ tops_after_copies config memory set objects (suc index) that_region) (sym copied_to) top_here)
+          (λ (other_region : asked_region ≢ copied.region). top_elsewhere asked_region other_region)
+          (cases_eq asked_region copied.region);
+      words = λ object offset has_a positive offset_below.
+          copied.copied.elsewhere (object + offset) (never_begins object o offset has_a has positive offset_below) (never_overwritten object offset has_a offset_below) ∙ at_index.words object offset has_a positive offset_below;
     }
 
   at_turn : (index : ℕ) → index ≤ length objects → AreAt index (now index)
-  at_turn zero most = at_first
-  at_turn (suc index) most =
-      let inside : index < length objects = omega (arith, most) in
-      subst (AreAt (suc index)) (sym (now_next index)) (at_next index (now index) inside (at_turn index (omega (arith, most))))
+  at_turn zero turn_inside = at_first
+  at_turn (suc index) turn_inside =
+      let index_inside : index < length objects = omega (arith, turn_inside) in
+      subst (AreAt (suc index)) (sym (now_next index)) (at_next index (now index) index_inside (at_turn index (omega (arith, turn_inside))))
 
   pub copied_at_turn : (index : ℕ) → index < length objects → IsCopiedOut config (now index) (now (index + 1)) (get_or objects index 0)
-  copied_at_turn index inside =
-      let next : suc index ≡ index + 1 = omega arith in
-      let copied_next = subst (λ after. IsCopiedOut config (now index) after (get_or objects index 0)) (sym (now_next index)) (copied index (now index) inside (at_turn index (omega (arith, inside)))) in
-      subst (λ j. IsCopiedOut config (now index) (now j) (get_or objects index 0)) next copied_next
+  copied_at_turn index index_inside =
+      let next_index : suc index ≡ index + 1 = omega arith in
+      let copied_next = subst (λ after. IsCopiedOut config (now index) after (get_or objects index 0)) (sym (now_next index)) (copied index (now index) index_inside (at_turn index (omega (arith, index_inside)))) in
+      subst (λ turn. IsCopiedOut config (now index) (now turn) (get_or objects index 0)) next_index copied_next
 
 pub each_is_copied : EachIsCopied
-each_is_copied c memory objects empty lie set_is to_copy turn inside = copied_at_turn c memory objects empty lie set_is to_copy turn inside
+each_is_copied config memory objects empty lie_apart set_is to_copy turn turn_inside = copied_at_turn config memory objects empty lie_apart set_is to_copy turn turn_inside

@@ -17,104 +17,104 @@ use Rattle.cycle_words.specs.Evacuation.Copied.{copy_room, top_address, copied_w
 use Rattle.cycle_words.proofs.Evacuation.RegionAddresses.{some_words, of_its_region, regions_apart}
 
 -- a region with room is outside the set, since one of the set counts as full
-pub outside_with_room : (region_words set : ℕ) (top : ℕ → ℕ) (r n : ℕ) → 0 < n → tops_outside region_words set top r + n ≤ region_words → IsOutside set r
-outside_with_room region_words set top r n positive room = ⊎_elim
-    (λ (member : bit_at set r ≡ 1).
-    let full : tops_outside region_words set top r ≡ region_words = cond-true (bit_at set r == 1) region_words (top r) (eq-eqb (bit_at set r) 1 member) in
-    absurd (omega (arith, full, room, positive)))
-    (λ (other : bit_at set r ≢ 1). omega (arith, other, bit_at-lt set r))
-    (cases_eq (bit_at set r) 1)
+pub outside_with_room : (region_words set : ℕ) (top : ℕ → ℕ) (region words_wanted : ℕ) → 0 < words_wanted → tops_outside region_words set top region + words_wanted ≤ region_words → IsOutside set region
+outside_with_room region_words set top region words_wanted words_positive room_left = ⊎_elim
+    (λ (region_in_set : bit_at set region ≡ 1).
+    let counts_full : tops_outside region_words set top region ≡ region_words = cond-true (bit_at set region == 1) region_words (top region) (eq-eqb (bit_at set region) 1 region_in_set) in
+    absurd (omega (arith, counts_full, room_left, words_positive)))
+    (λ (outside : bit_at set region ≢ 1). omega (arith, outside, bit_at-lt set region))
+    (cases_eq (bit_at set region) 1)
 
 -- the top of a region outside is the region's own
-pub own_top : (region_words set : ℕ) (top : ℕ → ℕ) (r : ℕ) → IsOutside set r → tops_outside region_words set top r ≡ top r
-own_top region_words set top r outside = cond-false (bit_at set r == 1) region_words (top r) (ne_eqb (bit_at set r) 1 (λ member. omega (arith, member, outside)))
+pub own_top : (region_words set : ℕ) (top : ℕ → ℕ) (region : ℕ) → IsOutside set region → tops_outside region_words set top region ≡ top region
+own_top region_words set top region outside = cond-false (bit_at set region == 1) region_words (top region) (ne_eqb (bit_at set region) 1 (λ member. omega (arith, member, outside)))
 
 -- the words of the copy, and those before and behind it
-module _ (heap : ℕ → ℕ) (from to words : ℕ) where
-  word_of_copy : (k : ℕ) → 0 < k → k < words → copied_word heap from to words (to + k) ≡ heap (from + k)
-  word_of_copy k positive below =
-      let back : to + k - to ≡ k = omega arith in
-      cond-false (to == to + k) plain_header _ (ne_eqb to (to + k) (λ same. omega (arith, same, positive)))
-      ∙ cond-true (nat_lt to (to + k) && nat_lt (to + k) (to + words)) (heap (from + (to + k - to))) (heap (to + k))
-      (and_from (nat_lt to (to + k)) (nat_lt (to + k) (to + words)) (lt-ltb to (to + k) (omega (arith, positive))) (lt-ltb (to + k) (to + words) (omega (arith, below))))
-      ∙ ap (λ i. heap (from + i)) back
+module _ (heap : ℕ → ℕ) (from copy words : ℕ) where
+  word_of_copy : (offset : ℕ) → 0 < offset → offset < words → copied_word heap from copy words (copy + offset) ≡ heap (from + offset)
+  word_of_copy offset offset_positive offset_below =
+      let offset_back : copy + offset - copy ≡ offset = omega arith in
+      cond-false (copy == copy + offset) plain_header _ (ne_eqb copy (copy + offset) (λ same_address. omega (arith, same_address, offset_positive)))
+      ∙ cond-true (nat_lt copy (copy + offset) && nat_lt (copy + offset) (copy + words)) (heap (from + (copy + offset - copy))) (heap (copy + offset))
+      (and_from (nat_lt copy (copy + offset)) (nat_lt (copy + offset) (copy + words)) (lt-ltb copy (copy + offset) (omega (arith, offset_positive))) (lt-ltb (copy + offset) (copy + words) (omega (arith, offset_below))))
+      ∙ ap (λ asked_offset. heap (from + asked_offset)) offset_back
 
-  word_elsewhere : (address : ℕ) → 0 < words → (address < to) ⊎ (to + words ≤ address) → copied_word heap from to words address ≡ heap address
-  word_elsewhere address positive apart = ⊎_elim
-      (λ (before : address < to).
-      cond-false (to == address) plain_header _ (ne_eqb to address (λ same. omega (arith, same, before)))
-      ∙ cond-false (nat_lt to address && nat_lt address (to + words)) (heap (from + (address - to))) (heap address) (and_left (nat_lt to address) (nat_lt address (to + words)) (le-ltb to address (omega (arith, before)))))
-      (λ (behind : to + words ≤ address).
-      cond-false (to == address) plain_header _ (ne_eqb to address (λ same. omega (arith, same, behind, positive)))
-      ∙ cond-false (nat_lt to address && nat_lt address (to + words)) (heap (from + (address - to))) (heap address) (and_right (nat_lt to address) (nat_lt address (to + words)) (le-ltb address (to + words) behind)))
-      apart
+  word_elsewhere : (address : ℕ) → 0 < words → (address < copy) ⊎ (copy + words ≤ address) → copied_word heap from copy words address ≡ heap address
+  word_elsewhere address words_positive outside_copy = ⊎_elim
+      (λ (address_before : address < copy).
+      cond-false (copy == address) plain_header _ (ne_eqb copy address (λ same_address. omega (arith, same_address, address_before)))
+      ∙ cond-false (nat_lt copy address && nat_lt address (copy + words)) (heap (from + (address - copy))) (heap address) (and_left (nat_lt copy address) (nat_lt address (copy + words)) (le-ltb copy address (omega (arith, address_before)))))
+      (λ (behind_copy : copy + words ≤ address).
+      cond-false (copy == address) plain_header _ (ne_eqb copy address (λ same_address. omega (arith, same_address, behind_copy, words_positive)))
+      ∙ cond-false (nat_lt copy address && nat_lt address (copy + words)) (heap (from + (address - copy))) (heap address) (and_right (nat_lt copy address) (nat_lt address (copy + words)) (le-ltb address (copy + words) behind_copy)))
+      outside_copy
 
-module _ (config : Config) (memory : Word → ℕ) (other_address region : ℕ) where
+module _ (config : Config) (memory : Word → ℕ) (source region : ℕ) where
   abbrev to : ℕ
   to = top_address config memory region
 
   abbrev words : ℕ
-  words = words_at memory other_address
+  words = words_at memory source
 
-  heap_after : (address : ℕ) → address ≢ other_address → copied_to config memory other_address region (Heap address) ≡ copied_word (λ address. memory (Heap address)) other_address to words address
+  heap_after : (address : ℕ) → address ≢ source → copied_to config memory source region (Heap address) ≡ copied_word (λ address. memory (Heap address)) source to words address
   unfolding copied_to
-  heap_after address other = cond-false (other_address == address) (header_word to) _ (ne_eqb other_address address (λ same. other (sym same)))
+  heap_after address other_word = cond-false (source == address) (header_word to) _ (ne_eqb source address (λ same_address. other_word (sym same_address)))
 
-  pub others_stay : (word : Word) → (MayChange word → ⊥) → copied_to config memory other_address region word ≡ memory word
+  pub others_stay : (word : Word) → (MayChange word → ⊥) → copied_to config memory source region word ≡ memory word
   unfolding copied_to
-  others_stay (Heap address) stays = absurd (stays tt)
-  others_stay (Top q) stays = absurd (stays tt)
-  others_stay Free stays = absurd (stays tt)
-  others_stay word stays = refl
+  others_stay (Heap address) word_stays = absurd (word_stays tt)
+  others_stay (Top asked_region) word_stays = absurd (word_stays tt)
+  others_stay Free word_stays = absurd (word_stays tt)
+  others_stay word word_stays = refl
 
-  module _ (apart : (other_address < to) ⊎ (to + words ≤ other_address)) (inside : region < config.regions) where
-    pub is_copied_to : IsCopiedTo config memory (copied_to config memory other_address region) other_address region
+  module _ (source_apart : (source < to) ⊎ (to + words ≤ source)) (region_inside : region < config.regions) where
+    pub is_copied_to : IsCopiedTo config memory (copied_to config memory source region) source region
     unfolding copied_to
     is_copied_to =
-        let some : 0 < words = omega arith in
-        let small : region < 64 = (let range = config.in_range in omega (arith, range.most_regions, inside)) in
-        let never_old : (k : ℕ) → k < words → to + k ≢ other_address = λ k below same. ⊎_elim (λ (before : other_address < to). omega (arith, same, before)) (λ (behind : to + words ≤ other_address). omega (arith, same, behind, below)) apart in
+        let has_words : 0 < words = omega arith in
+        let region_small : region < 64 = (let range = config.in_range in omega (arith, range.most_regions, region_inside)) in
+        let never_old : (offset : ℕ) → offset < words → to + offset ≢ source = λ offset offset_below same_address. ⊎_elim (λ (source_before : source < to). omega (arith, same_address, source_before)) (λ (behind_copy : to + words ≤ source). omega (arith, same_address, behind_copy, offset_below)) source_apart in
         record {
-          header = (let plain : to + 0 ≡ to = omega arith in heap_after to (λ same. never_old 0 some (plain ∙ same)) ∙ cond-true (to == to) plain_header _ (eq-eqb to to refl));
-          words = λ k positive below. heap_after (to + k) (never_old k below) ∙ word_of_copy (λ address. memory (Heap address)) other_address to words k positive below;
-          forwarded = cond-true (other_address == other_address) (header_word to) _ (eq-eqb other_address other_address refl);
-          elsewhere = λ address other outside. heap_after address other ∙ word_elsewhere (λ address. memory (Heap address)) other_address to words address some outside;
+          header = (let plain_sum : to + 0 ≡ to = omega arith in heap_after to (λ same_address. never_old 0 has_words (plain_sum ∙ same_address)) ∙ cond-true (to == to) plain_header _ (eq-eqb to to refl));
+          words = λ offset positive offset_below. heap_after (to + offset) (never_old offset offset_below) ∙ word_of_copy (λ address. memory (Heap address)) source to words offset positive offset_below;
+          forwarded = cond-true (source == source) (header_word to) _ (eq-eqb source source refl);
+          elsewhere = λ address unlike outside. heap_after address unlike ∙ word_elsewhere (λ address. memory (Heap address)) source to words address has_words outside;
           top = cond-true (region == region) (memory (Top region) + words) (memory (Top region)) (eq-eqb region region refl);
-          other_tops = λ other_region other. cond-false (region == other_region) (memory (Top region) + words) (memory (Top other_region)) (ne_eqb region other_region (λ same. other (sym same)));
-          in_use = bit_at_clear_same w64 (memory Free) region small;
-          others_free = λ other_region below other. bit_at_clear_other w64 (memory Free) region small other_region (let range = config.in_range in omega (arith, range.most_regions, below)) other;
+          other_tops = λ asked_region unlike. cond-false (region == asked_region) (memory (Top region) + words) (memory (Top asked_region)) (ne_eqb region asked_region (λ same_address. unlike (sym same_address)));
+          in_use = bit_at_clear_same w64 (memory Free) region region_small;
+          others_free = λ asked_region offset_below unlike. bit_at_clear_other w64 (memory Free) region region_small asked_region (let range = config.in_range in omega (arith, range.most_regions, offset_below)) unlike;
           others = others_stay;
         }
 
 -- copying by the region that was found
 pub copied_as : (config : Config) (memory : Word → ℕ) (address region : ℕ) → copy_room config memory address ≡ Some region → copied_out config memory address ≡ copied_to config memory address region
-copied_as config memory address region found = ap (copied_in config memory address) found
+copied_as config memory address region region_found = ap (copied_in config memory address) region_found
 
 pub copying_copies : (config : Config) (memory : Word → ℕ) (address region : ℕ) → config.region_words ≤ address → IsIn (memory Cset) (region_with config address) → copy_room config memory address ≡ Some region
     → IsCopiedOut config memory (copied_out config memory address) address
-copying_copies config memory address region above member found =
+copying_copies config memory address region address_above region_in_set region_found =
     let region_words = config.region_words in
-    let here : address + 0 ≡ address = omega arith in
-    let below : address % region_words + 0 < region_words = omega (arith, mod_below address region_words (some_words config)) in
-    let lowest = has_room region_words (tops_outside region_words (memory Cset) (λ region. memory (Top region))) (words_at memory address) config.regions region found in
+    let set_member : address + 0 ≡ address = omega arith in
+    let inside_region : address % region_words + 0 < region_words = omega (arith, mod_below address region_words (some_words config)) in
+    let lowest = has_room region_words (tops_outside region_words (memory Cset) (λ region. memory (Top region))) (words_at memory address) config.regions region region_found in
     let outside : IsOutside (memory Cset) region = outside_with_room region_words (memory Cset) (λ region. memory (Top region)) region (words_at memory address) (omega arith) lowest.room in
-    let own = own_top region_words (memory Cset) (λ region. memory (Top region)) region outside in
-    let room : memory (Top region) + words_at memory address ≤ region_words = omega (arith, lowest.room, own) in
-    let differ : region_with config address ≢ region = λ same. (let here : bit_at (memory Cset) region ≡ 1 = subst (IsIn (memory Cset)) same member in omega (arith, here, outside)) in
-    let apart = regions_apart config (region_with config address) region address (top_address config memory region) (words_at memory address) differ (subst (IsOf config (region_with config address)) here (of_its_region config address 0 above below)) (omega arith) (omega (arith, room)) in
+    let own_tops = own_top region_words (memory Cset) (λ region. memory (Top region)) region outside in
+    let words_fit : memory (Top region) + words_at memory address ≤ region_words = omega (arith, lowest.room, own_tops) in
+    let differ : region_with config address ≢ region = λ same_region. (let set_member : bit_at (memory Cset) region ≡ 1 = subst (IsIn (memory Cset)) same_region region_in_set in omega (arith, set_member, outside)) in
+    let regions_differ = regions_apart config (region_with config address) region address (top_address config memory region) (words_at memory address) differ (subst (IsOf config (region_with config address)) set_member (of_its_region config address 0 address_above inside_region)) (omega arith) (omega (arith, words_fit)) in
     record {
       region = region;
-      found = found;
+      found = region_found;
       below = lowest.below;
       outside = outside;
-      room = room;
-      copied = subst (λ after. IsCopiedTo config memory after address region) (sym (copied_as config memory address region found)) (is_copied_to config memory address region apart lowest.below);
+      room = words_fit;
+      copied = subst (λ after. IsCopiedTo config memory after address region) (sym (copied_as config memory address region region_found)) (is_copied_to config memory address region regions_differ lowest.below);
     }
 
 -- copying copies, where there is room
 pub copies_out : (config : Config) (memory : Word → ℕ) (address : ℕ) → config.region_words ≤ address → IsCollected config (memory Cset) address → copy_room config memory address ≢ None → IsCopiedOut config memory (copied_out config memory address) address
-copies_out config memory address above inside room = by_room (copy_room config memory address) refl
+copies_out config memory address address_above address_collected some_room = by_room (copy_room config memory address) refl
   where
     by_room : (found : Option ℕ) → copy_room config memory address ≡ found → IsCopiedOut config memory (copied_out config memory address) address
-    by_room None none = absurd (room none)
-    by_room (Some r) found = copying_copies config memory address r above inside found
+    by_room None room_search = absurd (some_room room_search)
+    by_room (Some region) found = copying_copies config memory address region address_above address_collected found

@@ -18,21 +18,21 @@ use Rattle.cycle_words.specs.Evacuation.Copied.{copy_room, top_address, copied_w
 use Rattle.cycle_words.specs.Evacuation.Begun.{IsNaming, is_collected, moved_out, cleared_at}
 
 -- a header that was written reads back
-pub header_forwarded : (to : ℕ) → is_forwarded (header_word to) ≡ true
-header_forwarded to = eq-eqb ((4 * to + 3) % 4) 3 (omega arith)
+pub header_forwarded : (copy : ℕ) → is_forwarded (header_word copy) ≡ true
+header_forwarded copy = eq-eqb ((4 * copy + 3) % 4) 3 (omega arith)
 
 -- it is not that of words that only fill
-pub forwarded_fills : (to : ℕ) → is_filler (header_word to) ≡ false
-forwarded_fills to = ne_eqb ((4 * to + 3) % 4) 2 (omega arith)
+pub forwarded_fills : (copy : ℕ) → is_filler (header_word copy) ≡ false
+forwarded_fills copy = ne_eqb ((4 * copy + 3) % 4) 2 (omega arith)
 
-header_names : (to : ℕ) → forwardee_in (header_word to) ≡ to
-header_names to = omega arith
+header_names : (copy : ℕ) → forwardee_in (header_word copy) ≡ copy
+header_names copy = omega arith
 
 -- where the header names a copy, that is the current one
-pub now_is : (memory : Word → ℕ) (address to : ℕ) → memory (Heap address) ≡ header_word to → now_in memory address ≡ to
-now_is memory address to header =
-    cond-true (is_forwarded (memory (Heap address))) (forwardee_in (memory (Heap address))) address (ap is_forwarded header ∙ header_forwarded to)
-    ∙ ap forwardee_in header ∙ header_names to
+pub now_is : (memory : Word → ℕ) (address copy : ℕ) → memory (Heap address) ≡ header_word copy → now_in memory address ≡ copy
+now_is memory address copy header_known =
+    cond-true (is_forwarded (memory (Heap address))) (forwardee_in (memory (Heap address))) address (ap is_forwarded header_known ∙ header_forwarded copy)
+    ∙ ap forwardee_in header_known ∙ header_names copy
 
 -- what is outside of the set is not collected
 pub not_collected : (config : Config) (memory : Word → ℕ) (address : ℕ) → IsOutside (memory Cset) (region_with config address) → is_collected config memory address ≡ false
@@ -44,46 +44,46 @@ abbrev heap_of : (Word → ℕ) → ℕ → ℕ
 heap_of memory address = memory (Heap address)
 
 -- copying goes by the words that name no objects
-module _ (config : Config) (memory other_memory : Word → ℕ) (address : ℕ) (same : (word : Word) → (IsNaming word → ⊥) → memory word ≡ other_memory word) where
-  same_words_at : words_at memory address ≡ words_at other_memory address
-  same_words_at = ap object_words (same (Heap (address + 1)) (λ never. never))
+module _ (config : Config) (memory second_memory : Word → ℕ) (address : ℕ) (same_words : (word : Word) → (IsNaming word → ⊥) → memory word ≡ second_memory word) where
+  same_words_at : words_at memory address ≡ words_at second_memory address
+  same_words_at = ap object_words (same_words (Heap (address + 1)) (λ never. never))
 
-  same_heap : heap_of memory ≡ heap_of other_memory
-  same_heap = fun_ext (λ address. same (Heap address) (λ never. never))
+  same_heap : heap_of memory ≡ heap_of second_memory
+  same_heap = fun_ext (λ address. same_words (Heap address) (λ never. never))
 
-  pub same_copy_room : copy_room config memory address ≡ copy_room config other_memory address
+  pub same_copy_room : copy_room config memory address ≡ copy_room config second_memory address
   same_copy_room =
-      ap (λ set. lowest_room config.region_words (tops_outside config.region_words set (λ region. memory (Top region))) (words_at memory address) config.regions) (same Cset (λ never. never))
-      ∙ ap (λ (top : ℕ → ℕ). lowest_room config.region_words (tops_outside config.region_words (other_memory Cset) top) (words_at memory address) config.regions) (fun_ext (λ region. same (Top region) (λ never. never)))
-      ∙ ap (λ words. lowest_room config.region_words (tops_outside config.region_words (other_memory Cset) (λ region. other_memory (Top region))) words config.regions) same_words_at
+      ap (λ some_set. lowest_room config.region_words (tops_outside config.region_words some_set (λ region. memory (Top region))) (words_at memory address) config.regions) (same_words Cset (λ never. never))
+      ∙ ap (λ (top : ℕ → ℕ). lowest_room config.region_words (tops_outside config.region_words (second_memory Cset) top) (words_at memory address) config.regions) (fun_ext (λ region. same_words (Top region) (λ never. never)))
+      ∙ ap (λ words. lowest_room config.region_words (tops_outside config.region_words (second_memory Cset) (λ region. second_memory (Top region))) words config.regions) same_words_at
 
-  same_copied_to : (region : ℕ) (word : Word) → (IsNaming word → ⊥) → copied_to config memory address region word ≡ copied_to config other_memory address region word
+  same_copied_to : (region : ℕ) (word : Word) → (IsNaming word → ⊥) → copied_to config memory address region word ≡ copied_to config second_memory address region word
   unfolding copied_to
-  same_copied_to region (Heap other_address) other =
-      ap (λ t. if address == other_address then header_word (base_of config region + t) else copied_word (λ address. memory (Heap address)) address (base_of config region + t) (words_at memory address) other_address) (same (Top region) (λ never. never))
-      ∙ ap (λ (heap : ℕ → ℕ). if address == other_address then header_word (top_address config other_memory region) else copied_word heap address (top_address config other_memory region) (words_at memory address) other_address) same_heap
-      ∙ ap (λ words. if address == other_address then header_word (top_address config other_memory region) else copied_word (λ address. other_memory (Heap address)) address (top_address config other_memory region) words other_address) same_words_at
-  same_copied_to region (Top other_region) other =
-      ap (λ t. if region == other_region then t + words_at memory address else memory (Top other_region)) (same (Top region) (λ never. never))
-      ∙ ap (λ k. if region == other_region then other_memory (Top region) + k else memory (Top other_region)) same_words_at
-      ∙ ap (λ t. if region == other_region then other_memory (Top region) + words_at other_memory address else t) (same (Top other_region) (λ never. never))
-  same_copied_to region Free other = ap (λ free. bit_and free (all_but region)) (same Free (λ never. never))
-  same_copied_to region word other = same word other
+  same_copied_to region (Heap asked_address) names_nothing =
+      ap (λ top. if address == asked_address then header_word (base_of config region + top) else copied_word (λ address. memory (Heap address)) address (base_of config region + top) (words_at memory address) asked_address) (same_words (Top region) (λ never. never))
+      ∙ ap (λ (heap : ℕ → ℕ). if address == asked_address then header_word (top_address config second_memory region) else copied_word heap address (top_address config second_memory region) (words_at memory address) asked_address) same_heap
+      ∙ ap (λ words. if address == asked_address then header_word (top_address config second_memory region) else copied_word (λ address. second_memory (Heap address)) address (top_address config second_memory region) words asked_address) same_words_at
+  same_copied_to region (Top asked_region) names_nothing =
+      ap (λ top. if region == asked_region then top + words_at memory address else memory (Top asked_region)) (same_words (Top region) (λ never. never))
+      ∙ ap (λ size. if region == asked_region then second_memory (Top region) + size else memory (Top asked_region)) same_words_at
+      ∙ ap (λ top. if region == asked_region then second_memory (Top region) + words_at second_memory address else top) (same_words (Top asked_region) (λ never. never))
+  same_copied_to region Free names_nothing = ap (λ free_bits. bit_and free_bits (all_but region)) (same_words Free (λ never. never))
+  same_copied_to region word names_nothing = same_words word names_nothing
 
-  same_copied_in : (found : Option ℕ) (word : Word) → (IsNaming word → ⊥) → copied_in config memory address found word ≡ copied_in config other_memory address found word
-  same_copied_in None word other = same word other
-  same_copied_in (Some region) word other = same_copied_to region word other
+  same_copied_in : (found : Option ℕ) (word : Word) → (IsNaming word → ⊥) → copied_in config memory address found word ≡ copied_in config second_memory address found word
+  same_copied_in None word names_nothing = same_words word names_nothing
+  same_copied_in (Some region) word names_nothing = same_copied_to region word names_nothing
 
-  pub same_copied_out : (word : Word) → (IsNaming word → ⊥) → copied_out config memory address word ≡ copied_out config other_memory address word
-  same_copied_out word other = same_copied_in (copy_room config memory address) word other ∙ ap (λ o. copied_in config other_memory address o word) same_copy_room
+  pub same_copied_out : (word : Word) → (IsNaming word → ⊥) → copied_out config memory address word ≡ copied_out config second_memory address word
+  same_copied_out word names_nothing = same_copied_in (copy_room config memory address) word names_nothing ∙ ap (λ room. copied_in config second_memory address room word) same_copy_room
 
 -- copies of the first objects of a longer list
-pub copied_front : (config : Config) (memory : Word → ℕ) (objects more : List ℕ) (index : ℕ) → index ≤ length objects → copied_by config memory (objects ++ more) index ≡ copied_by config memory objects index
+pub copied_front : (config : Config) (memory : Word → ℕ) (objects later_objects : List ℕ) (index : ℕ) → index ≤ length objects → copied_by config memory (objects ++ later_objects) index ≡ copied_by config memory objects index
 unfolding copied_by
-copied_front config memory objects more zero below = refl
-copied_front config memory objects more (suc index) below =
-    ap (λ a. copied_out config (copied_by config memory (objects ++ more) index) a) (get_or_append_left objects more 0 index (omega (arith, below)))
-    ∙ ap (λ n. copied_out config n (get_or objects index 0)) (copied_front config memory objects more index (omega (arith, below)))
+copied_front config memory objects later_objects zero index_inside = refl
+copied_front config memory objects later_objects (suc index) index_inside =
+    ap (λ object. copied_out config (copied_by config memory (objects ++ later_objects) index) object) (get_or_append_left objects later_objects 0 index (omega (arith, index_inside)))
+    ∙ ap (λ some_memory. copied_out config some_memory (get_or objects index 0)) (copied_front config memory objects later_objects index (omega (arith, index_inside)))
 
 pub copied_next : (config : Config) (memory : Word → ℕ) (objects : List ℕ) (index : ℕ) → copied_by config memory objects (suc index) ≡ copied_out config (copied_by config memory objects index) (get_or objects index 0)
 unfolding copied_by
@@ -93,8 +93,8 @@ copied_next config memory objects index = refl
 pub cleared_is : (config : Config) (memory : Word → ℕ) (place : Word) → is_collected config memory (memory place) ≡ true
     → cleared_at config memory place ≡ write (moved_out config memory (memory place)) place (now_in (moved_out config memory (memory place)) (memory place))
 unfolding cleared_at
-cleared_is config memory place is = fun_ext (λ word. cond-true (is_collected config memory (memory place)) (write (moved_out config memory (memory place)) place (now_in (moved_out config memory (memory place)) (memory place)) word) (memory word) is)
+cleared_is config memory place place_collected = fun_ext (λ word. cond-true (is_collected config memory (memory place)) (write (moved_out config memory (memory place)) place (now_in (moved_out config memory (memory place)) (memory place)) word) (memory word) place_collected)
 
 pub spared_is : (config : Config) (memory : Word → ℕ) (place : Word) → is_collected config memory (memory place) ≡ false → cleared_at config memory place ≡ memory
 unfolding cleared_at
-spared_is config memory place is = fun_ext (λ word. cond-false (is_collected config memory (memory place)) (write (moved_out config memory (memory place)) place (now_in (moved_out config memory (memory place)) (memory place)) word) (memory word) is)
+spared_is config memory place place_spared = fun_ext (λ word. cond-false (is_collected config memory (memory place)) (write (moved_out config memory (memory place)) place (now_in (moved_out config memory (memory place)) (memory place)) word) (memory word) place_spared)

@@ -13,8 +13,8 @@ use Rattle.cycle_words.proofs.Evacuation.ClearedHolds.{begun_collecting}
 
 -- what is freed keeps its order
 floor_left : (holds : Bool) (low high : ℕ) → low ≤ high → cond holds 0 low ≤ cond holds 0 high
-floor_left true low high less = omega arith
-floor_left false low high less = less
+floor_left true low high low_less = omega arith
+floor_left false low high low_less = low_less
 
 -- nothing rises where regions are freed
 lower : (holds : Bool) (x : ℕ) → cond holds 0 x ≤ x
@@ -22,17 +22,17 @@ lower true x = omega arith
 lower false x = omega arith
 
 pub evacuation_collects : EvacuationCollects
-evacuation_collects c m block owner p g holds sized marking seats =
-    begun_collecting c (final_marked c m) (freed_block c (dead_in c m) block) (freed_owner (dead_in c m) owner) p g (ended_holds c m block owner p g holds marking seats) marking.uncollected
-    (can_begin c m block owner p g holds marking seats)
-    (sized_alike m (final_marked c m) (freed_block c (dead_in c m) block) (λ a. refl) (freed_sized c (dead_in c m) m block sized))
-    (ended_through c m block owner p g holds marking seats) (marked_object c m block owner p g holds marking seats)
-    (λ region below. floor_left (dead_in c m region) (m (Tams region)) (m (Top region)) (let same = (marking.marked.marking refl).tams_are region below in let low = marking.marked.floors region below in omega (arith, same, low)))
-    (λ a seat x is room.
-    let was = piece_was c (dead_in c m) block a x is in
-    let at = below_top c (λ region. m (Top region)) block holds.objects.plotted a x was.1 (holds.pieces.some a x was.1) in
-    let young = (marking.marked.marking refl).young a seat x was.1 room in
-    let same = (marking.marked.marking refl).tams_are (region_with c a) at.0 in
-    let low = lower (dead_in c m (region_with c a)) (m (Tams (region_with c a))) in
-    omega (arith, young, same, low))
+evacuation_collects config memory block owner promises graph graph_held sized marking seats =
+    begun_collecting config (final_marked config memory) (freed_block config (dead_in config memory) block) (freed_owner (dead_in config memory) owner) promises graph (ended_holds config memory block owner promises graph graph_held marking seats) marking.uncollected
+    (can_begin config memory block owner promises graph graph_held marking seats)
+    (sized_alike memory (final_marked config memory) (freed_block config (dead_in config memory) block) (λ address. refl) (freed_sized config (dead_in config memory) memory block sized))
+    (ended_through config memory block owner promises graph graph_held marking seats) (marked_object config memory block owner promises graph graph_held marking seats)
+    (λ region region_below. floor_left (dead_in config memory region) (memory (Tams region)) (memory (Top region)) (let same_tams = (marking.marked.marking refl).tams_are region region_below in let floor_low = marking.marked.floors region region_below in omega (arith, same_tams, floor_low)))
+    (λ address seat piece has_piece room.
+    let piece_before = piece_was config (dead_in config memory) block address piece has_piece in
+    let top_above = below_top config (λ region. memory (Top region)) block graph_held.objects.plotted address piece piece_before.1 (graph_held.pieces.some address piece piece_before.1) in
+    let young = (marking.marked.marking refl).young address seat piece piece_before.1 room in
+    let same_tams = (marking.marked.marking refl).tams_are (region_with config address) top_above.0 in
+    let floor_low = lower (dead_in config memory (region_with config address)) (memory (Tams (region_with config address))) in
+    omega (arith, young, same_tams, floor_low))
     seats

@@ -11,14 +11,14 @@ use Rattle.cycle_words.proofs.Evacuation.Sums.{sum_at_most, picked_at_most}
 use Rattle.cycle_words.proofs.Evacuation.Order.{before_told, before_is, before_through, one_before, IsLast, last_or_none}
 
 -- two digits of which both are 1 or none is
-same_digit : (m n : ℕ) → m < 2 → n < 2 → (m ≡ 1 → n ≡ 1) → (n ≡ 1 → m ≡ 1) → m ≡ n
-same_digit m n low small to back = ⊎_elim
-    (λ (is : m ≡ 1). let there = to is in omega (arith, is, there))
-    (λ (other : m ≡ 1 → ⊥). ⊎_elim
-    (λ (is : n ≡ 1). absurd (other (back is)))
-    (λ (neither : n ≡ 1 → ⊥). omega (arith, low, small, other, neither))
-    (cases_eq n 1))
-    (cases_eq m 1)
+same_digit : (first_digit second_digit : ℕ) → first_digit < 2 → second_digit < 2 → (first_digit ≡ 1 → second_digit ≡ 1) → (second_digit ≡ 1 → first_digit ≡ 1) → first_digit ≡ second_digit
+same_digit first_digit second_digit first_low second_low to_second to_first = ⊎_elim
+    (λ (is_one : first_digit ≡ 1). let second_one = to_second is_one in omega (arith, is_one, second_one))
+    (λ (not_one : first_digit ≡ 1 → ⊥). ⊎_elim
+    (λ (is_one : second_digit ≡ 1). absurd (not_one (to_first is_one)))
+    (λ (neither : second_digit ≡ 1 → ⊥). omega (arith, first_low, second_low, not_one, neither))
+    (cases_eq second_digit 1))
+    (cases_eq first_digit 1)
 
 module _ (regions limit : ℕ) (live : ℕ → ℕ) (candidate : ℕ → Bool) where
   abbrev front : ℕ
@@ -32,107 +32,107 @@ module _ (regions limit : ℕ) (live : ℕ → ℕ) (candidate : ℕ → Bool) w
 
   -- a region counts among those up to another
   abbrev counts : ℕ → ℕ → Bool
-  counts r region = candidate region && not (comes_before live r region)
+  counts last_region region = candidate region && not (comes_before live last_region region)
 
   -- a candidate counts unless the other comes before it
-  counted : (r region : ℕ) → candidate region ≡ true → (ComesBefore live r region → ⊥) → counts r region ≡ true
-  counted r region is not_behind =
-      and_from (candidate region) (not (comes_before live r region)) is
-      (not_from_false (comes_before live r region) (false_from_ne_true (comes_before live r region) (λ behind. not_behind (before_is live r region behind))))
+  counted : (last_region region : ℕ) → candidate region ≡ true → (ComesBefore live last_region region → ⊥) → counts last_region region ≡ true
+  counted last_region region is_candidate not_behind =
+      and_from (candidate region) (not (comes_before live last_region region)) is_candidate
+      (not_from_false (comes_before live last_region region) (false_from_ne_true (comes_before live last_region region) (λ region_behind. not_behind (before_is live last_region region region_behind))))
 
-  counted_is : (r region : ℕ) → counts r region ≡ true → (candidate region ≡ true) × (ComesBefore live r region → ⊥)
-  counted_is r region is =
-      let parts = and_parts (candidate region) (not (comes_before live r region)) is in
-      (parts.0, λ behind. both_ways (comes_before live r region) (not-true (comes_before live r region) parts.1) (before_told live r region behind))
+  counted_is : (last_region region : ℕ) → counts last_region region ≡ true → (candidate region ≡ true) × (ComesBefore live last_region region → ⊥)
+  counted_is last_region region counting =
+      let both_tests = and_parts (candidate region) (not (comes_before live last_region region)) counting in
+      (both_tests.0, λ region_behind. both_ways (comes_before live last_region region) (not-true (comes_before live last_region region) both_tests.1) (before_told live last_region region region_behind))
 
   -- up to a later one lives as much or more
-  up_to_grows : (q r : ℕ) → ComesBefore live q r → up_to q ≤ up_to r
-  up_to_grows q r before =
-      sum_at_most (λ k. if counts q k then live k else 0) (λ k. if counts r k then live k else 0) regions
-      (λ region _. picked_at_most (counts q region) (counts r region) (live region) (λ is.
-      let was = counted_is q region is in
-      counted r region was.0 (λ behind. was.1 (before_through live q r region before behind))))
+  up_to_grows : (earlier_region later_region : ℕ) → ComesBefore live earlier_region later_region → up_to earlier_region ≤ up_to later_region
+  up_to_grows earlier_region later_region before =
+      sum_at_most (λ counted_region. if counts earlier_region counted_region then live counted_region else 0) (λ counted_region. if counts later_region counted_region then live counted_region else 0) regions
+      (λ region _. picked_at_most (counts earlier_region region) (counts later_region region) (live region) (λ counting.
+      let was_counted = counted_is earlier_region region counting in
+      counted later_region region was_counted.0 (λ region_behind. was_counted.1 (before_through live earlier_region later_region region before region_behind))))
 
   -- the members of the front
   pub put_in_front : (region : ℕ) → region < regions → in_front region ≡ true → IsIn front region
-  put_in_front region below is =
-      let plain : 0 + region ≡ region = omega arith in
-      bits_at in_front 0 regions region below ∙ ap (λ k. one (in_front k)) plain ∙ ap one is
+  put_in_front region region_below test_passed =
+      let plain_sum : 0 + region ≡ region = omega arith in
+      bits_at in_front 0 regions region region_below ∙ ap (λ number. one (in_front number)) plain_sum ∙ ap one test_passed
 
   pub from_front : (region : ℕ) → IsIn front region → (region < regions) × (in_front region ≡ true)
-  from_front region is = ⊎_elim
-      (λ (below : region < regions).
-      let plain : 0 + region ≡ region = omega arith in
-      (below, told (in_front region) (sym (ap (λ k. one (in_front k)) plain) ∙ sym (bits_at in_front 0 regions region below) ∙ is)))
-      (λ (above : regions ≤ region). absurd (omega (arith, is, bit_at_above front regions region (bits_small in_front 0 regions) above)))
+  from_front region is_member = ⊎_elim
+      (λ (region_below : region < regions).
+      let plain_sum : 0 + region ≡ region = omega arith in
+      (region_below, told (in_front region) (sym (ap (λ number. one (in_front number)) plain_sum) ∙ sym (bits_at in_front 0 regions region region_below) ∙ is_member)))
+      (λ (region_above : regions ≤ region). absurd (omega (arith, is_member, bit_at_above front regions region (bits_small in_front 0 regions) region_above)))
       (cases_lt region regions)
     where
       told : (holds : Bool) → one holds ≡ 1 → holds ≡ true
-      told true same = refl
-      told false same = absurd (omega (arith, same))
+      told true is_one = refl
+      told false is_one = absurd (omega (arith, is_one))
 
   -- a member of the front is a candidate up to which all fits
   pub member_is : (region : ℕ) → IsIn front region → (region < regions) × (candidate region ≡ true) × (up_to region ≤ limit)
-  member_is region is =
-      let there = from_front region is in
-      let parts = and_parts (candidate region) (nat_le (up_to region) limit) there.1 in
-      (there.0, parts.0, leb-true (up_to region) limit parts.1)
+  member_is region is_member =
+      let front_facts = from_front region is_member in
+      let both_tests = and_parts (candidate region) (nat_le (up_to region) limit) front_facts.1 in
+      (front_facts.0, both_tests.0, leb-true (up_to region) limit both_tests.1)
 
   member_from : (region : ℕ) → region < regions → candidate region ≡ true → up_to region ≤ limit → IsIn front region
-  member_from region below is fits = put_in_front region below (and_from (candidate region) (nat_le (up_to region) limit) is (le-leb (up_to region) limit fits))
+  member_from region region_below is_candidate live_fits = put_in_front region region_below (and_from (candidate region) (nat_le (up_to region) limit) is_candidate (le-leb (up_to region) limit live_fits))
 
   -- what lives in the front is what lives up to its last member
   front_fits : live_in regions live front ≤ limit
   front_fits = ⊎_elim
-      (λ (none : (k : ℕ) → k < regions → in_front k ≡ false).
-      let empty = sum_of_none (λ k. if bit_at front k == 1 then live k else 0) regions
-      (λ k below. cond-false (bit_at front k == 1) (live k) 0
-      (ne_eqb (bit_at front k) 1 (λ is. both_ways (in_front k) (none k below) (from_front k is).1))) in
+      (λ (none_in_front : (asked_region : ℕ) → asked_region < regions → in_front asked_region ≡ false).
+      let empty = sum_of_none (λ asked_region. if bit_at front asked_region == 1 then live asked_region else 0) regions
+      (λ asked_region region_below. cond-false (bit_at front asked_region == 1) (live asked_region) 0
+      (ne_eqb (bit_at front asked_region) 1 (λ is_member. both_ways (in_front asked_region) (none_in_front asked_region region_below) (from_front asked_region is_member).1))) in
       omega (arith, empty))
-      (λ (found : (m : ℕ) × IsLast live in_front regions m).
-      let m = found.0 in
-      let most = sum_at_most (λ k. if bit_at front k == 1 then live k else 0) (λ k. if counts m k then live k else 0) regions
-      (λ region below. picked_at_most (bit_at front region == 1) (counts m region) (live region) (λ is.
-      let there = from_front region (eqb-true (bit_at front region) 1 is) in
-      counted m region (and_parts (candidate region) (nat_le (up_to region) limit) there.1).0 (λ behind. found.1.last region below there.1 behind))) in
-      let within = leb-true (up_to m) limit (and_parts (candidate m) (nat_le (up_to m) limit) found.1.is).1 in
-      omega (arith, most, within))
+      (λ (last_found : (last_region : ℕ) × IsLast live in_front regions last_region).
+      let last_region = last_found.0 in
+      let sum_bound = sum_at_most (λ asked_region. if bit_at front asked_region == 1 then live asked_region else 0) (λ asked_region. if counts last_region asked_region then live asked_region else 0) regions
+      (λ region region_below. picked_at_most (bit_at front region == 1) (counts last_region region) (live region) (λ is_member.
+      let front_facts = from_front region (eqb-true (bit_at front region) 1 is_member) in
+      counted last_region region (and_parts (candidate region) (nat_le (up_to region) limit) front_facts.1).0 (λ region_behind. last_found.1.last region region_below front_facts.1 region_behind))) in
+      let live_within = leb-true (up_to last_region) limit (and_parts (candidate last_region) (nat_le (up_to last_region) limit) last_found.1.is).1 in
+      omega (arith, sum_bound, live_within))
       (last_or_none live in_front regions)
 
   pub front_is : IsFront regions limit live candidate front
   front_is = record {
     in_heap = bits_small in_front 0 regions;
-    candidates = λ region is. (member_is region is).1;
-    from_front = λ q r below is before member.
-        member_from q below is (let grows = up_to_grows q r before in let fits = (member_is r member).2 in omega (arith, grows, fits));
+    candidates = λ region is_picked. (member_is region is_picked).1;
+    from_front = λ earlier_region later_region region_below is_picked before member.
+        member_from earlier_region region_below is_picked (let grows = up_to_grows earlier_region later_region before in let live_fits = (member_is later_region member).2 in omega (arith, grows, live_fits));
     fits = front_fits;
   }
 
   -- each member of a front lies in the longest one: the front has all that counts up to it
-  pub longest : (other : ℕ) → IsFront regions limit live candidate other → (region : ℕ) → IsIn other region → IsIn front region
-  longest other is region member = ⊎_elim
-      (λ (below : region < regions).
-      let least = sum_at_most (λ k. if counts region k then live k else 0) (λ k. if bit_at other k == 1 then live k else 0) regions
-      (λ other_region inside. picked_at_most (counts region other_region) (bit_at other other_region == 1) (live other_region) (λ counts_here.
-      let was = counted_is region other_region counts_here in
-      eq-eqb (bit_at other other_region) 1 (⊎_elim
-      (λ (same : region ≡ other_region). subst (IsIn other) same member)
-      (λ (order : ComesBefore live region other_region ⊎ ComesBefore live other_region region). ⊎_elim
-      (λ (behind : ComesBefore live region other_region). absurd (was.1 behind))
-      (λ (ahead : ComesBefore live other_region region). is.from_front other_region region inside was.0 ahead member)
+  pub longest : (other_front : ℕ) → IsFront regions limit live candidate other_front → (region : ℕ) → IsIn other_front region → IsIn front region
+  longest other_front front_given region region_in_front = ⊎_elim
+      (λ (region_below : region < regions).
+      let sum_bound = sum_at_most (λ counted_region. if counts region counted_region then live counted_region else 0) (λ counted_region. if bit_at other_front counted_region == 1 then live counted_region else 0) regions
+      (λ earlier_region inside. picked_at_most (counts region earlier_region) (bit_at other_front earlier_region == 1) (live earlier_region) (λ counts_here.
+      let was_counted = counted_is region earlier_region counts_here in
+      eq-eqb (bit_at other_front earlier_region) 1 (⊎_elim
+      (λ (same_region : region ≡ earlier_region). subst (IsIn other_front) same_region region_in_front)
+      (λ (order : ComesBefore live region earlier_region ⊎ ComesBefore live earlier_region region). ⊎_elim
+      (λ (comes_first : ComesBefore live region earlier_region). absurd (was_counted.1 comes_first))
+      (λ (ahead : ComesBefore live earlier_region region). front_given.from_front earlier_region region inside was_counted.0 ahead region_in_front)
       order)
-      (one_before live region other_region)))) in
-      member_from region below (is.candidates region member) (omega (arith, least, is.fits)))
-      (λ (above : regions ≤ region). absurd (omega (arith, member, bit_at_above other regions region is.in_heap above)))
+      (one_before live region earlier_region)))) in
+      member_from region region_below (front_given.candidates region region_in_front) (omega (arith, sum_bound, front_given.fits)))
+      (λ (region_above : regions ≤ region). absurd (omega (arith, region_in_front, bit_at_above other_front regions region front_given.in_heap region_above)))
       (cases_lt region regions)
 
   pub front_is_longest : IsLongestFront regions limit live candidate front
   front_is_longest = record { front = front_is; longest = longest }
 
   -- there is no other
-  pub only_front : (set : ℕ) → IsLongestFront regions limit live candidate set → set ≡ front
-  only_front set is =
-      same_from_bits_below regions set front is.front.in_heap front_is.in_heap (λ r below.
-      let to : bit_at set r ≡ 1 → bit_at front r ≡ 1 = longest set is.front r in
-      let back : bit_at front r ≡ 1 → bit_at set r ≡ 1 = is.longest front front_is r in
-      same_digit (bit_at set r) (bit_at front r) (bit_at-lt set r) (bit_at-lt front r) to back)
+  pub only_front : (longest_set : ℕ) → IsLongestFront regions limit live candidate longest_set → longest_set ≡ front
+  only_front longest_set set_is_longest =
+      same_from_bits_below regions longest_set front set_is_longest.front.in_heap front_is.in_heap (λ member_region region_below.
+      let to_front : bit_at longest_set member_region ≡ 1 → bit_at front member_region ≡ 1 = longest longest_set set_is_longest.front member_region in
+      let to_set : bit_at front member_region ≡ 1 → bit_at longest_set member_region ≡ 1 = set_is_longest.longest front front_is member_region in
+      same_digit (bit_at longest_set member_region) (bit_at front member_region) (bit_at-lt longest_set member_region) (bit_at-lt front member_region) to_front to_set)

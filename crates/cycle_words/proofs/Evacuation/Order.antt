@@ -4,129 +4,129 @@ use Rattle.std.proofs.lemmas.Bool.{or_cases, or_left, or_right, and_parts, and_f
 use Rattle.cycle_words.specs.Evacuation.Front.{ComesBefore, comes_before}
 
 module _ (live : ℕ → ℕ) where
-  pub before_told : (q r : ℕ) → ComesBefore live q r → comes_before live q r ≡ true
-  before_told q r is = ⊎_elim
-      (λ (less : live q < live r). or_left (nat_lt (live q) (live r)) ((live q == live r) && nat_lt q r) (lt-ltb (live q) (live r) less))
-      (λ (same : (live q ≡ live r) × (q < r)).
-      or_right (nat_lt (live q) (live r)) ((live q == live r) && nat_lt q r) (and_from (live q == live r) (nat_lt q r) (eq-eqb (live q) (live r) same.0) (lt-ltb q r same.1)))
-      is
+  pub before_told : (earlier later : ℕ) → ComesBefore live earlier later → comes_before live earlier later ≡ true
+  before_told earlier later before = ⊎_elim
+      (λ (less_live : live earlier < live later). or_left (nat_lt (live earlier) (live later)) ((live earlier == live later) && nat_lt earlier later) (lt-ltb (live earlier) (live later) less_live))
+      (λ (same_live : (live earlier ≡ live later) × (earlier < later)).
+      or_right (nat_lt (live earlier) (live later)) ((live earlier == live later) && nat_lt earlier later) (and_from (live earlier == live later) (nat_lt earlier later) (eq-eqb (live earlier) (live later) same_live.0) (lt-ltb earlier later same_live.1)))
+      before
 
-  pub before_is : (q r : ℕ) → comes_before live q r ≡ true → ComesBefore live q r
-  before_is q r is = ⊎_elim
-      (λ (less : nat_lt (live q) (live r) ≡ true). inl (ltb-true (live q) (live r) less))
-      (λ (same : ((live q == live r) && nat_lt q r) ≡ true).
-      let parts = and_parts (live q == live r) (nat_lt q r) same in
-      inr (eqb-true (live q) (live r) parts.0, ltb-true q r parts.1))
-      (or_cases (nat_lt (live q) (live r)) ((live q == live r) && nat_lt q r) is)
+  pub before_is : (earlier later : ℕ) → comes_before live earlier later ≡ true → ComesBefore live earlier later
+  before_is earlier later order_told = ⊎_elim
+      (λ (less_live : nat_lt (live earlier) (live later) ≡ true). inl (ltb-true (live earlier) (live later) less_live))
+      (λ (same_live : ((live earlier == live later) && nat_lt earlier later) ≡ true).
+      let tie_parts = and_parts (live earlier == live later) (nat_lt earlier later) same_live in
+      inr (eqb-true (live earlier) (live later) tie_parts.0, ltb-true earlier later tie_parts.1))
+      (or_cases (nat_lt (live earlier) (live later)) ((live earlier == live later) && nat_lt earlier later) order_told)
 
   -- no region comes before itself
-  pub not_itself : (r : ℕ) → ComesBefore live r r → ⊥
-  not_itself r is = ⊎_elim (λ (less : live r < live r). omega (arith, less)) (λ (same : (live r ≡ live r) × (r < r)). omega (arith, same.1)) is
+  pub not_itself : (region : ℕ) → ComesBefore live region region → ⊥
+  not_itself region before = ⊎_elim (λ (less_live : live region < live region). omega (arith, less_live)) (λ (same_live : (live region ≡ live region) × (region < region)). omega (arith, same_live.1)) before
 
   -- what comes before one that comes before a third comes before that
-  pub before_through : (p q r : ℕ) → ComesBefore live p q → ComesBefore live q r → ComesBefore live p r
-  before_through p q r first second = ⊎_elim
-      (λ (less : live p < live q). ⊎_elim
-      (λ (more : live q < live r). inl (omega (arith, less, more)))
-      (λ (same : (live q ≡ live r) × (q < r)). inl (omega (arith, less, same.0)))
+  pub before_through : (earliest middle latest : ℕ) → ComesBefore live earliest middle → ComesBefore live middle latest → ComesBefore live earliest latest
+  before_through earliest middle latest first_before second = ⊎_elim
+      (λ (first_less : live earliest < live middle). ⊎_elim
+      (λ (second_less : live middle < live latest). inl (omega (arith, first_less, second_less)))
+      (λ (same_live : (live middle ≡ live latest) × (middle < latest)). inl (omega (arith, first_less, same_live.0)))
       second)
-      (λ (same : (live p ≡ live q) × (p < q)). ⊎_elim
-      (λ (more : live q < live r). inl (omega (arith, same.0, more)))
-      (λ (also : (live q ≡ live r) × (q < r)). inr (omega (arith, same.0, also.0), omega (arith, same.1, also.1)))
+      (λ (same_live : (live earliest ≡ live middle) × (earliest < middle)). ⊎_elim
+      (λ (second_less : live middle < live latest). inl (omega (arith, same_live.0, second_less)))
+      (λ (also : (live middle ≡ live latest) × (middle < latest)). inr (omega (arith, same_live.0, also.0), omega (arith, same_live.1, also.1)))
       second)
-      first
+      first_before
 
   -- of two regions one comes before
-  pub one_before : (q r : ℕ) → (q ≡ r) ⊎ (ComesBefore live q r ⊎ ComesBefore live r q)
-  one_before q r = ⊎_elim
-      (λ (same : live q ≡ live r). ⊎_elim
-      (λ (one : q ≡ r). inl one)
-      (λ (apart : (q < r) ⊎ (r < q)). ⊎_elim
-      (λ (lower : q < r). inr (inl (inr (same, lower))))
-      (λ (higher : r < q). inr (inr (inr (sym same, higher))))
-      apart)
-      (cases_order q r))
-      (λ (differs : (live q < live r) ⊎ (live r < live q)). ⊎_elim
-      (λ (less : live q < live r). inr (inl (inl less)))
-      (λ (more : live r < live q). inr (inr (inl more)))
-      differs)
-      (cases_order (live q) (live r))
+  pub one_before : (one_region other_region : ℕ) → (one_region ≡ other_region) ⊎ (ComesBefore live one_region other_region ⊎ ComesBefore live other_region one_region)
+  one_before one_region other_region = ⊎_elim
+      (λ (same_live : live one_region ≡ live other_region). ⊎_elim
+      (λ (same_region : one_region ≡ other_region). inl same_region)
+      (λ (numbers_apart : (one_region < other_region) ⊎ (other_region < one_region)). ⊎_elim
+      (λ (lower : one_region < other_region). inr (inl (inr (same_live, lower))))
+      (λ (higher : other_region < one_region). inr (inr (inr (sym same_live, higher))))
+      numbers_apart)
+      (cases_order one_region other_region))
+      (λ (counts_differ : (live one_region < live other_region) ⊎ (live other_region < live one_region)). ⊎_elim
+      (λ (less_live : live one_region < live other_region). inr (inl (inl less_live)))
+      (λ (more_live : live other_region < live one_region). inr (inr (inl more_live)))
+      counts_differ)
+      (cases_order (live one_region) (live other_region))
 
   -- of the regions below a number that a test picks, one comes before no other
-  pub record IsLast (test : ℕ → Bool) (n m : ℕ) : Type 0 where
-    pub below : m < n
-    pub is : test m ≡ true
-    pub last : (k : ℕ) → k < n → test k ≡ true → ComesBefore live m k → ⊥
+  pub record IsLast (test : ℕ → Bool) (n picked_number : ℕ) : Type 0 where
+    pub below : picked_number < n
+    pub is : test picked_number ≡ true
+    pub last : (asked_number : ℕ) → asked_number < n → test asked_number ≡ true → ComesBefore live picked_number asked_number → ⊥
 
   abbrev IsNone : (ℕ → Bool) → ℕ → Type 0
-  IsNone test n = (k : ℕ) → k < n → test k ≡ false
+  IsNone test n = (asked_number : ℕ) → asked_number < n → test asked_number ≡ false
 
   -- one number more that the test does not pick
-  last_as_before : (test : ℕ → Bool) (n m : ℕ) → IsLast test n m → test n ≡ false → IsLast test (suc n) m
-  last_as_before test n m old unpicked = record {
+  last_as_before : (test : ℕ → Bool) (n last_number : ℕ) → IsLast test n last_number → test n ≡ false → IsLast test (suc n) last_number
+  last_as_before test n last_number old unpicked = record {
     below = omega (arith, old.below);
     is = old.is;
-    last = λ k below is before. ⊎_elim
-        (λ (here : k ≡ n). both_ways (test k) (ap test here ∙ unpicked) is)
-        (λ (other : k ≡ n → ⊥). old.last k (omega (arith, below, other)) is before)
-        (cases_eq k n);
+    last = λ other_number number_below is_picked number_before. ⊎_elim
+        (λ (at_new : other_number ≡ n). both_ways (test other_number) (ap test at_new ∙ unpicked) is_picked)
+        (λ (not_new : other_number ≡ n → ⊥). old.last other_number (omega (arith, number_below, not_new)) is_picked number_before)
+        (cases_eq other_number n);
   }
 
   -- one that it picks, and which is the first of all, or comes behind the last one
-  last_of_more : (test : ℕ → Bool) (n m : ℕ) → IsLast test n m → test n ≡ true → (ComesBefore live m n ⊎ ComesBefore live n m) → (q : ℕ) × IsLast test (suc n) q
-  last_of_more test n m old is order = ⊎_elim
-      (λ (behind : ComesBefore live m n). (
+  last_of_more : (test : ℕ → Bool) (n old_last : ℕ) → IsLast test n old_last → test n ≡ true → (ComesBefore live old_last n ⊎ ComesBefore live n old_last) → (new_last : ℕ) × IsLast test (suc n) new_last
+  last_of_more test n old_last old new_picked order = ⊎_elim
+      (λ (comes_behind : ComesBefore live old_last n). (
         n,
         record {
           below = omega arith;
-          is = is;
-          last = λ k below picked before. ⊎_elim
-              (λ (here : k ≡ n). not_itself n (subst (ComesBefore live n) here before))
-              (λ (other : k ≡ n → ⊥). old.last k (omega (arith, below, other)) picked (before_through m n k behind before))
-              (cases_eq k n);
+          is = new_picked;
+          last = λ other_number number_below picked number_before. ⊎_elim
+              (λ (at_new : other_number ≡ n). not_itself n (subst (ComesBefore live n) at_new number_before))
+              (λ (not_new : other_number ≡ n → ⊥). old.last other_number (omega (arith, number_below, not_new)) picked (before_through old_last n other_number comes_behind number_before))
+              (cases_eq other_number n);
         },
       ))
-      (λ (ahead : ComesBefore live n m). (
-        m,
+      (λ (ahead : ComesBefore live n old_last). (
+        old_last,
         record {
           below = omega (arith, old.below);
           is = old.is;
-          last = λ k below picked before. ⊎_elim
-              (λ (here : k ≡ n). not_itself m (before_through m n m (subst (ComesBefore live m) here before) ahead))
-              (λ (other : k ≡ n → ⊥). old.last k (omega (arith, below, other)) picked before)
-              (cases_eq k n);
+          last = λ other_number number_below picked number_before. ⊎_elim
+              (λ (at_new : other_number ≡ n). not_itself old_last (before_through old_last n old_last (subst (ComesBefore live old_last) at_new number_before) ahead))
+              (λ (not_new : other_number ≡ n → ⊥). old.last other_number (omega (arith, number_below, not_new)) picked number_before)
+              (cases_eq other_number n);
         },
       ))
       order
 
   -- the only one
   last_alone : (test : ℕ → Bool) (n : ℕ) → IsNone test n → test n ≡ true → IsLast test (suc n) n
-  last_alone test n none is = record {
+  last_alone test n none_picked new_picked = record {
     below = omega arith;
-    is = is;
-    last = λ k below picked before. ⊎_elim
-        (λ (here : k ≡ n). not_itself n (subst (ComesBefore live n) here before))
-        (λ (other : k ≡ n → ⊥). both_ways (test k) (none k (omega (arith, below, other))) picked)
-        (cases_eq k n);
+    is = new_picked;
+    last = λ other_number number_below picked number_before. ⊎_elim
+        (λ (at_new : other_number ≡ n). not_itself n (subst (ComesBefore live n) at_new number_before))
+        (λ (not_new : other_number ≡ n → ⊥). both_ways (test other_number) (none_picked other_number (omega (arith, number_below, not_new))) picked)
+        (cases_eq other_number n);
   }
 
   none_more : (test : ℕ → Bool) (n : ℕ) → IsNone test n → test n ≡ false → IsNone test (suc n)
-  none_more test n none unpicked k below = ⊎_elim
-      (λ (here : k ≡ n). ap test here ∙ unpicked)
-      (λ (other : k ≡ n → ⊥). none k (omega (arith, below, other)))
-      (cases_eq k n)
+  none_more test n none_picked unpicked asked_number number_below = ⊎_elim
+      (λ (at_new : asked_number ≡ n). ap test at_new ∙ unpicked)
+      (λ (not_new : asked_number ≡ n → ⊥). none_picked asked_number (omega (arith, number_below, not_new)))
+      (cases_eq asked_number n)
 
-  pub last_or_none : (test : ℕ → Bool) (n : ℕ) → ((k : ℕ) → k < n → test k ≡ false) ⊎ ((m : ℕ) × IsLast test n m)
-  last_or_none test zero = inl (λ k below. absurd (omega (arith, below)))
+  pub last_or_none : (test : ℕ → Bool) (n : ℕ) → ((number : ℕ) → number < n → test number ≡ false) ⊎ ((last_number : ℕ) × IsLast test n last_number)
+  last_or_none test zero = inl (λ number number_below. absurd (omega (arith, number_below)))
   last_or_none test (suc n) = ⊎_elim
-      (λ (none : IsNone test n). ⊎_elim
-      (λ (is : test n ≡ true). inr (n, last_alone test n none is))
-      (λ (unpicked : test n ≡ false). inl (none_more test n none unpicked))
+      (λ (none_picked : IsNone test n). ⊎_elim
+      (λ (new_picked : test n ≡ true). inr (n, last_alone test n none_picked new_picked))
+      (λ (unpicked : test n ≡ false). inl (none_more test n none_picked unpicked))
       (cases_Bool (test n)))
-      (λ (old : (m : ℕ) × IsLast test n m). ⊎_elim
-      (λ (is : test n ≡ true). ⊎_elim
-      (λ (same : old.0 ≡ n). absurd (omega (arith, same, old.1.below)))
-      (λ (order : ComesBefore live old.0 n ⊎ ComesBefore live n old.0). inr (last_of_more test n old.0 old.1 is order))
+      (λ (old : (last_number : ℕ) × IsLast test n last_number). ⊎_elim
+      (λ (new_picked : test n ≡ true). ⊎_elim
+      (λ (same_number : old.0 ≡ n). absurd (omega (arith, same_number, old.1.below)))
+      (λ (order : ComesBefore live old.0 n ⊎ ComesBefore live n old.0). inr (last_of_more test n old.0 old.1 new_picked order))
       (one_before old.0 n))
       (λ (unpicked : test n ≡ false). inr (old.0, last_as_before test n old.0 old.1 unpicked))
       (cases_Bool (test n)))

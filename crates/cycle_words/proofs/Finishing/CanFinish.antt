@@ -24,40 +24,40 @@ use Rattle.cycle_words.proofs.Finishing.CopiesHold.{IsCopiedSoFar, all_copied_ho
 
 module _ (config : Config) (owner : ℕ → Option ℕ) (promises : Promises) (graph : Graph) where
   one_can : (memory : Word → ℕ) (block : Plot) (so_far : IsCopiedSoFar config memory block owner promises graph) (address : ℕ) → is_left config memory address ≡ true → CanCopyOut config memory address
-  one_can memory block so_far address left =
-      let piece = copies.piece config owner promises graph memory block so_far address left in
-      object_can_be_copied config memory block owner promises graph so_far.holds so_far.sized address piece (copies.inside config owner promises graph memory block so_far address left)
+  one_can memory block so_far address left_over =
+      let piece = copies.piece config owner promises graph memory block so_far address left_over in
+      object_can_be_copied config memory block owner promises graph so_far.holds so_far.sized address piece (copies.inside config owner promises graph memory block so_far address left_over)
 
   -- address by address
   all_can : (addresses : ℕ) (memory : Word → ℕ) (block : Plot) (address : ℕ) → IsCopiedSoFar config memory block owner promises graph → CanCopyFrom config memory address addresses
   unfolding CanCopyFrom
   all_can zero memory block address so_far = tt
   all_can (suc addresses) memory block address so_far = (
-    λ left. (
-      one_can memory block so_far address left,
-      λ room. all_can addresses (copied_out config memory address) (copies.more config owner promises graph memory block so_far address left room) (address + 1) (copies.one_copied config owner promises graph memory block so_far address left room),
+    λ left_over. (
+      one_can memory block so_far address left_over,
+      λ room. all_can addresses (copied_out config memory address) (copies.more config owner promises graph memory block so_far address left_over room) (address + 1) (copies.one_copied config owner promises graph memory block so_far address left_over room),
     ),
-    λ other. all_can addresses memory block (address + 1) so_far,
+    λ not_left. all_can addresses memory block (address + 1) so_far,
   )
 
 pub collecting_can_finish : CollectingCanFinish
-collecting_can_finish c m block owner p g holds sized seats while small =
-    let after = has_let_go c m block owner p g holds seats in
-    let first : IsCopiedSoFar c (let_go c m) after.plot owner p g = record {
+collecting_can_finish given_config given_memory block owner given_promises given_graph holds sized seats collecting small =
+    let after = has_let_go given_config given_memory block owner given_promises given_graph holds seats in
+    let copied_first : IsCopiedSoFar given_config (let_go given_config given_memory) after.plot owner given_promises given_graph = record {
       holds = after.left.holds;
-      sized = loosened_sized c m (let_go c m) block after.plot owner p g holds after.left.loosened sized;
-      marked = (let_go_collecting c m block owner p g holds while seats).marked;
+      sized = loosened_sized given_config given_memory (let_go given_config given_memory) block after.plot owner given_promises given_graph holds after.left.loosened sized;
+      marked = (let_go_collecting given_config given_memory block owner given_promises given_graph holds collecting seats).marked;
     } in
-    let all = all_copied_hold c owner p g (let_go c m) after.plot first in
-    let none : HasNoRoom all.0 = none_have_room c (all_copied c (let_go c m)) all.0 owner p g all.2.holds
-    (λ seat. all_copied_other c (let_go c m) (Current seat) (λ never. never) ∙ let_go_seats c m block owner p g holds seats seat) in
-    let few : all_copied c (let_go c m) Cset < 2 ^ c.regions =
-    subst (λ k. k < 2 ^ c.regions) (sym (all_copied_set c (let_go c m) ∙ after.left.loosened.others Cset refl)) small in
+    let copied_all = all_copied_hold given_config owner given_promises given_graph (let_go given_config given_memory) after.plot copied_first in
+    let no_room_left : HasNoRoom copied_all.0 = none_have_room given_config (all_copied given_config (let_go given_config given_memory)) copied_all.0 owner given_promises given_graph copied_all.2.holds
+    (λ seat. all_copied_other given_config (let_go given_config given_memory) (Current seat) (λ never. never) ∙ let_go_seats given_config given_memory block owner given_promises given_graph holds seats seat) in
+    let few : all_copied given_config (let_go given_config given_memory) Cset < 2 ^ given_config.regions =
+    subst (λ set. set < 2 ^ given_config.regions) (sym (all_copied_set given_config (let_go given_config given_memory) ∙ after.left.loosened.others Cset refl)) small in
     record {
-      buffers = buffers_inside c m block holds.objects.plotted holds.buffers;
-      copies = λ at. all_can c owner p g (c.regions * c.region_words) (let_go c m) after.plot c.region_words first;
-      updates = λ room. references_can_be_updated c (all_copied c (let_go c m)) all.0 owner p g all.2.holds all.2.sized none few;
-      frees = λ room. set_can_be_left c (all_updated c (all_copied c (let_go c m))) all.0 owner p g
-          (updated_holds c (all_copied c (let_go c m)) all.0 owner p g all.2.holds all.2.sized none)
-          (updated_sized c (all_copied c (let_go c m)) all.0 owner p g all.2.holds all.2.sized none) none few;
+      buffers = buffers_inside given_config given_memory block holds.objects.plotted holds.buffers;
+      copies = λ start_address. all_can given_config owner given_promises given_graph (given_config.regions * given_config.region_words) (let_go given_config given_memory) after.plot given_config.region_words copied_first;
+      updates = λ room. references_can_be_updated given_config (all_copied given_config (let_go given_config given_memory)) copied_all.0 owner given_promises given_graph copied_all.2.holds copied_all.2.sized no_room_left few;
+      frees = λ room. set_can_be_left given_config (all_updated given_config (all_copied given_config (let_go given_config given_memory))) copied_all.0 owner given_promises given_graph
+          (updated_holds given_config (all_copied given_config (let_go given_config given_memory)) copied_all.0 owner given_promises given_graph copied_all.2.holds copied_all.2.sized no_room_left)
+          (updated_sized given_config (all_copied given_config (let_go given_config given_memory)) copied_all.0 owner given_promises given_graph copied_all.2.holds copied_all.2.sized no_room_left) no_room_left few;
     }

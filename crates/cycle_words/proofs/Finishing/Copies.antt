@@ -1,4 +1,5 @@
 -- Copying all that is left, address by address.
+use Rattle.heap_words.specs.Phases.{evacuation_phase}
 use Rattle.std.proofs.Common.{◌≡◌, ◌≢◌, ℕ, ◌+◌, ◌*◌, ◌==◌, ◌&&◌, Bool, true, false, Option, Some, None, zero, suc, refl, sym, ap, ◌∙◌, ⊎_elim}
 use Rattle.std.specs.Prelude.{if◌then◌else◌}
 use Rattle.std.proofs.Math.Path.{fun_ext}
@@ -11,7 +12,7 @@ use Rattle.cycle_words.specs.Finishing.Copies.{is_left, is_found, has_copy_room,
 
 -- where there is room, a region has it
 pub room_found : (config : Config) (memory : Word → ℕ) (address : ℕ) → has_copy_room config memory address ≡ true → copy_room config memory address ≢ None
-room_found config memory address room none = true≢false (sym room ∙ ap is_found none)
+room_found config memory address room no_room = true≢false (sym room ∙ ap is_found no_room)
 
 module _ (config : Config) (memory : Word → ℕ) (address addresses : ℕ) where
   abbrev next : Word → ℕ
@@ -26,55 +27,55 @@ module _ (config : Config) (memory : Word → ℕ) (address addresses : ℕ) whe
 
   pub copied_next : is_left config memory address ≡ true → has_copy_room config memory address ≡ true → copied_from config memory address (suc addresses) ≡ copied_from config (copied_out config memory address) (address + 1) addresses
   unfolding copied_from
-  copied_next left room = fun_ext (λ word.
-      cond-true (is_left config memory address) (tried word) (copied_from config memory (address + 1) addresses word) left
+  copied_next object_left room = fun_ext (λ word.
+      cond-true (is_left config memory address) (tried word) (copied_from config memory (address + 1) addresses word) object_left
       ∙ cond-true (has_copy_room config memory address) (next word) (memory word) room)
 
   pub copied_stuck : is_left config memory address ≡ true → has_copy_room config memory address ≡ false → copied_from config memory address (suc addresses) ≡ memory
   unfolding copied_from
-  copied_stuck left full = fun_ext (λ word.
-      cond-true (is_left config memory address) (tried word) (copied_from config memory (address + 1) addresses word) left
-      ∙ cond-false (has_copy_room config memory address) (next word) (memory word) full)
+  copied_stuck object_left no_room = fun_ext (λ word.
+      cond-true (is_left config memory address) (tried word) (copied_from config memory (address + 1) addresses word) object_left
+      ∙ cond-false (has_copy_room config memory address) (next word) (memory word) no_room)
 
   pub copied_skips : is_left config memory address ≡ false → copied_from config memory address (suc addresses) ≡ copied_from config memory (address + 1) addresses
   unfolding copied_from
-  copied_skips other = fun_ext (λ word. cond-false (is_left config memory address) (tried word) (copied_from config memory (address + 1) addresses word) other)
+  copied_skips not_left = fun_ext (λ word. cond-false (is_left config memory address) (tried word) (copied_from config memory (address + 1) addresses word) not_left)
 
   abbrev room_next : Bool
   room_next = has_copy_room config memory address && is_room_from config (copied_out config memory address) (address + 1) addresses
 
   pub room_if : is_left config memory address ≡ true → is_room_from config memory address (suc addresses) ≡ true → (has_copy_room config memory address ≡ true) × (is_room_from config (copied_out config memory address) (address + 1) addresses ≡ true)
   unfolding is_room_from
-  room_if left room =
+  room_if object_left room =
       and_parts (has_copy_room config memory address) (is_room_from config (copied_out config memory address) (address + 1) addresses)
-      (sym (cond-true (is_left config memory address) room_next (is_room_from config memory (address + 1) addresses) left) ∙ room)
+      (sym (cond-true (is_left config memory address) room_next (is_room_from config memory (address + 1) addresses) object_left) ∙ room)
 
   pub room_skips : is_left config memory address ≡ false → is_room_from config memory address (suc addresses) ≡ true → is_room_from config memory (address + 1) addresses ≡ true
   unfolding is_room_from
-  room_skips other room = sym (cond-false (is_left config memory address) room_next (is_room_from config memory (address + 1) addresses) other) ∙ room
+  room_skips not_left room = sym (cond-false (is_left config memory address) room_next (is_room_from config memory (address + 1) addresses) not_left) ∙ room
 
 -- Words that copying does not change stay.
-copied_other : (config : Config) (memory : Word → ℕ) (a : ℕ) (found : Option ℕ) (word : Word) → (MayChange word → ⊥) → copied_in config memory a found word ≡ memory word
-copied_other config memory a None word stays = refl
-copied_other config memory a (Some r) word stays = others_stay config memory a r word stays
+copied_other : (config : Config) (memory : Word → ℕ) (address : ℕ) (found : Option ℕ) (word : Word) → (MayChange word → ⊥) → copied_in config memory address found word ≡ memory word
+copied_other config memory address None word stays = refl
+copied_other config memory address (Some region) word stays = others_stay config memory address region word stays
 
 other_from : (config : Config) (addresses : ℕ) (memory : Word → ℕ) (address : ℕ) (word : Word) → (MayChange word → ⊥) → copied_from config memory address addresses word ≡ memory word
 other_from config zero memory address word stays = ap (λ (memory : Word → ℕ). memory word) (copied_none config memory address 0)
 other_from config (suc addresses) memory address word stays = ⊎_elim
-    (λ (left : is_left config memory address ≡ true). ⊎_elim
+    (λ (object_left : is_left config memory address ≡ true). ⊎_elim
     (λ (room : has_copy_room config memory address ≡ true).
-    ap (λ (memory : Word → ℕ). memory word) (copied_next config memory address addresses left room) ∙ other_from config addresses (copied_out config memory address) (address + 1) word stays ∙ copied_other config memory address (copy_room config memory address) word stays)
-    (λ (none : has_copy_room config memory address ≡ false). ap (λ (memory : Word → ℕ). memory word) (copied_stuck config memory address addresses left none))
+    ap (λ (memory : Word → ℕ). memory word) (copied_next config memory address addresses object_left room) ∙ other_from config addresses (copied_out config memory address) (address + 1) word stays ∙ copied_other config memory address (copy_room config memory address) word stays)
+    (λ (no_room : has_copy_room config memory address ≡ false). ap (λ (memory : Word → ℕ). memory word) (copied_stuck config memory address addresses object_left no_room))
     (cases_Bool (has_copy_room config memory address)))
-    (λ (other : is_left config memory address ≡ false). ap (λ (memory : Word → ℕ). memory word) (copied_skips config memory address addresses other) ∙ other_from config addresses memory (address + 1) word stays)
+    (λ (not_left : is_left config memory address ≡ false). ap (λ (memory : Word → ℕ). memory word) (copied_skips config memory address addresses not_left) ∙ other_from config addresses memory (address + 1) word stays)
     (cases_Bool (is_left config memory address))
 
 pub all_copied_other : (config : Config) (memory : Word → ℕ) (word : Word) → (MayChange word → ⊥) → all_copied config memory word ≡ memory word
 all_copied_other config memory word stays = ⊎_elim
-    (λ (at : memory Phase ≡ 2).
-    cond-true (memory Phase == 2) (copied_from config memory config.region_words (config.regions * config.region_words) word) (memory word) (eq-eqb (memory Phase) 2 at)
+    (λ (evacuating : memory Phase ≡ evacuation_phase).
+    cond-true (memory Phase == evacuation_phase) (copied_from config memory config.region_words (config.regions * config.region_words) word) (memory word) (eq-eqb (memory Phase) 2 evacuating)
     ∙ other_from config (config.regions * config.region_words) memory config.region_words word stays)
-    (λ (off : memory Phase ≢ 2). cond-false (memory Phase == 2) (copied_from config memory config.region_words (config.regions * config.region_words) word) (memory word) (ne_eqb (memory Phase) 2 off))
+    (λ (not_evacuating : memory Phase ≢ evacuation_phase). cond-false (memory Phase == evacuation_phase) (copied_from config memory config.region_words (config.regions * config.region_words) word) (memory word) (ne_eqb (memory Phase) 2 not_evacuating))
     (cases_eq (memory Phase) 2)
 
 -- so does the collection set

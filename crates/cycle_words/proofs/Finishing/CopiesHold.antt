@@ -1,4 +1,5 @@
 -- All that is left of the collection set is copied out, or what finds room: words that held a graph hold it.
+use Rattle.heap_words.specs.Phases.{evacuation_phase}
 use Rattle.std.proofs.Common.{◌≡◌, ◌≢◌, ℕ, ◌+◌, ◌*◌, ◌≤◌, ◌==◌, ◌&&◌, nat_le, true, false, not, zero, suc, Option, sym, subst, ⊎_elim}
 use Rattle.std.specs.Int.{bit_at}
 use Rattle.std.proofs.Math.Path.{fun_ext}
@@ -32,11 +33,11 @@ pub record IsCopiedSoFar (config : Config) (memory : Word → ℕ) (plot : Plot)
 -- what is left is marked in a region that is not pinned, and has not moved
 pub left_parts : (config : Config) (memory : Word → ℕ) (address : ℕ) → is_left config memory address ≡ true
     → (is_collected config memory address ≡ true) × (is_pinned config memory (region_with config address) ≡ false) × (is_black config memory address ≡ true) × (is_forwarded (memory (Heap address)) ≡ false)
-left_parts config memory address left =
-    let three = and_parts (is_collected config memory address && not (is_pinned config memory (region_with config address)) && is_black config memory address) (not (is_forwarded (memory (Heap address)))) left in
-    let two = and_parts (is_collected config memory address && not (is_pinned config memory (region_with config address))) (is_black config memory address) three.0 in
-    let one = and_parts (is_collected config memory address) (not (is_pinned config memory (region_with config address))) two.0 in
-    (one.0, not-true (is_pinned config memory (region_with config address)) one.1, two.1, not-true (is_forwarded (memory (Heap address))) three.1)
+left_parts config memory address object_left =
+    let outer_parts = and_parts (is_collected config memory address && not (is_pinned config memory (region_with config address)) && is_black config memory address) (not (is_forwarded (memory (Heap address)))) object_left in
+    let middle_parts = and_parts (is_collected config memory address && not (is_pinned config memory (region_with config address))) (is_black config memory address) outer_parts.0 in
+    let inner_parts = and_parts (is_collected config memory address) (not (is_pinned config memory (region_with config address))) middle_parts.0 in
+    (inner_parts.0, not-true (is_pinned config memory (region_with config address)) inner_parts.1, middle_parts.1, not-true (is_forwarded (memory (Heap address))) outer_parts.1)
 
 -- and each such object is left
 pub is_left_if : (config : Config) (memory : Word → ℕ) (address : ℕ) → is_collected config memory address ≡ true → is_pinned config memory (region_with config address) ≡ false → is_black config memory address ≡ true → is_forwarded (memory (Heap address)) ≡ false
@@ -49,9 +50,9 @@ is_left_if config memory address collected unpinned black plain =
 
 module _ (config : Config) (owner : ℕ → Option ℕ) (promises : Promises) (graph : Graph) where
   -- An object is left, ..
-  module _ (memory : Word → ℕ) (block : Plot) (so_far : IsCopiedSoFar config memory block owner promises graph) (address : ℕ) (left : is_left config memory address ≡ true) where
+  module _ (memory : Word → ℕ) (block : Plot) (so_far : IsCopiedSoFar config memory block owner promises graph) (address : ℕ) (object_left : is_left config memory address ≡ true) where
     pub parts : (is_collected config memory address ≡ true) × (is_black config memory address ≡ true) × (is_forwarded (memory (Heap address)) ≡ false)
-    parts = let all = left_parts config memory address left in (all.0, all.2, all.3)
+    parts = let left_facts = left_parts config memory address object_left in (left_facts.0, left_facts.2, left_facts.3)
 
     pub above : config.region_words ≤ address
     above = leb-true config.region_words address (and_parts (nat_le config.region_words address) (bit_at (memory Cset) (region_with config address) == 1) parts.0).0
@@ -61,7 +62,7 @@ module _ (config : Config) (owner : ℕ → Option ℕ) (promises : Promises) (g
 
     -- no pin slot holds it
     pub unpinned : IsUnpinned config memory address
-    unpinned = unpinned_there config memory address above (left_parts config memory address left).1
+    unpinned = unpinned_there config memory address above (left_parts config memory address object_left).1
 
     pub piece : HasObject block address
     piece = so_far.marked address parts.0 parts.1
@@ -93,35 +94,35 @@ module _ (config : Config) (owner : ℕ → Option ℕ) (promises : Promises) (g
 
   -- address by address
   pub copies_hold : (addresses : ℕ) (memory : Word → ℕ) (block : Plot) (address : ℕ) → IsCopiedSoFar config memory block owner promises graph → (plot : Plot) × PiecesStay block plot × IsCopiedSoFar config (copied_from config memory address addresses) plot owner promises graph
-  copies_hold zero memory block address so_far = (block, λ q z is. is, subst (λ memory. IsCopiedSoFar config memory block owner promises graph) (sym (copied_none config memory address 0)) so_far)
+  copies_hold zero memory block address so_far = (block, λ any_address piece piece_there. piece_there, subst (λ memory. IsCopiedSoFar config memory block owner promises graph) (sym (copied_none config memory address 0)) so_far)
   copies_hold (suc addresses) memory block address so_far = ⊎_elim
-      (λ (left : is_left config memory address ≡ true). ⊎_elim
+      (λ (object_left : is_left config memory address ≡ true). ⊎_elim
       (λ (room : has_copy_room config memory address ≡ true).
-      let rest = copies_hold addresses (copied_out config memory address) (more memory block so_far address left room) (address + 1) (one_copied memory block so_far address left room) in
-      (rest.0, λ q z is. rest.1 q z (more_stay memory block so_far address left room q z is), subst (λ memory. IsCopiedSoFar config memory rest.0 owner promises graph) (sym (copied_next config memory address addresses left room)) rest.2))
-      (λ (none : has_copy_room config memory address ≡ false). (block, λ q z is. is, subst (λ memory. IsCopiedSoFar config memory block owner promises graph) (sym (copied_stuck config memory address addresses left none)) so_far))
+      let rest = copies_hold addresses (copied_out config memory address) (more memory block so_far address object_left room) (address + 1) (one_copied memory block so_far address object_left room) in
+      (rest.0, λ any_address piece piece_there. rest.1 any_address piece (more_stay memory block so_far address object_left room any_address piece piece_there), subst (λ memory. IsCopiedSoFar config memory rest.0 owner promises graph) (sym (copied_next config memory address addresses object_left room)) rest.2))
+      (λ (no_room : has_copy_room config memory address ≡ false). (block, λ any_address piece piece_there. piece_there, subst (λ memory. IsCopiedSoFar config memory block owner promises graph) (sym (copied_stuck config memory address addresses object_left no_room)) so_far))
       (cases_Bool (has_copy_room config memory address)))
-      (λ (other : is_left config memory address ≡ false).
+      (λ (not_left : is_left config memory address ≡ false).
       let rest = copies_hold addresses memory block (address + 1) so_far in
-      (rest.0, rest.1, subst (λ memory. IsCopiedSoFar config memory rest.0 owner promises graph) (sym (copied_skips config memory address addresses other)) rest.2))
+      (rest.0, rest.1, subst (λ memory. IsCopiedSoFar config memory rest.0 owner promises graph) (sym (copied_skips config memory address addresses not_left)) rest.2))
       (cases_Bool (is_left config memory address))
 
   -- only while objects are evacuated
   pub all_copied_hold : (memory : Word → ℕ) (block : Plot) → IsCopiedSoFar config memory block owner promises graph → (plot : Plot) × PiecesStay block plot × IsCopiedSoFar config (all_copied config memory) plot owner promises graph
   all_copied_hold memory block so_far = ⊎_elim
-      (λ (on : memory Phase ≡ 2).
-      let all = copies_hold (config.regions * config.region_words) memory block config.region_words so_far in
-      let same : copied_from config memory config.region_words (config.regions * config.region_words) ≡ all_copied config memory =
-      fun_ext (λ word. sym (cond-true (memory Phase == 2) (copied_from config memory config.region_words (config.regions * config.region_words) word) (memory word) (eq-eqb (memory Phase) 2 on))) in
-      (all.0, all.1, subst (λ memory. IsCopiedSoFar config memory all.0 owner promises graph) same all.2))
-      (λ (off : memory Phase ≢ 2).
-      let same : memory ≡ all_copied config memory =
-      fun_ext (λ word. sym (cond-false (memory Phase == 2) (copied_from config memory config.region_words (config.regions * config.region_words) word) (memory word) (ne_eqb (memory Phase) 2 off))) in
-      (block, λ q z is. is, subst (λ memory. IsCopiedSoFar config memory block owner promises graph) same so_far))
+      (λ (evacuating : memory Phase ≡ evacuation_phase).
+      let all_copies = copies_hold (config.regions * config.region_words) memory block config.region_words so_far in
+      let same_memory : copied_from config memory config.region_words (config.regions * config.region_words) ≡ all_copied config memory =
+      fun_ext (λ word. sym (cond-true (memory Phase == evacuation_phase) (copied_from config memory config.region_words (config.regions * config.region_words) word) (memory word) (eq-eqb (memory Phase) 2 evacuating))) in
+      (all_copies.0, all_copies.1, subst (λ memory. IsCopiedSoFar config memory all_copies.0 owner promises graph) same_memory all_copies.2))
+      (λ (not_evacuating : memory Phase ≢ evacuation_phase).
+      let same_memory : memory ≡ all_copied config memory =
+      fun_ext (λ word. sym (cond-false (memory Phase == evacuation_phase) (copied_from config memory config.region_words (config.regions * config.region_words) word) (memory word) (ne_eqb (memory Phase) 2 not_evacuating))) in
+      (block, λ address piece piece_there. piece_there, subst (λ memory. IsCopiedSoFar config memory block owner promises graph) same_memory so_far))
       (cases_eq (memory Phase) 2)
 
 pub copies_all_hold : (config : Config) (memory : Word → ℕ) (block : Plot) (owner : ℕ → Option ℕ) (promises : Promises) (graph : Graph) → HoldsBy config memory block owner promises graph → AreSized memory block → AreMarkedObjects config memory block
     → HoldsStill config memory (all_copied config memory) block owner promises graph
 copies_all_hold config memory block owner promises graph holds sized marked =
-    let all = all_copied_hold config owner promises graph memory block (record { holds = holds; sized = sized; marked = marked }) in
-    record { pieces = all.0; stay = all.1; holds = all.2.holds; sized = λ k. all.2.sized }
+    let all_copies = all_copied_hold config owner promises graph memory block (record { holds = holds; sized = sized; marked = marked }) in
+    record { pieces = all_copies.0; stay = all_copies.1; holds = all_copies.2.holds; sized = λ k. all_copies.2.sized }

@@ -1,4 +1,5 @@
 -- Once all that is left of the collection set was copied out, nothing that can be reached lies there, but in pinned regions.
+use Rattle.heap_words.specs.Phases.{evacuation_phase}
 use Rattle.std.proofs.Common.{◌≡◌, ◌≢◌, ℕ, ◌+◌, ◌*◌, ◌<◌, ◌≤◌, ◌==◌, true, false, zero, suc, Option, sym, ap, ◌∙◌, subst, ⊎_elim, arith}
 use Rattle.std.specs.Int.{bit_at}
 use Rattle.std.proofs.Math.Path.{fun_ext}
@@ -44,86 +45,86 @@ pub record IsGoingOn (config : Config) (memory : Word → ℕ) (plot : Plot) (ow
 
 module _ (config : Config) (owner : ℕ → Option ℕ) (promises : Promises) (graph : Graph) where
   -- An object is left, and there is room.
-  module _ (memory : Word → ℕ) (block : Plot) (address : ℕ) (on : IsGoingOn config memory block owner promises graph address) (left : is_left config memory address ≡ true) (room : has_copy_room config memory address ≡ true) where
+  module _ (memory : Word → ℕ) (block : Plot) (address : ℕ) (going_on : IsGoingOn config memory block owner promises graph address) (object_left : is_left config memory address ≡ true) (room : has_copy_room config memory address ≡ true) where
     abbrev so_far : IsCopiedSoFar config memory block owner promises graph
-    so_far = on.so_far
+    so_far = going_on.so_far
 
     abbrev memory_then : Word → ℕ
     memory_then = copied_out config memory address
 
     abbrev out : IsCopiedOut config memory (copied_out config memory address) address
-    out = copies.out config owner promises graph memory block so_far address left room
+    out = copies.out config owner promises graph memory block so_far address object_left room
 
     abbrev parts : (is_collected config memory address ≡ true) × (is_black config memory address ≡ true) × (is_forwarded (memory (Heap address)) ≡ false)
-    parts = copies.parts config owner promises graph memory block so_far address left
+    parts = copies.parts config owner promises graph memory block so_far address object_left
 
     abbrev inside : IsCollected config (memory Cset) address
-    inside = copies.inside config owner promises graph memory block so_far address left
+    inside = copies.inside config owner promises graph memory block so_far address object_left
 
     abbrev unpinned : IsUnpinned config memory address
-    unpinned = copies.unpinned config owner promises graph memory block so_far address left
+    unpinned = copies.unpinned config owner promises graph memory block so_far address object_left
 
     abbrev piece : HasObject block address
-    piece = copies.piece config owner promises graph memory block so_far address left
+    piece = copies.piece config owner promises graph memory block so_far address object_left
 
     abbrev words : words_at memory address ≡ words_of piece.0
-    words = copies.words config owner promises graph memory block so_far address left
+    words = copies.words config owner promises graph memory block so_far address object_left
 
     -- what is left was left, and is another object
-    left_was : (y : ℕ) → is_left config memory_then y ≡ true → (y ≢ address) × (is_left config memory y ≡ true)
-    left_was y now =
-        let parts_now = left_parts config memory_then y now in
-        let collected : is_collected config memory y ≡ true =
-        sym (copy.collected_same config memory block owner promises graph so_far.holds address piece.0 piece.1 piece.2 inside parts.2 unpinned words out y) ∙ parts_now.0 in
-        let bare : is_pinned config memory (region_with config y) ≡ false =
-        sym (same_pinned config memory memory_then (copy.pin_same config memory block owner promises graph so_far.holds address piece.0 piece.1 piece.2 inside parts.2 unpinned words out) (region_with config y)) ∙ parts_now.1 in
-        let black : is_black config memory y ≡ true = sym (copy.black_same config memory block owner promises graph so_far.holds address piece.0 piece.1 piece.2 inside parts.2 unpinned words out y) ∙ parts_now.2 in
-        let plain : is_forwarded (memory_then (Heap y)) ≡ false = parts_now.3 in
-        let other : y ≢ address = λ same.
-        true≢false (sym (copy.moved_now config memory block owner promises graph so_far.holds address piece.0 piece.1 piece.2 inside parts.2 unpinned words out) ∙ ap (λ address. is_forwarded (memory_then (Heap address))) (sym same) ∙ plain) in
-        let was = so_far.marked y collected black in
-        let same : memory_then (Heap y) ≡ memory (Heap y) = copy.header_same config memory block owner promises graph so_far.holds address piece.0 piece.1 piece.2 inside parts.2 unpinned words out y was.0 other was.1 in
-        (other, is_left_if config memory y collected bare black (ap is_forwarded (sym same) ∙ plain))
+    left_was : (other_object : ℕ) → is_left config memory_then other_object ≡ true → (other_object ≢ address) × (is_left config memory other_object ≡ true)
+    left_was other_object left_now =
+        let parts_now = left_parts config memory_then other_object left_now in
+        let collected : is_collected config memory other_object ≡ true =
+        sym (copy.collected_same config memory block owner promises graph so_far.holds address piece.0 piece.1 piece.2 inside parts.2 unpinned words out other_object) ∙ parts_now.0 in
+        let bare : is_pinned config memory (region_with config other_object) ≡ false =
+        sym (same_pinned config memory memory_then (copy.pin_same config memory block owner promises graph so_far.holds address piece.0 piece.1 piece.2 inside parts.2 unpinned words out) (region_with config other_object)) ∙ parts_now.1 in
+        let black : is_black config memory other_object ≡ true = sym (copy.black_same config memory block owner promises graph so_far.holds address piece.0 piece.1 piece.2 inside parts.2 unpinned words out other_object) ∙ parts_now.2 in
+        let plain : is_forwarded (memory_then (Heap other_object)) ≡ false = parts_now.3 in
+        let address_differs : other_object ≢ address = λ same_word.
+        true≢false (sym (copy.moved_now config memory block owner promises graph so_far.holds address piece.0 piece.1 piece.2 inside parts.2 unpinned words out) ∙ ap (λ address. is_forwarded (memory_then (Heap address))) (sym same_word) ∙ plain) in
+        let was_marked = so_far.marked other_object collected black in
+        let same_word : memory_then (Heap other_object) ≡ memory (Heap other_object) = copy.header_same config memory block owner promises graph so_far.holds address piece.0 piece.1 piece.2 inside parts.2 unpinned words out other_object was_marked.0 address_differs was_marked.1 in
+        (address_differs, is_left_if config memory other_object collected bare black (ap is_forwarded (sym same_word) ∙ plain))
 
     one_more : (plot : Plot) × IsGoingOn config memory_then plot owner promises graph (address + 1)
     one_more = (
       copy.plot config memory block owner promises graph so_far.holds address piece.0 piece.1 piece.2 inside parts.2 unpinned words out,
       record {
-        so_far = copies.one_copied config owner promises graph memory block so_far address left room;
-        order = copy.order_still config memory block owner promises graph so_far.holds address piece.0 piece.1 piece.2 inside parts.2 unpinned words out on.order;
-        none_left = λ y below. false_from_ne_true (is_left config memory_then y) (λ now.
-            let was = left_was y now in
-            let other = was.0 in
-            true≢false (sym was.1 ∙ on.none_left y (omega (arith, below, other))));
+        so_far = copies.one_copied config owner promises graph memory block so_far address object_left room;
+        order = copy.order_still config memory block owner promises graph so_far.holds address piece.0 piece.1 piece.2 inside parts.2 unpinned words out going_on.order;
+        none_left = λ lower_address below_address. false_from_ne_true (is_left config memory_then lower_address) (λ left_now.
+            let was_left = left_was lower_address left_now in
+            let address_differs = was_left.0 in
+            true≢false (sym was_left.1 ∙ going_on.none_left lower_address (omega (arith, below_address, address_differs))));
       },
     )
 
   -- address by address, where each object finds room
   all_passed : (addresses : ℕ) (memory : Word → ℕ) (block : Plot) (address : ℕ) → IsGoingOn config memory block owner promises graph address → is_room_from config memory address addresses ≡ true
       → (plot : Plot) × IsGoingOn config (copied_from config memory address addresses) plot owner promises graph (address + addresses)
-  all_passed zero memory block address on room =
-      (block, subst (λ memory. IsGoingOn config memory block owner promises graph (address + 0)) (sym (copied_none config memory address 0)) (subst (IsGoingOn config memory block owner promises graph) (omega arith) on))
-  all_passed (suc addresses) memory block address on room = ⊎_elim
-      (λ (left : is_left config memory address ≡ true).
-      let both = room_if config memory address addresses left room in
-      let one = one_more memory block address on left both.0 in
-      let rest = all_passed addresses (copied_out config memory address) one.0 (address + 1) one.1 both.1 in (
+  all_passed zero memory block address going_on room =
+      (block, subst (λ memory. IsGoingOn config memory block owner promises graph (address + 0)) (sym (copied_none config memory address 0)) (subst (IsGoingOn config memory block owner promises graph) (omega arith) going_on))
+  all_passed (suc addresses) memory block address going_on room = ⊎_elim
+      (λ (object_left : is_left config memory address ≡ true).
+      let both_rooms = room_if config memory address addresses object_left room in
+      let one_passed = one_more memory block address going_on object_left both_rooms.0 in
+      let rest = all_passed addresses (copied_out config memory address) one_passed.0 (address + 1) one_passed.1 both_rooms.1 in (
         rest.0,
-        subst (λ memory. IsGoingOn config memory rest.0 owner promises graph (address + suc addresses)) (sym (copied_next config memory address addresses left both.0))
+        subst (λ memory. IsGoingOn config memory rest.0 owner promises graph (address + suc addresses)) (sym (copied_next config memory address addresses object_left both_rooms.0))
             (subst (IsGoingOn config (copied_from config (copied_out config memory address) (address + 1) addresses) rest.0 owner promises graph) (omega arith) rest.1),
       ))
-      (λ (other : is_left config memory address ≡ false).
-      let next : IsGoingOn config memory block owner promises graph (address + 1) = record {
-        so_far = on.so_far;
-        order = on.order;
-        none_left = λ y below. ⊎_elim
-            (λ (here : y ≡ address). ap (is_left config memory) here ∙ other)
-            (λ (before : y ≢ address). on.none_left y (omega (arith, below, before)))
-            (cases_eq y address);
+      (λ (not_left : is_left config memory address ≡ false).
+      let going_next : IsGoingOn config memory block owner promises graph (address + 1) = record {
+        so_far = going_on.so_far;
+        order = going_on.order;
+        none_left = λ lower_address below_next. ⊎_elim
+            (λ (at_address : lower_address ≡ address). ap (is_left config memory) at_address ∙ not_left)
+            (λ (before : lower_address ≢ address). going_on.none_left lower_address (omega (arith, below_next, before)))
+            (cases_eq lower_address address);
       } in
-      let rest = all_passed addresses memory block (address + 1) next (room_skips config memory address addresses other room) in (
+      let rest = all_passed addresses memory block (address + 1) going_next (room_skips config memory address addresses not_left room) in (
         rest.0,
-        subst (λ memory. IsGoingOn config memory rest.0 owner promises graph (address + suc addresses)) (sym (copied_skips config memory address addresses other))
+        subst (λ memory. IsGoingOn config memory rest.0 owner promises graph (address + suc addresses)) (sym (copied_skips config memory address addresses not_left))
             (subst (IsGoingOn config (copied_from config memory (address + 1) addresses) rest.0 owner promises graph) (omega arith) rest.1),
       ))
       (cases_Bool (is_left config memory address))
@@ -136,96 +137,96 @@ pub record IsEmptied (config : Config) (memory : Word → ℕ) (plot : Plot) (ow
   pub unseated : (seat region : ℕ) → EndsIn config memory seat region → IsIn (memory Cset) region → ⊥
   pub outside : NothingInside config memory
 
-module _ (config : Config) (memory : Word → ℕ) (plot : Plot) (owner : ℕ → Option ℕ) (promises : Promises) (graph : Graph) (passed : ℕ) (on : IsGoingOn config memory plot owner promises graph passed)
-    (all : (config.regions + 1) * config.region_words ≤ passed) where
+module _ (config : Config) (memory : Word → ℕ) (plot : Plot) (owner : ℕ → Option ℕ) (promises : Promises) (graph : Graph) (passed : ℕ) (going_on : IsGoingOn config memory plot owner promises graph passed)
+    (passed_all : (config.regions + 1) * config.region_words ≤ passed) where
   -- what can be reached in the set, in a region that is not pinned, would be left
   none_inside : (address : ℕ) → CanBeReached config memory address → IsCollected config (memory Cset) address → is_pinned config memory (region_with config address) ≡ false → ⊥
   none_inside address reached inside unpinned =
-      let at = held_is_reached config (λ region. memory (Top region)) (λ address. memory (Heap address)) plot (now_in memory) (IsAmong (held_words config memory)) (with_promised graph promises) on.so_far.holds.objects address reached in
-      let object = on.so_far.holds.objects.each address at.1 at.2 at.0 reached at.3 in
-      let lies = piece_inside config (λ region. memory (Top region)) plot on.so_far.holds.objects.plotted address (thing at.0 at.1 at.2) at.3 in
+      let reached_object = held_is_reached config (λ region. memory (Top region)) (λ address. memory (Heap address)) plot (now_in memory) (IsAmong (held_words config memory)) (with_promised graph promises) going_on.so_far.holds.objects address reached in
+      let object = going_on.so_far.holds.objects.each address reached_object.1 reached_object.2 reached_object.0 reached reached_object.3 in
+      let lies_inside = piece_inside config (λ region. memory (Top region)) plot going_on.so_far.holds.objects.plotted address (thing reached_object.0 reached_object.1 reached_object.2) reached_object.3 in
       ⊎_elim
       (λ (black : is_black config memory address ≡ true).
-      let left : is_left config memory address ≡ true = is_left_if config memory address (collected_is config memory address lies.0 inside) unpinned black (ap is_forwarded object.2.header) in
-      true≢false (sym left ∙ on.none_left address (let end = lies.1 in omega (arith, end, all))))
+      let object_left : is_left config memory address ≡ true = is_left_if config memory address (collected_is config memory address lies_inside.0 inside) unpinned black (ap is_forwarded object.2.header) in
+      true≢false (sym object_left ∙ going_on.none_left address (let end = lies_inside.1 in omega (arith, end, passed_all))))
       (λ (fresh : IsNew config memory address).
-      let below = below_top config (λ region. memory (Top region)) plot on.so_far.holds.objects.plotted address (thing at.0 at.1 at.2) at.3 (omega arith) in
-      let old = on.order.no_new (region_with config address) inside in
-      let from = below.1 in
-      let end = below.2 in
+      let top_above = below_top config (λ region. memory (Top region)) plot going_on.so_far.holds.objects.plotted address (thing reached_object.0 reached_object.1 reached_object.2) reached_object.3 (omega arith) in
+      let old = going_on.order.no_new (region_with config address) inside in
+      let from = top_above.1 in
+      let end = top_above.2 in
       omega (arith, fresh, old, from, end))
-      (on.order.reachable address reached)
+      (going_on.order.reachable address reached)
 
   nothing_inside : NothingInside config memory
-  nothing_inside a reached inside = true_from_ne_false (is_pinned config memory (region_with config a)) (none_inside a reached inside)
+  nothing_inside address reached inside = true_from_ne_false (is_pinned config memory (region_with config address)) (none_inside address reached inside)
 
   emptied : IsEmptied config memory plot owner promises graph
   emptied = record {
-    holds = on.so_far.holds;
-    sized = on.so_far.sized;
-    reachable = λ some. on.order.reachable;
-    unseated = on.order.unseated;
+    holds = going_on.so_far.holds;
+    sized = going_on.so_far.sized;
+    reachable = λ has_set. going_on.order.reachable;
+    unseated = going_on.order.unseated;
     outside = nothing_inside;
   }
 
 pub none_left_inside : NoneLeftInside
-none_left_inside c m block owner p g holds sized while none a reached inside =
-    nothing_inside c m block owner p g ((c.regions + 1) * c.region_words)
+none_left_inside config memory block owner promises graph holds sized collecting nothing_left address reached inside =
+    nothing_inside config memory block owner promises graph ((config.regions + 1) * config.region_words)
     (record {
-      so_far = record { holds = holds; sized = sized; marked = while.marked };
-      order = in_order c m block while (some_set c (m Cset) a inside);
-      none_left = λ y below. none y;
+      so_far = record { holds = holds; sized = sized; marked = collecting.marked };
+      order = in_order config memory block collecting (some_set config (memory Cset) address inside);
+      none_left = λ y below_address. nothing_left y;
     })
-    (omega arith) a reached inside
+    (omega arith) address reached inside
 
 module _ (config : Config) (memory : Word → ℕ) (block : Plot) (owner : ℕ → Option ℕ) (promises : Promises) (graph : Graph) (holds : HoldsBy config memory block owner promises graph) (sized : AreSized memory block)
-    (while : WhileCollecting config memory block) (room : is_room_for_all config memory ≡ true) where
+    (collecting : WhileCollecting config memory block) (room : is_room_for_all config memory ≡ true) where
   as_it_is : NothingInside config memory → IsEmptied config memory block owner promises graph
-  as_it_is outside = record { holds = holds; sized = sized; reachable = while.reachable; unseated = while.unseated; outside = outside }
+  as_it_is outside = record { holds = holds; sized = sized; reachable = collecting.reachable; unseated = collecting.unseated; outside = outside }
 
   at_first : IsCopiedSoFar config memory block owner promises graph
-  at_first = record { holds = holds; sized = sized; marked = while.marked }
+  at_first = record { holds = holds; sized = sized; marked = collecting.marked }
 
-  in_phase : memory Phase ≡ 2 → memory Cset ≢ 0 → (plot : Plot) × IsEmptied config (all_copied config memory) plot owner promises graph
-  in_phase at positive =
+  in_phase : memory Phase ≡ evacuation_phase → memory Cset ≢ 0 → (plot : Plot) × IsEmptied config (all_copied config memory) plot owner promises graph
+  in_phase evacuating positive =
       let begins : IsGoingOn config memory block owner promises graph config.region_words = record {
         so_far = at_first;
-        order = in_order config memory block while positive;
-        none_left = λ y below. false_from_ne_true (is_left config memory y) (λ left. true≢false (sym (left_parts config memory y left).0 ∙ collected_low config memory y below));
+        order = in_order config memory block collecting positive;
+        none_left = λ lower_address below_address. false_from_ne_true (is_left config memory lower_address) (λ object_left. true≢false (sym (left_parts config memory lower_address object_left).0 ∙ collected_low config memory lower_address below_address));
       } in
       let found : is_room_from config memory config.region_words (config.regions * config.region_words) ≡ true =
-      sym (cond-true (memory Phase == 2) (is_room_from config memory config.region_words (config.regions * config.region_words)) true (eq-eqb (memory Phase) 2 at)) ∙ room in
-      let all = all_passed config owner promises graph (config.regions * config.region_words) memory block config.region_words begins found in
-      let same : copied_from config memory config.region_words (config.regions * config.region_words) ≡ all_copied config memory =
-      fun_ext (λ word. sym (cond-true (memory Phase == 2) (copied_from config memory config.region_words (config.regions * config.region_words) word) (memory word) (eq-eqb (memory Phase) 2 at))) in (
-        all.0,
-        subst (λ memory. IsEmptied config memory all.0 owner promises graph) same
-            (emptied config (copied_from config memory config.region_words (config.regions * config.region_words)) all.0 owner promises graph (config.region_words + config.regions * config.region_words) all.1 (omega arith)),
+      sym (cond-true (memory Phase == evacuation_phase) (is_room_from config memory config.region_words (config.regions * config.region_words)) true (eq-eqb (memory Phase) 2 evacuating)) ∙ room in
+      let all_done = all_passed config owner promises graph (config.regions * config.region_words) memory block config.region_words begins found in
+      let same_memory : copied_from config memory config.region_words (config.regions * config.region_words) ≡ all_copied config memory =
+      fun_ext (λ word. sym (cond-true (memory Phase == evacuation_phase) (copied_from config memory config.region_words (config.regions * config.region_words) word) (memory word) (eq-eqb (memory Phase) 2 evacuating))) in (
+        all_done.0,
+        subst (λ memory. IsEmptied config memory all_done.0 owner promises graph) same_memory
+            (emptied config (copied_from config memory config.region_words (config.regions * config.region_words)) all_done.0 owner promises graph (config.region_words + config.regions * config.region_words) all_done.1 (omega arith)),
       )
 
   -- without a set, and in other phases
   without : memory Cset ≡ 0 → (plot : Plot) × IsEmptied config (all_copied config memory) plot owner promises graph
-  without none =
-      let all = copies.all_copied_hold config owner promises graph memory block at_first in
-      let is_zero : all_copied config memory Cset ≡ 0 = all_copied_set config memory ∙ none in (
-        all.0,
+  without no_set =
+      let all_copies = copies.all_copied_hold config owner promises graph memory block at_first in
+      let is_zero : all_copied config memory Cset ≡ 0 = all_copied_set config memory ∙ no_set in (
+        all_copies.0,
         record {
-          holds = all.2.holds;
-          sized = all.2.sized;
-          reachable = λ some. absurd (some is_zero);
-          unseated = λ seat region is member. absurd (let bit : bit_at (all_copied config memory Cset) region ≡ 0 = ap (λ k. bit_at k region) is_zero ∙ bit_at-zero region in omega (arith, bit, member));
+          holds = all_copies.2.holds;
+          sized = all_copies.2.sized;
+          reachable = λ has_set. absurd (has_set is_zero);
+          unseated = λ seat region ends member. absurd (let bit : bit_at (all_copied config memory Cset) region ≡ 0 = ap (λ set. bit_at set region) is_zero ∙ bit_at-zero region in omega (arith, bit, member));
           outside = λ address reached inside. absurd (some_set config (all_copied config memory Cset) address inside is_zero);
         },
       )
 
-  other_phase : memory Phase ≢ 2 → (plot : Plot) × IsEmptied config (all_copied config memory) plot owner promises graph
-  other_phase off =
-      let same : memory ≡ all_copied config memory =
-      fun_ext (λ word. sym (cond-false (memory Phase == 2) (copied_from config memory config.region_words (config.regions * config.region_words) word) (memory word) (ne_eqb (memory Phase) 2 off))) in
-      (block, subst (λ memory. IsEmptied config memory block owner promises graph) same (as_it_is (while.outside off)))
+  other_phase : memory Phase ≢ evacuation_phase → (plot : Plot) × IsEmptied config (all_copied config memory) plot owner promises graph
+  other_phase not_evacuating =
+      let same_memory : memory ≡ all_copied config memory =
+      fun_ext (λ word. sym (cond-false (memory Phase == evacuation_phase) (copied_from config memory config.region_words (config.regions * config.region_words) word) (memory word) (ne_eqb (memory Phase) 2 not_evacuating))) in
+      (block, subst (λ memory. IsEmptied config memory block owner promises graph) same_memory (as_it_is (collecting.outside not_evacuating)))
 
   pub emptied_then : (plot : Plot) × IsEmptied config (all_copied config memory) plot owner promises graph
   emptied_then = ⊎_elim
-      (λ (none : memory Cset ≡ 0). without none)
-      (λ (some : memory Cset ≢ 0). ⊎_elim (λ (at : memory Phase ≡ 2). in_phase at some) (λ (off : memory Phase ≢ 2). other_phase off) (cases_eq (memory Phase) 2))
+      (λ (no_set : memory Cset ≡ 0). without no_set)
+      (λ (has_set : memory Cset ≢ 0). ⊎_elim (λ (evacuating : memory Phase ≡ evacuation_phase). in_phase evacuating has_set) (λ (not_evacuating : memory Phase ≢ evacuation_phase). other_phase not_evacuating) (cases_eq (memory Phase) 2))
       (cases_eq (memory Cset) 0)

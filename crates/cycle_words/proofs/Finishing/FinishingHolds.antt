@@ -45,7 +45,7 @@ use Rattle.cycle_words.proofs.Finishing.Emptied.{IsEmptied, emptied_then}
 use Rattle.cycle_words.proofs.Finishing.SetLeft.{leaving_holds}
 
 -- Once the set was emptied and all references were updated nothing names what goes.
-module _ (config : Config) (memory : Word → ℕ) (block : Plot) (owner : ℕ → Option ℕ) (promises : Promises) (graph : Graph) (is : IsEmptied config memory block owner promises graph) (none : HasNoRoom block) where
+module _ (config : Config) (memory : Word → ℕ) (block : Plot) (owner : ℕ → Option ℕ) (promises : Promises) (graph : Graph) (emptied : IsEmptied config memory block owner promises graph) (no_rooms : HasNoRoom block) where
   abbrev now : Word → ℕ
   now = all_updated config memory
 
@@ -56,150 +56,150 @@ module _ (config : Config) (memory : Word → ℕ) (block : Plot) (owner : ℕ �
   heap address = memory (Heap address)
 
   abbrev holds : HoldsBy config memory block owner promises graph
-  holds = is.holds
+  holds = emptied.holds
 
-  reached_was : (a : ℕ) → CanBeReached config now a → CanBeReached config memory a
-  reached_was = renamed.reached_was config memory now block owner promises graph holds (renaming config memory block owner promises graph holds is.sized none)
+  reached_was : (address : ℕ) → CanBeReached config now address → CanBeReached config memory address
+  reached_was = renamed.reached_was config memory now block owner promises graph holds (renaming config memory block owner promises graph holds emptied.sized no_rooms)
 
   -- what can be reached does not go
   reached_spared : (address : ℕ) → CanBeReached config memory address → is_going config now address ≡ false
   reached_spared address reached = false_from_ne_true (is_going config now address) (λ going.
-      let both = and_parts (is_collected config now address) (not (is_pinned config now (region_with config address)) || is_forwarded (now (Heap address))) going in
+      let both_parts = and_parts (is_collected config now address) (not (is_pinned config now (region_with config address)) || is_forwarded (now (Heap address))) going in
       let inside : IsCollected config (memory Cset) address =
-      eqb-true (bit_at (memory Cset) (region_with config address)) 1 (and_parts (nat_le config.region_words address) (bit_at (memory Cset) (region_with config address) == 1) both.0).1 in
-      let pinned : is_pinned config memory (region_with config address) ≡ true = is.outside address reached inside in
-      let at = held_is_reached config top heap block (now_in memory) (IsAmong (held_words config memory)) (with_promised graph promises) holds.objects address reached in
-      let object = holds.objects.each address at.1 at.2 at.0 reached at.3 in
-      let same : now (Heap address) ≡ memory (Heap address) = header_stays config memory block owner promises graph holds is.sized none address (thing at.0 at.1 at.2) at.3 in
+      eqb-true (bit_at (memory Cset) (region_with config address)) 1 (and_parts (nat_le config.region_words address) (bit_at (memory Cset) (region_with config address) == 1) both_parts.0).1 in
+      let pinned : is_pinned config memory (region_with config address) ≡ true = emptied.outside address reached inside in
+      let reached_object = held_is_reached config top heap block (now_in memory) (IsAmong (held_words config memory)) (with_promised graph promises) holds.objects address reached in
+      let object = holds.objects.each address reached_object.1 reached_object.2 reached_object.0 reached reached_object.3 in
+      let same_word : now (Heap address) ≡ memory (Heap address) = header_stays config memory block owner promises graph holds emptied.sized no_rooms address (thing reached_object.0 reached_object.1 reached_object.2) reached_object.3 in
       ⊎_elim
       (λ (bare : not (is_pinned config now (region_with config address)) ≡ true). true≢false (sym pinned ∙ not-true (is_pinned config memory (region_with config address)) bare))
-      (λ (moved : is_forwarded (now (Heap address)) ≡ true). true≢false (sym moved ∙ ap is_forwarded same ∙ ap is_forwarded object.2.header))
-      (or_cases (not (is_pinned config now (region_with config address))) (is_forwarded (now (Heap address))) both.1))
+      (λ (moved : is_forwarded (now (Heap address)) ≡ true). true≢false (sym moved ∙ ap is_forwarded same_word ∙ ap is_forwarded object.2.header))
+      (or_cases (not (is_pinned config now (region_with config address))) (is_forwarded (now (Heap address))) both_parts.1))
 
   -- so a word that led to an object names nothing that goes once it was updated
   word_spared : (address : ℕ) → CanBeReached config memory (now_in memory address) → is_going config now (updated_word config memory address) ≡ false
   word_spared address reached = ⊎_elim
-      (λ (yes : is_collected config memory address ≡ true). ap (is_going config now) (cond-true (is_collected config memory address) (now_in memory address) address yes) ∙ reached_spared (now_in memory address) reached)
-      (λ (no : is_collected config memory address ≡ false).
-      ap (is_going config now) (cond-false (is_collected config memory address) (now_in memory address) address no) ∙ and_left (is_collected config now address) (not (is_pinned config now (region_with config address)) || is_forwarded (now (Heap address))) no)
+      (λ (collected : is_collected config memory address ≡ true). ap (is_going config now) (cond-true (is_collected config memory address) (now_in memory address) address collected) ∙ reached_spared (now_in memory address) reached)
+      (λ (not_collected : is_collected config memory address ≡ false).
+      ap (is_going config now) (cond-false (is_collected config memory address) (now_in memory address) address not_collected) ∙ and_left (is_collected config now address) (not (is_pinned config now (region_with config address)) || is_forwarded (now (Heap address))) not_collected)
       (cases_Bool (is_collected config memory address))
 
   root_spared : (mutator index : ℕ) → mutator < config.mutators → index < 16 → now (Root mutator index) ≢ 0 → is_going config now (now (Root mutator index)) ≡ false
-  root_spared mutator index inside below positive =
-      let other : memory (Root mutator index) ≢ 0 = λ none. positive (low_spared config memory (memory (Root mutator index)) (omega (arith, none)) ∙ none) in
-      word_spared (memory (Root mutator index)) (from_root (memory (Root mutator index)) (root_among config top memory block graph promises holds.objects.plotted holds.rooted mutator index inside below) other)
+  root_spared mutator index inside index_low positive =
+      let old_some : memory (Root mutator index) ≢ 0 = λ no_word. positive (low_spared config memory (memory (Root mutator index)) (omega (arith, no_word)) ∙ no_word) in
+      word_spared (memory (Root mutator index)) (from_root (memory (Root mutator index)) (root_among config top memory block graph promises holds.objects.plotted holds.rooted mutator index inside index_low) old_some)
 
   answer_spared : (mutator : ℕ) → mutator < config.mutators → 1 < now (Answer mutator) → is_going config now (now (Answer mutator)) ≡ false
-  answer_spared mutator inside below = ⊎_elim
+  answer_spared mutator inside answer_big = ⊎_elim
       (λ (big : 1 < memory (Answer mutator)).
-      word_spared (memory (Answer mutator)) (from_root (memory (Answer mutator)) (answer_among config top memory block graph promises holds.objects.plotted holds.rooted mutator inside big) (λ none. omega (arith, none, big))))
-      (λ (low : memory (Answer mutator) ≤ 1). absurd (let same = low_spared config memory (memory (Answer mutator)) low in omega (arith, same, low, below)))
+      word_spared (memory (Answer mutator)) (from_root (memory (Answer mutator)) (answer_among config top memory block graph promises holds.objects.plotted holds.rooted mutator inside big) (λ no_word. omega (arith, no_word, big))))
+      (λ (low : memory (Answer mutator) ≤ 1). absurd (let answer_stays = low_spared config memory (memory (Answer mutator)) low in omega (arith, answer_stays, low, answer_big)))
       (cases_lt 1 (memory (Answer mutator)))
 
   -- what a pin slot holds has not moved
-  pin_plain : (word : ℕ) (held : Option Pinned) → word ≢ 0 → PinWordStands memory block word held → is_forwarded (memory (Heap word)) ≡ false
+  pin_plain : (word : ℕ) (held_pin : Option Pinned) → word ≢ 0 → PinWordStands memory block word held_pin → is_forwarded (memory (Heap word)) ≡ false
   pin_plain word None positive stands = absurd (positive stands)
   pin_plain word (Some pinned) positive stands = stands.2
 
   pin_spared : (mutator index : ℕ) → mutator < config.mutators → index < 4 → memory (Pin mutator index) ≢ 0 → is_going config now (memory (Pin mutator index)) ≡ false
-  pin_spared mutator index inside below positive =
-      let plain = pin_plain (memory (Pin mutator index)) (graph.pin (mutator + 1) index) positive (holds.rooted.pins mutator index inside below) in
-      let led = from_root (memory (Pin mutator index)) (pin_among config top memory block graph promises holds.objects.plotted holds.rooted mutator index inside below) positive in
+  pin_spared mutator index inside index_low positive =
+      let plain = pin_plain (memory (Pin mutator index)) (graph.pin (mutator + 1) index) positive (holds.rooted.pins mutator index inside index_low) in
+      let led = from_root (memory (Pin mutator index)) (pin_among config top memory block graph promises holds.objects.plotted holds.rooted mutator index inside index_low) positive in
       reached_spared (memory (Pin mutator index)) (subst (CanBeReached config memory) (cond-false (is_forwarded (memory (Heap (memory (Pin mutator index))))) (forwardee_in (memory (Heap (memory (Pin mutator index))))) (memory (Pin mutator index)) plain) led)
 
   named_spared : (word : ℕ) → IsAmong (root_words config now) word → word ≢ 0 → is_going config now word ≡ false
   named_spared word among positive = ⊎_elim
       (λ (root : has (roots_below now config.mutators) word ≡ true).
-      let at = root_in now config.mutators word root in
-      sym (ap (is_going config now) at.4) ∙ root_spared at.0 at.1 at.2 at.3 (λ none. positive (sym at.4 ∙ none)))
+      let word_found = root_in now config.mutators word root in
+      sym (ap (is_going config now) word_found.4) ∙ root_spared word_found.0 word_found.1 word_found.2 word_found.3 (λ no_word. positive (sym word_found.4 ∙ no_word)))
       (λ (answer : has (answers_below now config.mutators) word ≡ true).
-      let at = answer_in now config.mutators word answer in
-      sym (ap (is_going config now) at.3) ∙ answer_spared at.0 at.1 at.2)
+      let word_found = answer_in now config.mutators word answer in
+      sym (ap (is_going config now) word_found.3) ∙ answer_spared word_found.0 word_found.1 word_found.2)
       (has_either (roots_below now config.mutators) (answers_below now config.mutators) word among)
 
   held_spared : (word : ℕ) → IsAmong (held_words config now) word → word ≢ 0 → is_going config now word ≡ false
   held_spared word among positive = ⊎_elim
       (λ (named : has (root_words config now) word ≡ true). named_spared word named positive)
       (λ (pin : has (pins_below now config.mutators) word ≡ true).
-      let at = pin_in now config.mutators word pin in
-      sym (ap (is_going config now) at.4) ∙ pin_spared at.0 at.1 at.2 at.3 (λ none. positive (sym at.4 ∙ none)))
+      let word_found = pin_in now config.mutators word pin in
+      sym (ap (is_going config now) word_found.4) ∙ pin_spared word_found.0 word_found.1 word_found.2 word_found.3 (λ no_word. positive (sym word_found.4 ∙ no_word)))
       (has_either (root_words config now) (pins_below now config.mutators) word among)
 
   -- objects of a region stay in which something can be reached
   stays_there : (address : ℕ) → CanBeReached config memory address → stays config memory (region_with config address) ≡ true
   stays_there address reached = ⊎_elim
-      (λ (inside : IsCollected config (memory Cset) address). stays_pinned config memory (region_with config address) (is.outside address reached inside))
+      (λ (inside : IsCollected config (memory Cset) address). stays_pinned config memory (region_with config address) (emptied.outside address reached inside))
       (λ (away : IsCollected config (memory Cset) address → ⊥). stays_outside config memory (region_with config address) away)
       (cases_eq (bit_at (memory Cset) (region_with config address)) 1)
 
   -- a field of what can be reached is updated, if a region is in the set
-  field_kept : (address i : ℕ) → memory Cset ≢ 0 → CanBeReached config memory address → i < refs_in (heap (address + 1)) → is_kept_field config memory (address + 3 + i) ≡ true
-  field_kept address i set was count =
-      let at = held_is_reached config top heap block (now_in memory) (IsAmong (held_words config memory)) (with_promised graph promises) holds.objects address was in
-      let object = holds.objects.each address at.1 at.2 at.0 was at.3 in
-      is_field config memory block owner promises graph holds is.sized none (address + 3 + i)
+  field_kept : (address index : ℕ) → memory Cset ≢ 0 → CanBeReached config memory address → index < refs_in (heap (address + 1)) → is_kept_field config memory (address + 3 + index) ≡ true
+  field_kept address index has_set was_reached count =
+      let reached_object = held_is_reached config top heap block (now_in memory) (IsAmong (held_words config memory)) (with_promised graph promises) holds.objects address was_reached in
+      let object = holds.objects.each address reached_object.1 reached_object.2 reached_object.0 was_reached reached_object.3 in
+      is_field config memory block owner promises graph holds emptied.sized no_rooms (address + 3 + index)
       (record {
         object = address;
-        piece = thing at.0 at.1 at.2;
-        here = at.3;
+        piece = thing reached_object.0 reached_object.1 reached_object.2;
+        here = reached_object.3;
         is_object = refl;
-        stays_there = stays_there address was;
+        stays_there = stays_there address was_reached;
         unmoved = ap is_forwarded object.2.header;
-        kept = is.reachable set address was;
-        field = i;
+        kept = emptied.reachable has_set address was_reached;
+        field = index;
         few = count;
         at = refl;
       })
 
-  field_spared : (address i : ℕ) → CanBeReached config now address → i < refs_in (now (Heap (address + 1))) → now (Heap (address + 3 + i)) ≢ 0 → is_going config now (now (Heap (address + 3 + i))) ≡ false
-  field_spared address i reached below positive = false_from_ne_true (is_going config now (now (Heap (address + 3 + i)))) (λ going.
-      let both = and_parts (is_collected config now (now (Heap (address + 3 + i)))) (not (is_pinned config now (region_with config (now (Heap (address + 3 + i))))) || is_forwarded (now (Heap (now (Heap (address + 3 + i)))))) going in
-      let member : IsCollected config (memory Cset) (now (Heap (address + 3 + i))) =
-      eqb-true (bit_at (memory Cset) (region_with config (now (Heap (address + 3 + i))))) 1
-      (and_parts (nat_le config.region_words (now (Heap (address + 3 + i)))) (bit_at (memory Cset) (region_with config (now (Heap (address + 3 + i)))) == 1) both.0).1 in
-      let was = reached_was address reached in
-      let at = held_is_reached config top heap block (now_in memory) (IsAmong (held_words config memory)) (with_promised graph promises) holds.objects address was in
-      let shape : now (Heap (address + 1)) ≡ heap (address + 1) = word_stays config memory block owner promises graph holds is.sized none address 1 0 (thing at.0 at.1 at.2) at.3 (omega arith) (inl (omega arith)) in
-      let count : i < refs_in (heap (address + 1)) = subst (λ k. i < k) (ap refs_in shape) below in
-      let field = field_kept address i (some_set config (memory Cset) (now (Heap (address + 3 + i))) member) was count in
-      let same : now (Heap (address + 3 + i)) ≡ updated_word config memory (heap (address + 3 + i)) = cond-true (is_kept_field config memory (address + 3 + i)) (updated_word config memory (heap (address + 3 + i))) (heap (address + 3 + i)) field in
-      let other : heap (address + 3 + i) ≢ 0 = λ none. positive (same ∙ low_spared config memory (heap (address + 3 + i)) (omega (arith, none)) ∙ none) in
-      true≢false (sym going ∙ ap (is_going config now) same ∙ word_spared (heap (address + 3 + i)) (from_field address i was count other)))
+  field_spared : (address index : ℕ) → CanBeReached config now address → index < refs_in (now (Heap (address + 1))) → now (Heap (address + 3 + index)) ≢ 0 → is_going config now (now (Heap (address + 3 + index))) ≡ false
+  field_spared address index reached index_below positive = false_from_ne_true (is_going config now (now (Heap (address + 3 + index)))) (λ going.
+      let both_parts = and_parts (is_collected config now (now (Heap (address + 3 + index)))) (not (is_pinned config now (region_with config (now (Heap (address + 3 + index))))) || is_forwarded (now (Heap (now (Heap (address + 3 + index)))))) going in
+      let member : IsCollected config (memory Cset) (now (Heap (address + 3 + index))) =
+      eqb-true (bit_at (memory Cset) (region_with config (now (Heap (address + 3 + index))))) 1
+      (and_parts (nat_le config.region_words (now (Heap (address + 3 + index)))) (bit_at (memory Cset) (region_with config (now (Heap (address + 3 + index)))) == 1) both_parts.0).1 in
+      let was_reached = reached_was address reached in
+      let reached_object = held_is_reached config top heap block (now_in memory) (IsAmong (held_words config memory)) (with_promised graph promises) holds.objects address was_reached in
+      let shape : now (Heap (address + 1)) ≡ heap (address + 1) = word_stays config memory block owner promises graph holds emptied.sized no_rooms address 1 0 (thing reached_object.0 reached_object.1 reached_object.2) reached_object.3 (omega arith) (inl (omega arith)) in
+      let count : index < refs_in (heap (address + 1)) = subst (λ field_count. index < field_count) (ap refs_in shape) index_below in
+      let field = field_kept address index (some_set config (memory Cset) (now (Heap (address + 3 + index))) member) was_reached count in
+      let same_word : now (Heap (address + 3 + index)) ≡ updated_word config memory (heap (address + 3 + index)) = cond-true (is_kept_field config memory (address + 3 + index)) (updated_word config memory (heap (address + 3 + index))) (heap (address + 3 + index)) field in
+      let old_some : heap (address + 3 + index) ≢ 0 = λ no_word. positive (same_word ∙ low_spared config memory (heap (address + 3 + index)) (omega (arith, no_word)) ∙ no_word) in
+      true≢false (sym going ∙ ap (is_going config now) same_word ∙ word_spared (heap (address + 3 + index)) (from_field address index was_reached count old_some)))
 
   pub nothing_names : NothingNamesGone config now
-  nothing_names = record { roots = held_spared; fields = field_spared; unseated = is.unseated }
+  nothing_names = record { roots = held_spared; fields = field_spared; unseated = emptied.unseated }
 
   updated : HoldsBy config now block owner promises graph
-  updated = updated_holds config memory block owner promises graph holds is.sized none
+  updated = updated_holds config memory block owner promises graph holds emptied.sized no_rooms
 
   -- so the set may be left, and who waits served
   pub served_holds : HoldsAnew config (served config (set_freed config now) config.mutators) graph
   served_holds =
-      let then = leaving_holds config now block owner promises graph updated (updated_sized config memory block owner promises graph holds is.sized none) nothing_names in
-      let after = serving_holds config (set_freed config now) (left_block config now block) (freed_owner (is_to_free config now) owner) promises graph then.holds in
-      record { pieces = _; owner = _; promises = _; holds = after.holds; sized = after.sized then.sized }
+      let set_left = leaving_holds config now block owner promises graph updated (updated_sized config memory block owner promises graph holds emptied.sized no_rooms) nothing_names in
+      let after = serving_holds config (set_freed config now) (left_block config now block) (freed_owner (is_to_free config now) owner) promises graph set_left.holds in
+      record { pieces = _; owner = _; promises = _; holds = after.holds; sized = after.sized set_left.sized }
 
 -- From words in which nobody has a buffer ..
 finishing_from : (config : Config) (memory : Word → ℕ) → ((seat : ℕ) → memory (Current seat) ≡ 0) → FinishingHolds config memory (finished_from config memory)
-finishing_from config memory nobody block owner p g holds sized while = ⊎_elim
+finishing_from config memory nobody block owner promises graph holds sized collecting = ⊎_elim
     (λ (room : is_room_for_all config memory ≡ true).
-    let emptied = emptied_then config memory block owner p g holds sized while room in
-    let none = none_have_room config (all_copied config memory) emptied.0 owner p g emptied.1.holds (λ seat. all_copied_other config memory (Current seat) (λ never. never) ∙ nobody seat) in
-    subst (λ n. HoldsAnew config n g) (fun_ext (λ word. sym (cond-true (is_room_for_all config memory) (served config (cycle_finished config memory) config.mutators word) (all_copied config memory word) room)))
-    (served_holds config (all_copied config memory) emptied.0 owner p g emptied.1 none))
-    (λ (none : is_room_for_all config memory ≡ false).
-    let still = copies_all_hold config memory block owner p g holds sized while.marked in
-    subst (λ n. HoldsAnew config n g) (fun_ext (λ word. sym (cond-false (is_room_for_all config memory) (served config (cycle_finished config memory) config.mutators word) (all_copied config memory word) none)))
-    (record { pieces = still.pieces; owner = owner; promises = p; holds = still.holds; sized = still.sized sized }))
+    let emptied = emptied_then config memory block owner promises graph holds sized collecting room in
+    let no_room = none_have_room config (all_copied config memory) emptied.0 owner promises graph emptied.1.holds (λ seat. all_copied_other config memory (Current seat) (λ never. never) ∙ nobody seat) in
+    subst (λ finished_memory. HoldsAnew config finished_memory graph) (fun_ext (λ word. sym (cond-true (is_room_for_all config memory) (served config (cycle_finished config memory) config.mutators word) (all_copied config memory word) room)))
+    (served_holds config (all_copied config memory) emptied.0 owner promises graph emptied.1 no_room))
+    (λ (no_room : is_room_for_all config memory ≡ false).
+    let copies_stand = copies_all_hold config memory block owner promises graph holds sized collecting.marked in
+    subst (λ finished_memory. HoldsAnew config finished_memory graph) (fun_ext (λ word. sym (cond-false (is_room_for_all config memory) (served config (cycle_finished config memory) config.mutators word) (all_copied config memory word) no_room)))
+    (record { pieces = copies_stand.pieces; owner = owner; promises = promises; holds = copies_stand.holds; sized = copies_stand.sized sized }))
     (cases_Bool (is_room_for_all config memory))
 
 -- .. as when all buffers were let go.
 pub finishing_holds : (config : Config) (memory : Word → ℕ) → HasNoMoreSeats config memory → FinishingHolds config memory (finished config memory)
-finishing_holds config memory seats block owner p g holds sized while =
-    let after = has_let_go config memory block owner p g holds seats in
-    finishing_from config (let_go config memory) (let_go_seats config memory block owner p g holds seats) after.plot owner p g after.left.holds
-    (loosened_sized config memory (let_go config memory) block after.plot owner p g holds after.left.loosened sized) (let_go_collecting config memory block owner p g holds while seats)
+finishing_holds config memory seats block owner promises graph holds sized collecting =
+    let after = has_let_go config memory block owner promises graph holds seats in
+    finishing_from config (let_go config memory) (let_go_seats config memory block owner promises graph holds seats) after.plot owner promises graph after.left.holds
+    (loosened_sized config memory (let_go config memory) block after.plot owner promises graph holds after.left.loosened sized) (let_go_collecting config memory block owner promises graph holds collecting seats)
 
 pub updated_names_nothing : UpdatedNamesNothing
-updated_names_nothing c m block owner p g holds sized none while nothing =
-    nothing_names c m block owner p g (record { holds = holds; sized = sized; reachable = while.reachable; unseated = while.unseated; outside = nothing }) none
+updated_names_nothing config memory block owner promises graph holds sized no_rooms collecting nothing =
+    nothing_names config memory block owner promises graph (record { holds = holds; sized = sized; reachable = collecting.reachable; unseated = collecting.unseated; outside = nothing }) no_rooms

@@ -30,13 +30,13 @@ module _ (config : Config) (memory : Word → ℕ) (block : Plot) (owner : ℕ �
 
   can : CanFree config out memory block
   can = record {
-    unseated = λ seat region is. not_out region (nothing.unseated seat region is);
-    unshared = λ region is. not_out region (holds.shared_one region is).outside;
-    unnamed_roots = λ word among some. not_out (region_with config word) (nothing.roots word among some);
-    unnamed_fields = λ address i held few some. not_out (region_with config (memory (Heap (address + 3 + i)))) (nothing.fields address i held few some);
-    unmoved = λ address refs nums name is left. false_from_ne_true (is_forwarded (memory (Heap address))) (λ forwarded.
-        let was = holds.moved address refs nums name is forwarded in
-        true≢false (sym (eq-eqb (bit_at (memory Cset) (region_with config address)) 1 was.in_set) ∙ left));
+    unseated = λ seat region found_there. not_out region (nothing.unseated seat region found_there);
+    unshared = λ region found_there. not_out region (holds.shared_one region found_there).outside;
+    unnamed_roots = λ word among some_word. not_out (region_with config word) (nothing.roots word among some_word);
+    unnamed_fields = λ address index is_held few some_word. not_out (region_with config (memory (Heap (address + 3 + index)))) (nothing.fields address index is_held few some_word);
+    unmoved = λ address refs nums name found_there left. false_from_ne_true (is_forwarded (memory (Heap address))) (λ forwarded.
+        let moved_before = holds.moved address refs nums name found_there forwarded in
+        true≢false (sym (eq-eqb (bit_at (memory Cset) (region_with config address)) 1 moved_before.in_set) ∙ left));
   }
 
   abbrev now : Word → ℕ
@@ -50,8 +50,8 @@ module _ (config : Config) (memory : Word → ℕ) (block : Plot) (owner : ℕ �
 
   -- nothing that is left has moved, so no region need be in the set
   calm_holds : HoldsBy config (with_set now 0) left owned promises graph
-  calm_holds = set_stored_holds config now left owned promises graph (freed_holds config out memory block owner promises graph holds can) (λ a refs nums name is. left_unmoved config out memory block owner promises graph holds can a refs nums name is) 0
-      (λ r is member. (let none = bit_at-zero r in omega (arith, member, none)))
+  calm_holds = set_stored_holds config now left owned promises graph (freed_holds config out memory block owner promises graph holds can) (λ address refs nums name found_there. left_unmoved config out memory block owner promises graph holds can address refs nums name found_there) 0
+      (λ region found_there member. (let no_bit = bit_at-zero region in omega (arith, member, no_bit)))
 
   pub set_ended_holds : HoldsBy config (final_updated config memory) left owned promises graph
   set_ended_holds = holds_alike (with_set now 0) (final_updated config memory)
@@ -59,7 +59,7 @@ module _ (config : Config) (memory : Word → ℕ) (block : Plot) (owner : ℕ �
       config left owned promises graph calm_holds
 
 pub ending_holds : (config : Config) (memory : Word → ℕ) → EndingHolds config memory (final_updated config memory)
-ending_holds config memory block owner p g holds nothing = record {
-  holds = set_ended_holds config memory block owner p g holds nothing;
+ending_holds config memory block owner promises graph holds nothing = record {
+  holds = set_ended_holds config memory block owner promises graph holds nothing;
   sized = λ sized. sized_alike memory (final_updated config memory) (freed_block config (is_chosen memory) block) (λ a. refl) (freed_sized config (is_chosen memory) memory block sized);
 }

@@ -38,20 +38,20 @@ use Rattle.cycle_words.proofs.Finishing.Walking as walking
 use Rattle.cycle_words.proofs.Finishing.LeftPieces.{WasLeft, plot_left, piece_was, object_was, CanBeFilled, left_holds}
 
 -- What does not go: by whether its region is in the set, whether that is pinned, and whether it has moved.
-not_going : (l b p f : Bool) → l ≡ true → (l && b && (not p || f)) ≡ false → ((b && not p) ≡ false) × ((b && p && f) ≡ false)
-not_going l false p f high is = (refl, refl)
-not_going l true false f high is = absurd (true≢false (sym (ap (λ k. k && true && (not false || f)) high) ∙ is))
-not_going l true true f high is = (refl, sym (ap (λ k. k && true && (not true || f)) high) ∙ is)
+not_going : (in_heap in_set pinned moved : Bool) → in_heap ≡ true → (in_heap && in_set && (not pinned || moved)) ≡ false → ((in_set && not pinned) ≡ false) × ((in_set && pinned && moved) ≡ false)
+not_going in_heap false pinned moved high not_to_go = (refl, refl)
+not_going in_heap true false moved high not_to_go = absurd (true≢false (sym (ap (λ high_now. high_now && true && (not false || moved)) high) ∙ not_to_go))
+not_going in_heap true true moved high not_to_go = (refl, sym (ap (λ high_now. high_now && true && (not true || moved)) high) ∙ not_to_go)
 
 -- in a region of the set that is not freed what is left has not moved
-left_plain : (b p f : Bool) → b ≡ true → (b && not p) ≡ false → (b && p && f) ≡ false → f ≡ false
-left_plain false p f member kept left = absurd (true≢false (sym member))
-left_plain true false f member kept left = absurd (true≢false kept)
-left_plain true true f member kept left = left
+left_plain : (in_set pinned moved : Bool) → in_set ≡ true → (in_set && not pinned) ≡ false → (in_set && pinned && moved) ≡ false → moved ≡ false
+left_plain false pinned moved member not_freed not_moved = absurd (true≢false (sym member))
+left_plain true false moved member not_freed not_moved = absurd (true≢false not_freed)
+left_plain true true moved member not_freed not_moved = not_moved
 
 -- words that only fill have not moved
 filler_stays : (words : ℕ) → is_forwarded (filler_header words) ≡ false
-filler_stays words = ne_eqb _ 3 (λ same. omega (arith, same))
+filler_stays words = ne_eqb _ 3 (λ same_number. omega (arith, same_number))
 
 module _ (config : Config) (memory : Word → ℕ) (block : Plot) (owner : ℕ → Option ℕ) (promises : Promises) (graph : Graph) (holds : HoldsBy config memory block owner promises graph) (sized : AreSized memory block) (nothing : NothingNamesGone config memory) where
   abbrev out : ℕ → Bool
@@ -75,36 +75,36 @@ module _ (config : Config) (memory : Word → ℕ) (block : Plot) (owner : ℕ �
   not_filled address away = and_left (is_to_stay config memory (region_with config address)) (has_moved memory address) (and_left (is_chosen memory (region_with config address)) (is_pinned config memory (region_with config address)) (not_chosen (region_with config address) away))
 
   high : (word : ℕ) (name : Name) → name_at (block word) ≡ Some name → config.region_words ≤ word
-  high word name is = let piece = named_piece (block word) name is in (piece_inside config top block holds.objects.plotted word piece.0 piece.1).0
+  high word name name_there = let piece = named_piece (block word) name name_there in (piece_inside config top block holds.objects.plotted word piece.0 piece.1).0
 
   spared : (word : ℕ) (name : Name) → name_at (block word) ≡ Some name → is_going config memory word ≡ false → (out (region_with config word) ≡ false) × (fill word ≡ false)
-  spared word name named left =
+  spared word name named is_left =
       not_going (nat_le config.region_words word) (bit_at (memory Cset) (region_with config word) == 1) (is_pinned config memory (region_with config word)) (is_forwarded (memory (Heap word)))
-      (le-leb config.region_words word (high word name named)) left
+      (le-leb config.region_words word (high word name named)) is_left
 
   root_spared : (word : ℕ) → IsAmong (held_words config memory) word → word ≢ 0 → (out (region_with config word) ≡ false) × (fill word ≡ false)
-  root_spared word among positive = let to = holds.objects.root_named word among positive in spared word to.2 to.4 (nothing.roots word among positive)
+  root_spared word among positive = let named_root = holds.objects.root_named word among positive in spared word named_root.2 named_root.4 (nothing.roots word among positive)
 
-  field_spared : (address i : ℕ) → CanBeReached config memory address → i < refs_in (memory (Heap (address + 1))) → memory (Heap (address + 3 + i)) ≢ 0
-      → (out (region_with config (memory (Heap (address + 3 + i)))) ≡ false) × (fill (memory (Heap (address + 3 + i))) ≡ false)
-  field_spared address i held below positive =
-      let to = field_named config memory block owner promises graph holds address i held below positive in
-      spared (memory (Heap (address + 3 + i))) to.0 to.1 (nothing.fields address i held below positive)
+  field_spared : (address index : ℕ) → CanBeReached config memory address → index < refs_in (memory (Heap (address + 1))) → memory (Heap (address + 3 + index)) ≢ 0
+      → (out (region_with config (memory (Heap (address + 3 + index)))) ≡ false) × (fill (memory (Heap (address + 3 + index))) ≡ false)
+  field_spared address index is_held index_below positive =
+      let named_field = field_named config memory block owner promises graph holds address index is_held index_below positive in
+      spared (memory (Heap (address + 3 + index))) named_field.0 named_field.1 (nothing.fields address index is_held index_below positive)
 
   -- no room is in the set
   room_outside : (address seat : ℕ) (piece : Block) → block address ≡ Some piece → room_of piece ≡ Some seat → IsIn (memory Cset) (region_with config address) → ⊥
-  room_outside address seat piece is room =
-      let free = only_spares block holds.pieces.unheld holds.pieces.uncarved address seat piece is room in
-      nothing.unseated seat (region_with config address) (spare_ends config memory block owner promises graph holds address seat free.0 (is ∙ ap Some free.1))
+  room_outside address seat piece piece_there room =
+      let is_spare = only_spares block holds.pieces.unheld holds.pieces.uncarved address seat piece piece_there room in
+      nothing.unseated seat (region_with config address) (spare_ends config memory block owner promises graph holds address seat is_spare.0 (piece_there ∙ ap Some is_spare.1))
 
   can_fill : CanBeFilled config memory block fill
   can_fill = record {
-    unnamed_roots = λ word among some. (root_spared word among some).1;
-    unnamed_fields = λ address i held few some. (field_spared address i held few some).1;
-    copies = λ a refs nums name is forwarded.
-        let away = (holds.moved a refs nums name is forwarded).outside in
-        not_filled (now_in memory a) (λ member. omega (arith, away, member));
-    rooms = λ address seat piece is room. not_filled address (room_outside address seat piece is room);
+    unnamed_roots = λ word among some_word. (root_spared word among some_word).1;
+    unnamed_fields = λ address index is_held few some_word. (field_spared address index is_held few some_word).1;
+    copies = λ moved_address refs nums name piece_there forwarded.
+        let away = (holds.moved moved_address refs nums name piece_there forwarded).outside in
+        not_filled (now_in memory moved_address) (λ member. omega (arith, away, member));
+    rooms = λ address seat piece piece_there room. not_filled address (room_outside address seat piece piece_there room);
   }
 
   abbrev filled : Plot
@@ -115,18 +115,18 @@ module _ (config : Config) (memory : Word → ℕ) (block : Plot) (owner : ℕ �
 
   -- what is left in the regions that are not freed has not moved
   unmoved : (address refs nums : ℕ) (name : Name) → filled address ≡ Some (thing name refs nums) → out (region_with config address) ≡ false → is_forwarded (memory (Heap address)) ≡ false
-  unmoved address refs nums name is stays = false_from_ne_true (is_forwarded (memory (Heap address))) (λ forwarded.
-      let was = object_was fill block address (thing name refs nums) refl is in
-      let member = (holds.moved address refs nums name was.0 forwarded).in_set in
+  unmoved address refs nums name left_there stays = false_from_ne_true (is_forwarded (memory (Heap address))) (λ forwarded.
+      let object_before = object_was fill block address (thing name refs nums) refl left_there in
+      let member = (holds.moved address refs nums name object_before.0 forwarded).in_set in
       true≢false (sym forwarded ∙ left_plain (is_chosen memory (region_with config address)) (is_pinned config memory (region_with config address)) (is_forwarded (memory (Heap address)))
-      (eq-eqb (bit_at (memory Cset) (region_with config address)) 1 member) stays was.1))
+      (eq-eqb (bit_at (memory Cset) (region_with config address)) 1 member) stays object_before.1))
 
   can : CanFree config out memory filled
   can = record {
-    unseated = λ seat region is. not_out region (nothing.unseated seat region is);
-    unshared = λ region is. not_out region (holds.shared_one region is).outside;
-    unnamed_roots = λ word among some. (root_spared word among some).0;
-    unnamed_fields = λ address i held few some. (field_spared address i held few some).0;
+    unseated = λ seat region found_there. not_out region (nothing.unseated seat region found_there);
+    unshared = λ region found_there. not_out region (holds.shared_one region found_there).outside;
+    unnamed_roots = λ word among some_word. (root_spared word among some_word).0;
+    unnamed_fields = λ address index is_held few some_word. (field_spared address index is_held few some_word).0;
     unmoved = unmoved;
   }
 
@@ -142,74 +142,74 @@ module _ (config : Config) (memory : Word → ℕ) (block : Plot) (owner : ℕ �
 
   calm_holds : HoldsBy config now left owned promises graph
   calm_holds = set_stored_holds config (freed config out memory) left owned promises graph (freed_holds config out memory filled owner promises graph filled_holds can)
-      (λ a refs nums name is. left_unmoved config out memory filled owner promises graph filled_holds can a refs nums name is) 0
-      (λ r is member. (let none = bit_at-zero r in omega (arith, member, none)))
+      (λ address refs nums name found_there. left_unmoved config out memory filled owner promises graph filled_holds can address refs nums name found_there) 0
+      (λ region found_there member. (let no_bit = bit_at-zero region in omega (arith, member, no_bit)))
 
   abbrev memory_then : Word → ℕ
   memory_then = set_freed config memory
 
   -- Pinned regions of the set can be walked.
   abbrev IsWalked : ℕ → Type 0
-  IsWalked r = is_to_stay config memory r ≡ true
+  IsWalked region = is_to_stay config memory region ≡ true
 
   sizes : (address : ℕ) (piece : Block) → block address ≡ Some piece → IsWalked (region_with config address) → stride_at (λ address. memory (Heap address)) address ≡ words_of piece
-  sizes address piece is walked =
+  sizes address piece piece_there walked =
       let member = eqb-true (bit_at (memory Cset) (region_with config address)) 1 (and_parts (is_chosen memory (region_with config address)) (is_pinned config memory (region_with config address)) walked).0 in
-      stride_of memory block sized address piece is (λ seat room. room_outside address seat piece is room member)
+      stride_of memory block sized address piece piece_there (λ seat room. room_outside address seat piece piece_there room member)
 
   -- a word becomes the header of filler
   abbrev changes : ℕ → Bool
   changes address = is_to_stay config memory (region_with config address) && begins config memory address && has_moved memory address
 
   change_parts : (address : ℕ) → changes address ≡ true → (is_to_stay config memory (region_with config address) ≡ true) × (begins config memory address ≡ true) × (has_moved memory address ≡ true)
-  change_parts address is =
-      let both = and_parts (is_to_stay config memory (region_with config address) && begins config memory address) (has_moved memory address) is in
-      let first = and_parts (is_to_stay config memory (region_with config address)) (begins config memory address) both.0 in
-      (first.0, first.1, both.1)
+  change_parts address changed =
+      let parts = and_parts (is_to_stay config memory (region_with config address) && begins config memory address) (has_moved memory address) changed in
+      let first_parts = and_parts (is_to_stay config memory (region_with config address)) (begins config memory address) parts.0 in
+      (first_parts.0, first_parts.1, parts.1)
 
   -- the words of other pieces stay
-  no_change : (address j : ℕ) (piece : Block) → block address ≡ Some piece → fill address ≡ false → j < words_of piece → changes (address + j) ≡ true → ⊥
-  no_change address zero piece is stands below change =
-      let first : address + 0 ≡ address = omega arith in
-      let parts = change_parts address (sym (ap changes first) ∙ change) in
-      true≢false (sym (and_from (is_to_stay config memory (region_with config address)) (has_moved memory address) parts.0 parts.2) ∙ stands)
-  no_change address (suc j) piece is stands below change =
-      let parts = change_parts (address + suc j) change in
-      let same = walking.same_region config memory block holds.objects.plotted holds.filled holds.pieces.some IsWalked sizes address (suc j) piece is below in
-      let walked : IsWalked (region_with config address) = sym (ap (is_to_stay config memory) same) ∙ parts.0 in
-      true≢false (sym parts.1 ∙ walking.begins_not config memory block holds.objects.plotted holds.filled holds.pieces.some IsWalked sizes address (suc j) piece is below walked (omega arith))
+  no_change : (address index : ℕ) (piece : Block) → block address ≡ Some piece → fill address ≡ false → index < words_of piece → changes (address + index) ≡ true → ⊥
+  no_change address zero piece piece_there stands index_below change =
+      let same_address : address + 0 ≡ address = omega arith in
+      let changed_parts = change_parts address (sym (ap changes same_address) ∙ change) in
+      true≢false (sym (and_from (is_to_stay config memory (region_with config address)) (has_moved memory address) changed_parts.0 changed_parts.2) ∙ stands)
+  no_change address (suc index) piece piece_there stands index_below change =
+      let changed_parts = change_parts (address + suc index) change in
+      let same_region = walking.same_region config memory block holds.objects.plotted holds.filled holds.pieces.some IsWalked sizes address (suc index) piece piece_there index_below in
+      let walked : IsWalked (region_with config address) = sym (ap (is_to_stay config memory) same_region) ∙ changed_parts.0 in
+      true≢false (sym changed_parts.1 ∙ walking.begins_not config memory block holds.objects.plotted holds.filled holds.pieces.some IsWalked sizes address (suc index) piece piece_there index_below walked (omega arith))
 
-  word_same : (address j : ℕ) (piece : Block) → block address ≡ Some piece → fill address ≡ false → j < words_of piece → memory_then (Heap (address + j)) ≡ memory (Heap (address + j))
-  word_same address j piece is stands below =
-      cond-false (changes (address + j)) (filler_header (object_words (memory (Heap (address + j + 1))))) (memory (Heap (address + j)))
-      (false_from_ne_true (changes (address + j)) (no_change address j piece is stands below))
+  word_same : (address index : ℕ) (piece : Block) → block address ≡ Some piece → fill address ≡ false → index < words_of piece → memory_then (Heap (address + index)) ≡ memory (Heap (address + index))
+  word_same address index piece piece_there stands index_below =
+      cond-false (changes (address + index)) (filler_header (object_words (memory (Heap (address + index + 1))))) (memory (Heap (address + index)))
+      (false_from_ne_true (changes (address + index)) (no_change address index piece piece_there stands index_below))
 
   header_same : (address : ℕ) (piece : Block) → block address ≡ Some piece → fill address ≡ false → memory_then (Heap address) ≡ memory (Heap address)
-  header_same address piece is stands =
-      let first : address + 0 ≡ address = omega arith in
-      sym (ap (λ address. memory_then (Heap address)) first) ∙ word_same address 0 piece is stands (holds.pieces.some address piece is) ∙ ap (λ address. memory (Heap address)) first
+  header_same address piece piece_there stands =
+      let same_address : address + 0 ≡ address = omega arith in
+      sym (ap (λ address. memory_then (Heap address)) same_address) ∙ word_same address 0 piece piece_there stands (holds.pieces.some address piece piece_there) ∙ ap (λ address. memory (Heap address)) same_address
 
   -- and what has moved has the header of filler of its words
   header_filled : (address : ℕ) (piece : Block) → block address ≡ Some piece → fill address ≡ true → memory_then (Heap address) ≡ filler_header (object_words (memory (Heap (address + 1))))
-  header_filled address piece is passed =
-      let parts = and_parts (is_to_stay config memory (region_with config address)) (has_moved memory address) passed in
-      let begins_here = walking.piece_begins config memory block holds.objects.plotted holds.filled holds.pieces.some IsWalked sizes address piece is parts.0 in
+  header_filled address piece piece_there passed =
+      let stay_parts = and_parts (is_to_stay config memory (region_with config address)) (has_moved memory address) passed in
+      let begins_here = walking.piece_begins config memory block holds.objects.plotted holds.filled holds.pieces.some IsWalked sizes address piece piece_there stay_parts.0 in
       cond-true (changes address) (filler_header (object_words (memory (Heap (address + 1))))) (memory (Heap address))
-      (and_from (is_to_stay config memory (region_with config address) && begins config memory address) (has_moved memory address) (and_from (is_to_stay config memory (region_with config address)) (begins config memory address) parts.0 begins_here) parts.1)
+      (and_from (is_to_stay config memory (region_with config address) && begins config memory address) (has_moved memory address) (and_from (is_to_stay config memory (region_with config address)) (begins config memory address) stay_parts.0 begins_here) stay_parts.1)
 
   -- a piece that is left and is not loose was there
   there : (address : ℕ) (piece : Block) → is_loose piece ≡ false → left address ≡ Some piece → (block address ≡ Some piece) × (fill address ≡ false)
-  there address piece fixed is = object_was fill block address piece fixed (vanished.piece_was config out filled address piece is).1
+  there address piece fixed left_there = object_was fill block address piece fixed (vanished.piece_was config out filled address piece left_there).1
 
   renaming : IsRenaming config now memory_then left
   renaming = record {
-    headers = λ address refs nums name here. let was = there address (thing name refs nums) refl here in header_same address (thing name refs nums) was.0 was.1;
-    words = λ address j refs nums name here reads below other. let was = there address (thing name refs nums) refl here in word_same address j (thing name refs nums) was.0 was.1 below;
-    fields = λ a i refs nums name here few.
-        let was = there a (thing name refs nums) refl here in
-        let place : a + (3 + i) ≡ a + 3 + i = omega arith in
-        not_renamed now (memory (Heap (a + 3 + i))) (memory_then (Heap (a + 3 + i)))
-        (sym (ap (λ address. memory_then (Heap address)) place) ∙ word_same a (3 + i) (thing name refs nums) was.0 was.1 (omega (arith, few)) ∙ ap (λ address. memory (Heap address)) place);
+    headers = λ address refs nums name left_there. let object_before = there address (thing name refs nums) refl left_there in header_same address (thing name refs nums) object_before.0 object_before.1;
+    words = λ address offset refs nums name left_there reads index_below no_reference. let object_before = there address (thing name refs nums) refl left_there in word_same address offset (thing name refs nums) object_before.0 object_before.1 index_below;
+    fields = λ object_address slot refs nums name left_there few.
+        let object_before = there object_address (thing name refs nums) refl left_there in
+        let place : object_address + (3 + slot) ≡ object_address + 3 + slot = omega arith in
+        not_renamed now (memory (Heap (object_address + 3 + slot))) (memory_then (Heap (object_address + 3 + slot)))
+        (sym (ap (λ address. memory_then (Heap address)) place) ∙ word_same object_address (3 + slot) (thing name refs nums) object_before.0 object_before.1 (omega (arith, few)) ∙ ap (λ address. memory (Heap address)) place);
     roots = λ mutator index inside few. not_renamed now (memory (Root mutator index)) (memory (Root mutator index)) refl;
     answers = λ mutator inside. not_renamed now (memory (Answer mutator)) (memory (Answer mutator)) refl;
     waits = λ t. refl;
@@ -218,7 +218,7 @@ module _ (config : Config) (memory : Word → ℕ) (block : Plot) (owner : ℕ �
     cset = refl;
     currents = λ seat. refl;
     share = refl;
-    pins = λ t i. refl;
+    pins = λ t slot. refl;
   }
 
   pub set_left_holds : HoldsBy config memory_then left owned promises graph
@@ -226,34 +226,34 @@ module _ (config : Config) (memory : Word → ℕ) (block : Plot) (owner : ℕ �
 
   -- what has moved is an object
   moved_fixed : (address : ℕ) (piece : Block) → block address ≡ Some piece → fill address ≡ true → is_loose piece ≡ false
-  moved_fixed address piece is passed =
-      let parts = and_parts (is_to_stay config memory (region_with config address)) (has_moved memory address) passed in
+  moved_fixed address piece piece_there passed =
+      let stay_parts = and_parts (is_to_stay config memory (region_with config address)) (has_moved memory address) passed in
       ⊎_elim
       (λ (fixed : is_loose piece ≡ false). fixed)
       (λ loose. ⊎_elim
-      (λ (room : (seat : ℕ) × (room_of piece ≡ Some seat)). absurd (true≢false (sym passed ∙ not_filled address (room_outside address room.0 piece is room.1))))
+      (λ (room : (seat : ℕ) × (room_of piece ≡ Some seat)). absurd (true≢false (sym passed ∙ not_filled address (room_outside address room.0 piece piece_there room.1))))
       (λ (fills : (words : ℕ) × (piece ≡ filler words)).
-      absurd (true≢false (sym parts.1 ∙ ap is_forwarded (sized.fillers address fills.0 (is ∙ ap Some fills.1)) ∙ filler_stays fills.0)))
+      absurd (true≢false (sym stay_parts.1 ∙ ap is_forwarded (sized.fillers address fills.0 (piece_there ∙ ap Some fills.1)) ∙ filler_stays fills.0)))
       loose)
       (kind_of piece)
 
   filler_said : (address words : ℕ) (piece : Block) → block address ≡ Some piece → WasLeft (fill address) piece (filler words) → memory_then (Heap address) ≡ filler_header words
-  filler_said address words piece is (WasLeft.stays same stands) = header_same address piece is stands ∙ sized.fillers address words (is ∙ ap Some same)
-  filler_said address words piece is (WasLeft.fills fills passed) =
-      header_filled address piece is passed ∙ ap filler_header (sized.objects address piece is (moved_fixed address piece is passed)) ∙ ap filler_header (sym (ap words_of fills))
+  filler_said address words piece piece_there (WasLeft.stays same_piece stands) = header_same address piece piece_there stands ∙ sized.fillers address words (piece_there ∙ ap Some same_piece)
+  filler_said address words piece piece_there (WasLeft.fills fills passed) =
+      header_filled address piece piece_there passed ∙ ap filler_header (sized.objects address piece piece_there (moved_fixed address piece piece_there passed)) ∙ ap filler_header (sym (ap words_of fills))
 
   pub set_left_sized : AreSized memory_then left
   set_left_sized = record {
-    objects = λ a b is fixed.
-        let was = there a b fixed is in
-        let words = sized.objects a b was.0 fixed in
-        ap object_words (word_same a 1 b was.0 was.1 (omega (arith, words))) ∙ words;
-    headers = λ address piece is fixed. let was = there address piece fixed is in ap is_filler (header_same address piece was.0 was.1) ∙ sized.headers address piece was.0 fixed;
-    fillers = λ a words is.
-        let was = piece_was fill block a (filler words) (vanished.piece_was config out filled a (filler words) is).1 in
-        filler_said a words was.0 was.1 was.2;
+    objects = λ left_address left_piece left_there fixed.
+        let piece_before = there left_address left_piece fixed left_there in
+        let words = sized.objects left_address left_piece piece_before.0 fixed in
+        ap object_words (word_same left_address 1 left_piece piece_before.0 piece_before.1 (omega (arith, words))) ∙ words;
+    headers = λ address piece left_there fixed. let piece_before = there address piece fixed left_there in ap is_filler (header_same address piece piece_before.0 piece_before.1) ∙ sized.headers address piece piece_before.0 fixed;
+    fillers = λ left_address words left_there.
+        let piece_before = piece_was fill block left_address (filler words) (vanished.piece_was config out filled left_address (filler words) left_there).1 in
+        filler_said left_address words piece_before.0 piece_before.1 piece_before.2;
   }
 
 pub leaving_holds : (config : Config) (memory : Word → ℕ) → LeavingHolds config memory (set_freed config memory)
-leaving_holds config memory block owner p g holds sized nothing =
-    record { holds = set_left_holds config memory block owner p g holds sized nothing; sized = set_left_sized config memory block owner p g holds sized nothing }
+leaving_holds config memory block owner promises graph holds sized nothing =
+    record { holds = set_left_holds config memory block owner promises graph holds sized nothing; sized = set_left_sized config memory block owner promises graph holds sized nothing }

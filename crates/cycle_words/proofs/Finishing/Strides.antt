@@ -14,21 +14,21 @@ filler_fills words = eq-eqb _ 2 (omega arith)
 
 module _ (memory : Word → ℕ) (block : Plot) (sized : AreSized memory block) where
   fills : (address words : ℕ) → block address ≡ Some (filler words) → stride_at (λ address. memory (Heap address)) address ≡ words
-  fills address words here =
-      let header = sized.fillers address words here in
+  fills address words filler_there =
+      let header = sized.fillers address words filler_there in
       let quarter : filler_header words / 4 ≡ words = omega arith in
-      cond-true (is_filler (memory (Heap address))) (memory (Heap address) / 4) (object_words (memory (Heap (address + 1)))) (ap is_filler header ∙ filler_fills words) ∙ ap (λ k. k / 4) header ∙ quarter
+      cond-true (is_filler (memory (Heap address))) (memory (Heap address) / 4) (object_words (memory (Heap (address + 1)))) (ap is_filler header ∙ filler_fills words) ∙ ap (λ word. word / 4) header ∙ quarter
 
   pub stride_of : (address : ℕ) (piece : Block) → block address ≡ Some piece → ((seat : ℕ) → room_of piece ≡ Some seat → ⊥) → stride_at (λ address. memory (Heap address)) address ≡ words_of piece
-  stride_of address piece here none = ⊎_elim
+  stride_of address piece piece_there no_room = ⊎_elim
       (λ (fixed : is_loose piece ≡ false).
-      cond-false (is_filler (memory (Heap address))) (memory (Heap address) / 4) (object_words (memory (Heap (address + 1)))) (sized.headers address piece here fixed) ∙ sized.objects address piece here fixed)
+      cond-false (is_filler (memory (Heap address))) (memory (Heap address) / 4) (object_words (memory (Heap (address + 1)))) (sized.headers address piece piece_there fixed) ∙ sized.objects address piece piece_there fixed)
       (λ loose. ⊎_elim
-      (λ (room : (seat : ℕ) × (room_of piece ≡ Some seat)). absurd (none room.0 room.1))
-      (λ (only : (words : ℕ) × (piece ≡ filler words)). fills address only.0 (here ∙ ap Some only.1) ∙ sym (ap words_of only.1))
+      (λ (room : (seat : ℕ) × (room_of piece ≡ Some seat)). absurd (no_room room.0 room.1))
+      (λ (only_fills : (words : ℕ) × (piece ≡ filler words)). fills address only_fills.0 (piece_there ∙ ap Some only_fills.1) ∙ sym (ap words_of only_fills.1))
       loose)
       (kind_of piece)
 
 -- so over each piece, where none is room
 pub strides : (memory : Word → ℕ) (block : Plot) → AreSized memory block → HasNoRoom block → (address : ℕ) (piece : Block) → block address ≡ Some piece → stride_at (λ address. memory (Heap address)) address ≡ words_of piece
-strides memory block sized none address piece here = stride_of memory block sized address piece here (λ seat room. none address seat piece here room)
+strides memory block sized no_room address piece piece_there = stride_of memory block sized address piece piece_there (λ seat room. no_room address seat piece piece_there room)

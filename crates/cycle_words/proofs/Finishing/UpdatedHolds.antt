@@ -19,16 +19,16 @@ use Rattle.cycle_words.proofs.Finishing.Strides.{strides}
 use Rattle.cycle_words.proofs.Finishing.Fields.{low_spared, other_stays, gone_stays}
 
 -- an updated word is renamed
-pub updated_renamed : (config : Config) (memory : Word → ℕ) (v : ℕ) → IsRenamed memory v (updated_word config memory v)
-updated_renamed config memory v = record {
-  small = low_spared config memory v;
+pub updated_renamed : (config : Config) (memory : Word → ℕ) (word : ℕ) → IsRenamed memory word (updated_word config memory word)
+updated_renamed config memory word = record {
+  small = low_spared config memory word;
   either = ⊎_elim
-      (λ (yes : is_collected config memory v ≡ true). inr (cond-true (is_collected config memory v) (now_in memory v) v yes))
-      (λ (no : is_collected config memory v ≡ false). inl (cond-false (is_collected config memory v) (now_in memory v) v no))
-      (cases_Bool (is_collected config memory v));
+      (λ (word_collected : is_collected config memory word ≡ true). inr (cond-true (is_collected config memory word) (now_in memory word) word word_collected))
+      (λ (not_collected : is_collected config memory word ≡ false). inl (cond-false (is_collected config memory word) (now_in memory word) word not_collected))
+      (cases_Bool (is_collected config memory word));
 }
 
-module _ (config : Config) (memory : Word → ℕ) (block : Plot) (owner : ℕ → Option ℕ) (promises : Promises) (graph : Graph) (holds : HoldsBy config memory block owner promises graph) (sized : AreSized memory block) (none : HasNoRoom block) where
+module _ (config : Config) (memory : Word → ℕ) (block : Plot) (owner : ℕ → Option ℕ) (promises : Promises) (graph : Graph) (graph_held : HoldsBy config memory block owner promises graph) (sized : AreSized memory block) (no_room : HasNoRoom block) where
   abbrev memory_then : Word → ℕ
   memory_then = all_updated config memory
 
@@ -36,45 +36,45 @@ module _ (config : Config) (memory : Word → ℕ) (block : Plot) (owner : ℕ �
   heap address = memory (Heap address)
 
   -- the words of a piece that are no references stay
-  not_reference : (address k refs : ℕ) → (k < 3) ⊎ ((3 + refs ≤ k) × (refs_in (heap (address + 1)) ≡ refs)) → is_reference memory address (address + k) ≡ false
-  not_reference address k refs out = ⊎_elim
-      (λ (low : k < 3). and_left (not (is_filler (heap address)) && nat_le (address + 3) (address + k)) (nat_lt (address + k) (address + 3 + refs_in (heap (address + 1))))
-      (and_right (not (is_filler (heap address))) (nat_le (address + 3) (address + k)) (lt-leb (address + 3) (address + k) (omega (arith, low)))))
-      (λ (high : (3 + refs ≤ k) × (refs_in (heap (address + 1)) ≡ refs)).
-      let above = high.0 in
-      let reads = high.1 in
-      and_right (not (is_filler (heap address)) && nat_le (address + 3) (address + k)) (nat_lt (address + k) (address + 3 + refs_in (heap (address + 1)))) (le-ltb (address + k) (address + 3 + refs_in (heap (address + 1))) (omega (arith, above, reads))))
-      out
+  not_reference : (address offset refs : ℕ) → (offset < 3) ⊎ ((3 + refs ≤ offset) × (refs_in (heap (address + 1)) ≡ refs)) → is_reference memory address (address + offset) ≡ false
+  not_reference address offset refs not_in_fields = ⊎_elim
+      (λ (offset_low : offset < 3). and_left (not (is_filler (heap address)) && nat_le (address + 3) (address + offset)) (nat_lt (address + offset) (address + 3 + refs_in (heap (address + 1))))
+      (and_right (not (is_filler (heap address))) (nat_le (address + 3) (address + offset)) (lt-leb (address + 3) (address + offset) (omega (arith, offset_low)))))
+      (λ (past_references : (3 + refs ≤ offset) × (refs_in (heap (address + 1)) ≡ refs)).
+      let offset_past = past_references.0 in
+      let reads = past_references.1 in
+      and_right (not (is_filler (heap address)) && nat_le (address + 3) (address + offset)) (nat_lt (address + offset) (address + 3 + refs_in (heap (address + 1)))) (le-ltb (address + offset) (address + 3 + refs_in (heap (address + 1))) (omega (arith, offset_past, reads))))
+      not_in_fields
 
-  pub word_stays : (address k refs : ℕ) (piece : Block) → block address ≡ Some piece → k < words_of piece → (k < 3) ⊎ ((3 + refs ≤ k) × (refs_in (heap (address + 1)) ≡ refs)) → memory_then (Heap (address + k)) ≡ memory (Heap (address + k))
-  word_stays address k refs piece is below out = ⊎_elim
+  pub word_stays : (address offset refs : ℕ) (piece : Block) → block address ≡ Some piece → offset < words_of piece → (offset < 3) ⊎ ((3 + refs ≤ offset) × (refs_in (heap (address + 1)) ≡ refs)) → memory_then (Heap (address + offset)) ≡ memory (Heap (address + offset))
+  word_stays address offset refs piece piece_there offset_below not_in_fields = ⊎_elim
       (λ (stay : stays config memory (region_with config address) ≡ true).
-      other_stays config memory block holds.objects.plotted holds.filled holds.pieces.some (λ address piece here off. strides memory block sized none address piece here) address k piece is below stay (not_reference address k refs out))
-      (λ (gone : stays config memory (region_with config address) ≡ false).
-      gone_stays config memory block holds.objects.plotted holds.filled holds.pieces.some (λ address piece here off. strides memory block sized none address piece here) address k piece is below gone)
+      other_stays config memory block graph_held.objects.plotted graph_held.filled graph_held.pieces.some (λ address piece stands_there region_stays. strides memory block sized no_room address piece stands_there) address offset piece piece_there offset_below stay (not_reference address offset refs not_in_fields))
+      (λ (region_freed : stays config memory (region_with config address) ≡ false).
+      gone_stays config memory block graph_held.objects.plotted graph_held.filled graph_held.pieces.some (λ address piece stands_there region_stays. strides memory block sized no_room address piece stands_there) address offset piece piece_there offset_below region_freed)
       (cases_Bool (stays config memory (region_with config address)))
 
   pub header_stays : (address : ℕ) (piece : Block) → block address ≡ Some piece → memory_then (Heap address) ≡ memory (Heap address)
-  header_stays address piece is =
-      let first : address + 0 ≡ address = omega arith in
-      sym (ap (λ address. memory_then (Heap address)) first) ∙ word_stays address 0 0 piece is (holds.pieces.some address piece is) (inl (omega arith)) ∙ ap heap first
+  header_stays address piece piece_there =
+      let same_address : address + 0 ≡ address = omega arith in
+      sym (ap (λ address. memory_then (Heap address)) same_address) ∙ word_stays address 0 0 piece piece_there (graph_held.pieces.some address piece piece_there) (inl (omega arith)) ∙ ap heap same_address
 
   pub renaming : IsRenaming config memory memory_then block
   renaming = record {
-    headers = λ address refs nums name here. header_stays address (thing name refs nums) here;
-    words = λ address k refs nums name here reads below other. word_stays address k refs (thing name refs nums) here below
-        (⊎_elim (λ (low : k < 3). inl low) (λ (high : 3 + refs ≤ k). inr (high, reads)) other);
-    fields = λ a i refs nums name here few. ⊎_elim
-        (λ (kept : is_kept_field config memory (a + 3 + i) ≡ true). record {
-          small = λ low. cond-true (is_kept_field config memory (a + 3 + i)) (updated_word config memory (heap (a + 3 + i))) (heap (a + 3 + i)) kept ∙ low_spared config memory (heap (a + 3 + i)) low;
+    headers = λ address refs nums name object_there. header_stays address (thing name refs nums) object_there;
+    words = λ address offset refs nums name object_there reads offset_below otherwise. word_stays address offset refs (thing name refs nums) object_there offset_below
+        (⊎_elim (λ (slot_low : offset < 3). inl slot_low) (λ (past_references : 3 + refs ≤ offset). inr (past_references, reads)) otherwise);
+    fields = λ object_address slot refs nums name object_there few. ⊎_elim
+        (λ (kept_field : is_kept_field config memory (object_address + 3 + slot) ≡ true). record {
+          small = λ slot_low. cond-true (is_kept_field config memory (object_address + 3 + slot)) (updated_word config memory (heap (object_address + 3 + slot))) (heap (object_address + 3 + slot)) kept_field ∙ low_spared config memory (heap (object_address + 3 + slot)) slot_low;
           either = ⊎_elim
-              (λ same. inl (cond-true (is_kept_field config memory (a + 3 + i)) (updated_word config memory (heap (a + 3 + i))) (heap (a + 3 + i)) kept ∙ same))
-              (λ now. inr (cond-true (is_kept_field config memory (a + 3 + i)) (updated_word config memory (heap (a + 3 + i))) (heap (a + 3 + i)) kept ∙ now))
-              (updated_renamed config memory (heap (a + 3 + i))).either;
+              (λ same_word. inl (cond-true (is_kept_field config memory (object_address + 3 + slot)) (updated_word config memory (heap (object_address + 3 + slot))) (heap (object_address + 3 + slot)) kept_field ∙ same_word))
+              (λ renamed_now. inr (cond-true (is_kept_field config memory (object_address + 3 + slot)) (updated_word config memory (heap (object_address + 3 + slot))) (heap (object_address + 3 + slot)) kept_field ∙ renamed_now))
+              (updated_renamed config memory (heap (object_address + 3 + slot))).either;
         })
-        (λ (other : is_kept_field config memory (a + 3 + i) ≡ false).
-        not_renamed memory (heap (a + 3 + i)) (memory_then (Heap (a + 3 + i))) (cond-false (is_kept_field config memory (a + 3 + i)) (updated_word config memory (heap (a + 3 + i))) (heap (a + 3 + i)) other))
-        (cases_Bool (is_kept_field config memory (a + 3 + i)));
+        (λ (otherwise : is_kept_field config memory (object_address + 3 + slot) ≡ false).
+        not_renamed memory (heap (object_address + 3 + slot)) (memory_then (Heap (object_address + 3 + slot))) (cond-false (is_kept_field config memory (object_address + 3 + slot)) (updated_word config memory (heap (object_address + 3 + slot))) (heap (object_address + 3 + slot)) otherwise))
+        (cases_Bool (is_kept_field config memory (object_address + 3 + slot)));
     roots = λ mutator index inside few. updated_renamed config memory (memory (Root mutator index));
     answers = λ mutator inside. updated_renamed config memory (memory (Answer mutator));
     waits = λ t. refl;
@@ -83,17 +83,17 @@ module _ (config : Config) (memory : Word → ℕ) (block : Plot) (owner : ℕ �
     cset = refl;
     currents = λ seat. refl;
     share = refl;
-    pins = λ t i. refl;
+    pins = λ t slot. refl;
   }
 
   pub updated_holds : HoldsBy config memory_then block owner promises graph
-  updated_holds = renamed_holds config memory memory_then block owner promises graph holds renaming
+  updated_holds = renamed_holds config memory memory_then block owner promises graph graph_held renaming
 
   pub updated_sized : AreSized memory_then block
   updated_sized = record {
-    objects = λ a b is fixed.
-        let words = sized.objects a b is fixed in
-        ap object_words (word_stays a 1 0 b is (omega (arith, words)) (inl (omega arith))) ∙ words;
-    headers = λ address piece is fixed. ap is_filler (header_stays address piece is) ∙ sized.headers address piece is fixed;
-    fillers = λ address words is. header_stays address (filler words) is ∙ sized.fillers address words is;
+    objects = λ old_address old_piece piece_there fixed.
+        let words = sized.objects old_address old_piece piece_there fixed in
+        ap object_words (word_stays old_address 1 0 old_piece piece_there (omega (arith, words)) (inl (omega arith))) ∙ words;
+    headers = λ address piece piece_there fixed. ap is_filler (header_stays address piece piece_there) ∙ sized.headers address piece piece_there fixed;
+    fillers = λ address words piece_there. header_stays address (filler words) piece_there ∙ sized.fillers address words piece_there;
   }

@@ -20,7 +20,7 @@ use Rattle.cycle_words.proofs.Marking.Dead.{shared_alive, current_alive}
 use Rattle.cycle_words.proofs.Marking.Vanished.{piece_was, piece_stays}
 use Rattle.cycle_words.proofs.Marking.Freed.{CanFree, calm_can_free, same_roots, freed_holds}
 
-module _ (config : Config) (memory : Word → ℕ) (block : Plot) (owner : ℕ → Option ℕ) (promises : Promises) (graph : Graph) (holds : HoldsBy config memory block owner promises graph) (marking : IsMarking config memory block) (seats : HasNoMoreSeats config memory) where
+module _ (config : Config) (memory : Word → ℕ) (block : Plot) (owner : ℕ → Option ℕ) (promises : Promises) (graph : Graph) (graph_held : HoldsBy config memory block owner promises graph) (marking : IsMarking config memory block) (seats : HasNoMoreSeats config memory) where
   -- the words once the marks are closed, and once the dead regions are freed
   abbrev now : Word → ℕ
   now = closed config memory
@@ -35,14 +35,14 @@ module _ (config : Config) (memory : Word → ℕ) (block : Plot) (owner : ℕ �
   left = freed_block config out block
 
   held : HoldsBy config now block owner promises graph
-  held = closed_holds config memory block owner promises graph holds marking
+  held = closed_holds config memory block owner promises graph graph_held marking
 
   through : IsMarkedThrough config now block
-  through = closed_through config memory block owner promises graph holds marking
+  through = closed_through config memory block owner promises graph graph_held marking
 
   -- no object lies in a dead region
   alive : (address : ℕ) → IsObjectAt now block address → out (region_with config address) ≡ false
-  alive address is = object_alive config memory block owner promises graph holds marking address (object_back config memory block owner promises graph holds marking address is)
+  alive address object = object_alive config memory block owner promises graph graph_held marking address (object_back config memory block owner promises graph graph_held marking address object)
 
   can : CanFree config out now block
   can =
@@ -55,53 +55,53 @@ module _ (config : Config) (memory : Word → ℕ) (block : Plot) (owner : ℕ �
   -- what is kept and left was kept before, and what was kept is kept
 
   kept_was : (address : ℕ) → out (region_with config address) ≡ false → IsKept config memory_then address → IsKept config now address
-  kept_was address stays kept = ⊎_elim
-      (λ (black : is_black config memory_then address ≡ true). inl black)
+  kept_was address region_stays kept_after = ⊎_elim
+      (λ (address_black : is_black config memory_then address ≡ true). inl address_black)
       (λ (fresh : IsNew config memory_then address).
-      inr (let same : cond (out (region_with config address)) 0 (now (Tams (region_with config address))) ≡ now (Tams (region_with config address)) = cond-false (out (region_with config address)) 0 (now (Tams (region_with config address))) stays in
-      omega (arith, fresh, same)))
-      kept
+      inr (let same_tams : cond (out (region_with config address)) 0 (now (Tams (region_with config address))) ≡ now (Tams (region_with config address)) = cond-false (out (region_with config address)) 0 (now (Tams (region_with config address))) region_stays in
+      omega (arith, fresh, same_tams)))
+      kept_after
 
   kept_is : (address : ℕ) → IsKept config now address → IsKept config memory_then address
-  kept_is address kept = ⊎_elim
-      (λ (black : is_black config now address ≡ true). inl black)
-      (λ (fresh : IsNew config now address). inr (let low = lower (out (region_with config address)) (now (Tams (region_with config address))) in omega (arith, fresh, low)))
-      kept
+  kept_is address kept_before = ⊎_elim
+      (λ (address_black : is_black config now address ≡ true). inl address_black)
+      (λ (fresh : IsNew config now address). inr (let tams_lower = lower (out (region_with config address)) (now (Tams (region_with config address))) in omega (arith, fresh, tams_lower)))
+      kept_before
     where
-      lower : (holds : Bool) (x : ℕ) → cond holds 0 x ≤ x
+      lower : (graph_held : Bool) (x : ℕ) → cond graph_held 0 x ≤ x
       lower true x = omega arith
       lower false x = omega arith
 
   -- reaching is as before
-  reached_was : (a : ℕ) → CanBeReached config memory_then a → CanBeReached config now a
+  reached_was : (address : ℕ) → CanBeReached config memory_then address → CanBeReached config now address
   reached_was = reach_ind config memory_then left (freed_owner out owner) promises graph ended_holds marking.uncollected (CanBeReached config now)
-      (λ word is some.
+      (λ word root_word some_word.
       root_reached config now block owner promises graph held marking.uncollected word
-      (ap (λ xs. has xs word) (sym (same_roots config out now block owner promises graph held can)) ∙ is) some)
-      (λ a i reached before few some. field_reached config now block owner promises graph held marking.uncollected a i before few some)
+      (ap (λ xs. has xs word) (sym (same_roots config out now block owner promises graph held can)) ∙ root_word) some_word)
+      (λ address index reached before few some_word. field_reached config now block owner promises graph held marking.uncollected address index before few some_word)
 
   object_was : (address : ℕ) → IsObjectAt memory_then left address → (out (region_with config address) ≡ false) × IsObjectAt now block address
-  object_was address is =
-      let was = piece_was config out block address _ is.here in
-      (was.0, record { name = is.name; refs = is.refs; nums = is.nums; here = was.1; shape = is.shape; few_refs = is.few_refs; few_nums = is.few_nums })
+  object_was address object_after =
+      let piece_before = piece_was config out block address _ object_after.here in
+      (piece_before.0, record { name = object_after.name; refs = object_after.refs; nums = object_after.nums; here = piece_before.1; shape = object_after.shape; few_refs = object_after.few_refs; few_nums = object_after.few_nums })
 
   object_is : (address : ℕ) → out (region_with config address) ≡ false → IsObjectAt now block address → IsObjectAt memory_then left address
-  object_is address stays is =
+  object_is address region_stays object_before =
       record {
-        name = is.name;
-        refs = is.refs;
-        nums = is.nums;
-        here = piece_stays config out block address stays ∙ is.here;
-        shape = is.shape;
-        few_refs = is.few_refs;
-        few_nums = is.few_nums;
+        name = object_before.name;
+        refs = object_before.refs;
+        nums = object_before.nums;
+        here = piece_stays config out block address region_stays ∙ object_before.here;
+        shape = object_before.shape;
+        few_refs = object_before.few_refs;
+        few_nums = object_before.few_nums;
       }
 
   pub ended_through : IsMarkedThrough config memory_then left
   ended_through = record {
     reachable = λ address reached. kept_is address (through.reachable address (reached_was address reached));
-    fields = λ a i is kept few some.
-        let was = object_was a is in
-        let field = through.fields a i was.1 (kept_was a was.0 kept) few some in
-        (object_is (now (Heap (a + 3 + i))) (alive (now (Heap (a + 3 + i))) field.0) field.0, kept_is (now (Heap (a + 3 + i))) field.1);
+    fields = λ object_address index object_after kept_after few some_word.
+        let object_before = object_was object_address object_after in
+        let field = through.fields object_address index object_before.1 (kept_was object_address object_before.0 kept_after) few some_word in
+        (object_is (now (Heap (object_address + 3 + index))) (alive (now (Heap (object_address + 3 + index))) field.0) field.0, kept_is (now (Heap (object_address + 3 + index))) field.1);
   }

@@ -18,154 +18,154 @@ use Rattle.cycle_words.proofs.Marking.Bits.{one, bits_small, bits_at}
 use Rattle.cycle_words.proofs.Marking.Plain.{below_top}
 
 -- The set of free regions.
-module _ (config : Config) (out : ℕ → Bool) (memory : Word → ℕ) where
-  free_bit : (region : ℕ) → region < config.regions → bit_at (freed config out memory Free) region ≡ max (bit_at (memory Free) region) (one (out region))
-  free_bit region below =
-      let here : 0 + region ≡ region = omega arith in
-      bit_at_or (memory Free) (bits_of out 0 config.regions) region ∙ ap (max (bit_at (memory Free) region)) (bits_at out 0 config.regions region below ∙ ap (λ k. one (out k)) here)
+module _ (config : Config) (is_freed : ℕ → Bool) (memory : Word → ℕ) where
+  free_bit : (region : ℕ) → region < config.regions → bit_at (freed config is_freed memory Free) region ≡ max (bit_at (memory Free) region) (one (is_freed region))
+  free_bit region region_below =
+      let same_region : 0 + region ≡ region = omega arith in
+      bit_at_or (memory Free) (bits_of is_freed 0 config.regions) region ∙ ap (max (bit_at (memory Free) region)) (bits_at is_freed 0 config.regions region region_below ∙ ap (λ freed_region. one (is_freed freed_region)) same_region)
 
   -- those that were free, and those that were freed
-  pub free_was : (region : ℕ) → region < config.regions → IsIn (freed config out memory Free) region → IsIn (memory Free) region ⊎ (out region ≡ true)
-  free_was r below is = ⊎_elim
-      (λ (yes : out r ≡ true). inr yes)
-      (λ (no : out r ≡ false). inl (let bit = free_bit r below in let none : one (out r) ≡ 0 = ap one no in omega (arith, bit, none, is)))
-      (cases_Bool (out r))
+  pub free_was : (region : ℕ) → region < config.regions → IsIn (freed config is_freed memory Free) region → IsIn (memory Free) region ⊎ (is_freed region ≡ true)
+  free_was given_region region_below free_now = ⊎_elim
+      (λ (region_freed : is_freed given_region ≡ true). inr region_freed)
+      (λ (not_freed : is_freed given_region ≡ false). inl (let bit = free_bit given_region region_below in let no_bit : one (is_freed given_region) ≡ 0 = ap one not_freed in omega (arith, bit, no_bit, free_now)))
+      (cases_Bool (is_freed given_region))
 
-  pub free_is : (region : ℕ) → region < config.regions → IsIn (memory Free) region ⊎ (out region ≡ true) → IsIn (freed config out memory Free) region
-  free_is region below is = ⊎_elim
-      (λ (was : IsIn (memory Free) region). (let bit = free_bit region below in let few = one_few (out region) in omega (arith, bit, was, few)))
-      (λ (yes : out region ≡ true). (let bit = free_bit region below in let few = bit_at-lt (memory Free) region in let set : one (out region) ≡ 1 = ap one yes in omega (arith, bit, set, few)))
-      is
+  pub free_is : (region : ℕ) → region < config.regions → IsIn (memory Free) region ⊎ (is_freed region ≡ true) → IsIn (freed config is_freed memory Free) region
+  free_is region region_below free_or_freed = ⊎_elim
+      (λ (was_free : IsIn (memory Free) region). (let bit = free_bit region region_below in let one_bit = one_few (is_freed region) in omega (arith, bit, was_free, one_bit)))
+      (λ (region_freed : is_freed region ≡ true). (let bit = free_bit region region_below in let one_bit = bit_at-lt (memory Free) region in let bit_set : one (is_freed region) ≡ 1 = ap one region_freed in omega (arith, bit, bit_set, one_bit)))
+      free_or_freed
     where
       one_few : (holds : Bool) → one holds ≤ 1
       one_few true = omega arith
       one_few false = omega arith
 
-module _ (config : Config) (out : ℕ → Bool) (memory : Word → ℕ) where
+module _ (config : Config) (is_freed : ℕ → Bool) (memory : Word → ℕ) where
   abbrev now : Word → ℕ
-  now = freed config out memory
+  now = freed config is_freed memory
 
   -- tops afterwards
-  pub top_out : (region : ℕ) → out region ≡ true → now (Top region) ≡ 0
-  top_out region gone = cond-true (out region) 0 (memory (Top region)) gone
+  pub top_out : (region : ℕ) → is_freed region ≡ true → now (Top region) ≡ 0
+  top_out region region_freed = cond-true (is_freed region) 0 (memory (Top region)) region_freed
 
-  pub top_stays : (region : ℕ) → out region ≡ false → now (Top region) ≡ memory (Top region)
-  top_stays region other = cond-false (out region) 0 (memory (Top region)) other
+  pub top_stays : (region : ℕ) → is_freed region ≡ false → now (Top region) ≡ memory (Top region)
+  top_stays region not_freed = cond-false (is_freed region) 0 (memory (Top region)) not_freed
 
   top_less : (region : ℕ) → now (Top region) ≤ memory (Top region)
   top_less region = ⊎_elim
-      (λ (gone : out region ≡ true). omega (arith, top_out region gone))
-      (λ (other : out region ≡ false). omega (arith, top_stays region other))
-      (cases_Bool (out region))
+      (λ (region_freed : is_freed region ≡ true). omega (arith, top_out region region_freed))
+      (λ (not_freed : is_freed region ≡ false). omega (arith, top_stays region not_freed))
+      (cases_Bool (is_freed region))
 
   -- so it is with tops at mark start, and limits
-  pub tams_out : (region : ℕ) → out region ≡ true → now (Tams region) ≡ 0
-  tams_out region gone = cond-true (out region) 0 (memory (Tams region)) gone
+  pub tams_out : (region : ℕ) → is_freed region ≡ true → now (Tams region) ≡ 0
+  tams_out region region_freed = cond-true (is_freed region) 0 (memory (Tams region)) region_freed
 
-  pub tams_stays : (region : ℕ) → out region ≡ false → now (Tams region) ≡ memory (Tams region)
-  tams_stays region other = cond-false (out region) 0 (memory (Tams region)) other
+  pub tams_stays : (region : ℕ) → is_freed region ≡ false → now (Tams region) ≡ memory (Tams region)
+  tams_stays region not_freed = cond-false (is_freed region) 0 (memory (Tams region)) not_freed
 
-  pub limit_out : (region : ℕ) → out region ≡ true → now (Limit region) ≡ 0
-  limit_out region gone = cond-true (out region) 0 (memory (Limit region)) gone
+  pub limit_out : (region : ℕ) → is_freed region ≡ true → now (Limit region) ≡ 0
+  limit_out region region_freed = cond-true (is_freed region) 0 (memory (Limit region)) region_freed
 
-  pub limit_stays : (region : ℕ) → out region ≡ false → now (Limit region) ≡ memory (Limit region)
-  limit_stays region other = cond-false (out region) 0 (memory (Limit region)) other
+  pub limit_stays : (region : ℕ) → is_freed region ≡ false → now (Limit region) ≡ memory (Limit region)
+  limit_stays region not_freed = cond-false (is_freed region) 0 (memory (Limit region)) not_freed
 
-module _ (config : Config) (out : ℕ → Bool) (block : Plot) where
+module _ (config : Config) (is_freed : ℕ → Bool) (block : Plot) where
   abbrev plot : Plot
-  plot = freed_block config out block
+  plot = freed_block config is_freed block
 
   -- a piece that is left, and one of a region that is not freed
-  pub piece_was : (address : ℕ) (piece : Block) → plot address ≡ Some piece → (out (region_with config address) ≡ false) × (block address ≡ Some piece)
-  piece_was address piece is = ⊎_elim
-      (λ (gone : out (region_with config address) ≡ true). let none : Option Block = None in absurd (none-some piece (sym (cond-true (out (region_with config address)) none (block address) gone) ∙ is)))
-      (λ (other : out (region_with config address) ≡ false). let none : Option Block = None in (other, sym (cond-false (out (region_with config address)) none (block address) other) ∙ is))
-      (cases_Bool (out (region_with config address)))
+  pub piece_was : (address : ℕ) (piece : Block) → plot address ≡ Some piece → (is_freed (region_with config address) ≡ false) × (block address ≡ Some piece)
+  piece_was address piece piece_there = ⊎_elim
+      (λ (region_freed : is_freed (region_with config address) ≡ true). let no_piece : Option Block = None in absurd (none-some piece (sym (cond-true (is_freed (region_with config address)) no_piece (block address) region_freed) ∙ piece_there)))
+      (λ (not_freed : is_freed (region_with config address) ≡ false). let no_piece : Option Block = None in (not_freed, sym (cond-false (is_freed (region_with config address)) no_piece (block address) not_freed) ∙ piece_there))
+      (cases_Bool (is_freed (region_with config address)))
 
-  pub piece_stays : (address : ℕ) → out (region_with config address) ≡ false → plot address ≡ block address
-  piece_stays address other = let none : Option Block = None in cond-false (out (region_with config address)) none (block address) other
+  pub piece_stays : (address : ℕ) → is_freed (region_with config address) ≡ false → plot address ≡ block address
+  piece_stays address not_freed = let no_piece : Option Block = None in cond-false (is_freed (region_with config address)) no_piece (block address) not_freed
 
 -- each that is left says how many words it has
-pub freed_sized : (config : Config) (out : ℕ → Bool) (memory : Word → ℕ) (block : Plot) → AreSized memory block → AreSized memory (freed_block config out block)
-freed_sized config out memory block sized = record {
-  objects = λ a b is fixed. sized.objects a b (piece_was config out block a b is).1 fixed;
-  headers = λ address b is fixed. sized.headers address b (piece_was config out block address b is).1 fixed;
-  fillers = λ a words is. sized.fillers a words (piece_was config out block a (filler words) is).1;
+pub freed_sized : (config : Config) (is_freed : ℕ → Bool) (memory : Word → ℕ) (block : Plot) → AreSized memory block → AreSized memory (freed_block config is_freed block)
+freed_sized config is_freed memory block sized = record {
+  objects = λ place piece piece_there fixed. sized.objects place piece (piece_was config is_freed block place piece piece_there).1 fixed;
+  headers = λ address piece piece_there fixed. sized.headers address piece (piece_was config is_freed block address piece piece_there).1 fixed;
+  fillers = λ place words piece_there. sized.fillers place words (piece_was config is_freed block place (filler words) piece_there).1;
 }
 
 -- pieces lie apart, and each has some words
-module _ (config : Config) (out : ℕ → Bool) (memory : Word → ℕ) (block : Plot) (plotted : IsPlotted config (λ q. memory (Top q)) block) (some : (a : ℕ) (b : Block) → block a ≡ Some b → 1 ≤ words_of b) where
+module _ (config : Config) (is_freed : ℕ → Bool) (memory : Word → ℕ) (block : Plot) (plotted : IsPlotted config (λ asked_region. memory (Top asked_region)) block) (some_words : (start : ℕ) (b : Block) → block start ≡ Some b → 1 ≤ words_of b) where
   abbrev left : Plot
-  left = freed_block config out block
+  left = freed_block config is_freed block
 
   -- pieces lie in the parts in use
-  in_use_again : (address : ℕ) (piece : Block) → left address ≡ Some piece → IsInUse config (λ region. freed config out memory (Top region)) address (words_of piece)
-  in_use_again address piece is =
-      let was = piece_was config out block address piece is in
-      let at = below_top config (λ region. memory (Top region)) block plotted address piece was.1 (some address piece was.1) in
-      record { region = region_with config address; within = at.0; from_base = at.1; to_top = (let same = top_stays config out memory (region_with config address) was.0 in omega (arith, at.2, same)) }
+  in_use_again : (address : ℕ) (piece : Block) → left address ≡ Some piece → IsInUse config (λ region. freed config is_freed memory (Top region)) address (words_of piece)
+  in_use_again address piece piece_there =
+      let piece_before = piece_was config is_freed block address piece piece_there in
+      let top_above = below_top config (λ region. memory (Top region)) block plotted address piece piece_before.1 (some_words address piece piece_before.1) in
+      record { region = region_with config address; within = top_above.0; from_base = top_above.1; to_top = (let same_top = top_stays config is_freed memory (region_with config address) piece_before.0 in omega (arith, top_above.2, same_top)) }
 
-  pub plotted_again : IsPlotted config (λ region. freed config out memory (Top region)) left
+  pub plotted_again : IsPlotted config (λ region. freed config is_freed memory (Top region)) left
   plotted_again = record {
-    tops = λ q inside. (let most = plotted.tops q inside in omega (arith, most, top_less config out memory q));
+    tops = λ given_region inside. (let top_bound = plotted.tops given_region inside in omega (arith, top_bound, top_less config is_freed memory given_region));
     in_use = in_use_again;
-    apart = λ a b x y is_x is_y before. plotted.apart a b x y (piece_was config out block a x is_x).1 (piece_was config out block b y is_y).1 before;
+    apart = λ first_address second_address first_piece second_piece first_there second_there before. plotted.apart first_address second_address first_piece second_piece (piece_was config is_freed block first_address first_piece first_there).1 (piece_was config is_freed block second_address second_piece second_there).1 before;
   }
 
   -- an address below the top of a region is of it
-  of_region : (region address : ℕ) → region < config.regions → base_of config region ≤ address → address < base_of config region + freed config out memory (Top region) → (out region ≡ false) × (left address ≡ block address) × (address < base_of config region + memory (Top region))
-  of_region region address inside at_most below = ⊎_elim
-      (λ (gone : out region ≡ true). absurd (omega (arith, top_out config out memory region gone, at_most, below)))
-      (λ (other : out region ≡ false).
-      let less = top_less config out memory region in
-      let most = plotted.tops region inside in
-      let same : region_with config address ≡ region = regions_tile.of_no_other config region address (record { from = at_most; before = omega (arith, below, less, most) }) in
-      (other, piece_stays config out block address (ap out same ∙ other), omega (arith, below, less)))
-      (cases_Bool (out region))
+  of_region : (region address : ℕ) → region < config.regions → base_of config region ≤ address → address < base_of config region + freed config is_freed memory (Top region) → (is_freed region ≡ false) × (left address ≡ block address) × (address < base_of config region + memory (Top region))
+  of_region region address region_below at_most address_below = ⊎_elim
+      (λ (region_freed : is_freed region ≡ true). absurd (omega (arith, top_out config is_freed memory region region_freed, at_most, address_below)))
+      (λ (not_freed : is_freed region ≡ false).
+      let less_top = top_less config is_freed memory region in
+      let top_bound = plotted.tops region region_below in
+      let same_region : region_with config address ≡ region = regions_tile.of_no_other config region address (record { from = at_most; before = omega (arith, address_below, less_top, top_bound) }) in
+      (not_freed, piece_stays config is_freed block address (ap is_freed same_region ∙ not_freed), omega (arith, address_below, less_top)))
+      (cases_Bool (is_freed region))
 
   there : (address : ℕ) → left address ≡ block address → (piece : Block) × (block address ≡ Some piece) → (piece : Block) × (left address ≡ Some piece)
-  there address same was = (was.0, same ∙ was.1)
+  there address same_piece old_piece = (old_piece.0, same_piece ∙ old_piece.1)
 
-  pub filled_again : IsFilled config (λ region. memory (Top region)) block → IsFilled config (λ region. freed config out memory (Top region)) left
+  pub filled_again : IsFilled config (λ region. memory (Top region)) block → IsFilled config (λ region. freed config is_freed memory (Top region)) left
   filled_again filled = record {
-    first = λ q inside used.
-        let at = of_region q (base_of config q) inside (omega arith) (omega (arith, used)) in
-        there (base_of config q) at.1 (filled.first q inside (omega (arith, at.2)));
-    next = λ q a x inside from is below.
-        let at = of_region q (a + words_of x) inside (omega (arith, from)) below in
-        there (a + words_of x) at.1 (filled.next q a x inside from (piece_was config out block a x is).1 at.2);
+    first = λ given_region inside used.
+        let old_place = of_region given_region (base_of config given_region) inside (omega arith) (omega (arith, used)) in
+        there (base_of config given_region) old_place.1 (filled.first given_region inside (omega (arith, old_place.2)));
+    next = λ given_region address piece inside from piece_there end_below.
+        let old_place = of_region given_region (address + words_of piece) inside (omega (arith, from)) end_below in
+        there (address + words_of piece) old_place.1 (filled.next given_region address piece inside from (piece_was config is_freed block address piece piece_there).1 old_place.2);
   }
 
-  pub parsable_again : IsParsable config (λ region. memory (Top region)) block → IsParsable config (λ region. freed config out memory (Top region)) left
+  pub parsable_again : IsParsable config (λ region. memory (Top region)) block → IsParsable config (λ region. freed config is_freed memory (Top region)) left
   parsable_again parsable = record {
     plotted = plotted_again;
     filled = filled_again parsable.filled;
-    promises = λ a seat words is. parsable.promises a seat words (piece_was config out block a (promised seat words) is).1;
-    deads = λ a words is. parsable.deads a words (piece_was config out block a (dead words) is).1;
-    spents = λ a words to is. parsable.spents a words to (piece_was config out block a (spent words to) is).1;
-    fillers = λ a words is. parsable.fillers a words (piece_was config out block a (filler words) is).1;
+    promises = λ address seat words piece_there. parsable.promises address seat words (piece_was config is_freed block address (promised seat words) piece_there).1;
+    deads = λ address words piece_there. parsable.deads address words (piece_was config is_freed block address (dead words) piece_there).1;
+    spents = λ address words copy_address piece_there. parsable.spents address words copy_address (piece_was config is_freed block address (spent words copy_address) piece_there).1;
+    fillers = λ address words piece_there. parsable.fillers address words (piece_was config is_freed block address (filler words) piece_there).1;
   }
 
   -- what nobody writes to stays so
   pub unwritten_again : AreUnwritten (λ address. memory (Heap address)) block → AreUnwritten (λ address. memory (Heap address)) left
   unwritten_again unwritten = record {
-    blanks = λ address seat words is. unwritten.blanks address seat words (piece_was config out block address (promised seat words) is).1;
-    headers = λ address words is. unwritten.headers address words (piece_was config out block address (dead words) is).1;
-    lengths = λ a words is. unwritten.lengths a words (piece_was config out block a (dead words) is).1;
-    fillers = λ a words is. unwritten.fillers a words (piece_was config out block a (filler words) is).1;
+    blanks = λ address seat words piece_there. unwritten.blanks address seat words (piece_was config is_freed block address (promised seat words) piece_there).1;
+    headers = λ address words piece_there. unwritten.headers address words (piece_was config is_freed block address (dead words) piece_there).1;
+    lengths = λ place words piece_there. unwritten.lengths place words (piece_was config is_freed block place (dead words) piece_there).1;
+    fillers = λ place words piece_there. unwritten.fillers place words (piece_was config is_freed block place (filler words) piece_there).1;
   }
 
   -- A region is free where it was or where it is freed. It is nobody's then, if what is freed and what was nobody's is.
-  pub free_again : (owner after : ℕ → Option ℕ) → IsFreeWord config (memory Free) (λ region. memory (Top region)) owner → ((region : ℕ) → out region ≡ true → after region ≡ None) → ((region : ℕ) → owner region ≡ None → after region ≡ None)
-      → IsFreeWord config (freed config out memory Free) (λ region. freed config out memory (Top region)) after
-  free_again owner after was gone nobodys = record {
-    no_more = or_lt config.regions (memory Free) (bits_of out 0 config.regions) was.no_more (bits_small out 0 config.regions);
-    empty = λ region inside is. ⊎_elim
-        (λ (free : IsIn (memory Free) region). (let none = was.empty region inside free in let less = top_less config out memory region in omega (arith, none, less)))
-        (λ (freed_one : out region ≡ true). top_out config out memory region freed_one)
-        (free_was config out memory region inside is);
-    nobodys = λ region inside is. ⊎_elim
-        (λ (free : IsIn (memory Free) region). nobodys region (was.nobodys region inside free))
-        (λ (freed_one : out region ≡ true). gone region freed_one)
-        (free_was config out memory region inside is);
+  pub free_again : (owner after : ℕ → Option ℕ) → IsFreeWord config (memory Free) (λ region. memory (Top region)) owner → ((region : ℕ) → is_freed region ≡ true → after region ≡ None) → ((region : ℕ) → owner region ≡ None → after region ≡ None)
+      → IsFreeWord config (freed config is_freed memory Free) (λ region. freed config is_freed memory (Top region)) after
+  free_again owner after free_before freed_nobodys nobodys = record {
+    no_more = or_lt config.regions (memory Free) (bits_of is_freed 0 config.regions) free_before.no_more (bits_small is_freed 0 config.regions);
+    empty = λ region region_below free_now. ⊎_elim
+        (λ (was_free : IsIn (memory Free) region). (let no_top = free_before.empty region region_below was_free in let less_top = top_less config is_freed memory region in omega (arith, no_top, less_top)))
+        (λ (freed_one : is_freed region ≡ true). top_out config is_freed memory region freed_one)
+        (free_was config is_freed memory region region_below free_now);
+    nobodys = λ region region_below free_now. ⊎_elim
+        (λ (was_free : IsIn (memory Free) region). nobodys region (free_before.nobodys region region_below was_free))
+        (λ (freed_one : is_freed region ≡ true). freed_nobodys region freed_one)
+        (free_was config is_freed memory region region_below free_now);
   }

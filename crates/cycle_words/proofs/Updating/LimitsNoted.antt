@@ -22,21 +22,21 @@ use Rattle.cycle_words.proofs.Pinned.{same_pinned}
 use Rattle.cycle_words.proofs.Finishing.Collecting.{loosened_collecting}
 use Rattle.cycle_words.proofs.Marking.Alike.{sized_alike, same_held_words, holds_alike}
 
-reached_before : (config : Config) (memory : Word → ℕ) (a : ℕ) → CanBeReached config (updating_begun config memory) a → CanBeReached config memory a
-reached_before config memory a = subst (λ xs. IsLedTo (now_in memory) (λ address. memory (Heap address)) (IsAmong xs) a) (same_held_words memory (updating_begun config memory) (λ t i. refl) (λ t. refl) (λ t i. refl) config)
+reached_before : (config : Config) (memory : Word → ℕ) (reached_address : ℕ) → CanBeReached config (updating_begun config memory) reached_address → CanBeReached config memory reached_address
+reached_before config memory reached_address = subst (λ xs. IsLedTo (now_in memory) (λ address. memory (Heap address)) (IsAmong xs) reached_address) (same_held_words memory (updating_begun config memory) (λ t i. refl) (λ t. refl) (λ t i. refl) config)
 
 collecting_then : (config : Config) (memory : Word → ℕ) (block : Plot) → WhileCollecting config memory block → NothingInside config memory → WhileCollecting config (updating_begun config memory) block
-collecting_then config memory block while nothing = record {
-  marked = while.marked;
-  reachable = λ some a reached. while.reachable some a (reached_before config memory a reached);
-  no_new = while.no_new;
-  floors = while.floors;
-  unseated = while.unseated;
-  young = while.young;
-  outside = λ off a reached. nothing a (reached_before config memory a reached);
+collecting_then config memory block still_collecting nothing = record {
+  marked = still_collecting.marked;
+  reachable = λ some_set address reached. still_collecting.reachable some_set address (reached_before config memory address reached);
+  no_new = still_collecting.no_new;
+  floors = still_collecting.floors;
+  unseated = still_collecting.unseated;
+  young = still_collecting.young;
+  outside = λ set_empty address reached. nothing address (reached_before config memory address reached);
 }
 
-module _ (config : Config) (memory : Word → ℕ) (block : Plot) (owner : ℕ → Option ℕ) (promises : Promises) (graph : Graph) (holds : HoldsBy config memory block owner promises graph) (seats : HasNoMoreSeats config memory) where
+module _ (config : Config) (memory : Word → ℕ) (block : Plot) (owner : ℕ → Option ℕ) (promises : Promises) (graph : Graph) (graph_held : HoldsBy config memory block owner promises graph) (seats : HasNoMoreSeats config memory) where
   abbrev s : Word → ℕ
   s = buffers_settled config memory
 
@@ -44,26 +44,26 @@ module _ (config : Config) (memory : Word → ℕ) (block : Plot) (owner : ℕ �
   settled = settled_block config memory block
 
   after : HoldsLoosened config memory s block settled owner promises graph
-  after = settled_holds config memory block owner promises graph holds seats
+  after = settled_holds config memory block owner promises graph graph_held seats
 
   -- nothing inside that can be reached, but in pinned regions, and no top changed
   nothing_inside : NothingInside config memory → NothingInside config s
-  nothing_inside nothing a reached inside =
-      same_pinned config memory s (λ mutator slot. after.loosened.others (Pin mutator slot) refl) (region_with config a)
-      ∙ nothing a (loosened_reached config memory s block settled owner promises graph holds after.loosened after.holds.objects.plotted a reached) (subst (λ cset. IsCollected config cset a) (after.loosened.others Cset refl) inside)
+  nothing_inside nothing address reached inside =
+      same_pinned config memory s (λ mutator slot. after.loosened.others (Pin mutator slot) refl) (region_with config address)
+      ∙ nothing address (loosened_reached config memory s block settled owner promises graph graph_held after.loosened after.holds.objects.plotted address reached) (subst (λ cset. IsCollected config cset address) (after.loosened.others Cset refl) inside)
 
   collecting_settled : WhileCollecting config memory block → WhileCollecting config s settled
-  collecting_settled while = loosened_collecting config memory s block settled owner promises graph holds after.loosened after.holds.objects.plotted while
-      (λ r member. (settling_leaves config memory).tops r)
-      (λ some r below. (let floor = while.floors some r below in let same = (settling_leaves config memory).tops r in omega (arith, floor, same)))
+  collecting_settled still_collecting = loosened_collecting config memory s block settled owner promises graph graph_held after.loosened after.holds.objects.plotted still_collecting
+      (λ region member. (settling_leaves config memory).tops region)
+      (λ some_set region region_below. (let floor = still_collecting.floors some_set region region_below in let same_top = (settling_leaves config memory).tops region in omega (arith, floor, same_top)))
 
   pub holds_limited : HoldsLimited config memory (init_updated config memory) block owner promises graph
   holds_limited = record {
     holds = holds_alike s (init_updated config memory)
         (record { heap = λ a. refl; top = λ r. refl; root = λ t i. refl; answer = λ t. refl; wait = λ t. refl; current = λ s. refl; free = refl; cset = refl; share = refl; pin = λ t i. refl }) config settled owner promises graph after.holds;
-    sized = λ sized. sized_alike s (init_updated config memory) settled (λ a. refl) (loosened_sized config memory s block settled owner promises graph holds after.loosened sized);
-    collecting = λ while nothing. collecting_then config s settled (collecting_settled while) (nothing_inside nothing);
+    sized = λ sized. sized_alike s (init_updated config memory) settled (λ a. refl) (loosened_sized config memory s block settled owner promises graph graph_held after.loosened sized);
+    collecting = λ still_collecting nothing. collecting_then config s settled (collecting_settled still_collecting) (nothing_inside nothing);
   }
 
 pub limits_hold : (config : Config) (memory : Word → ℕ) → HasNoMoreSeats config memory → LimitsHold config memory (init_updated config memory)
-limits_hold config memory seats block owner p g holds = holds_limited config memory block owner p g holds seats
+limits_hold config memory seats block owner promises graph holds = holds_limited config memory block owner promises graph holds seats

@@ -21,7 +21,7 @@ use Rattle.cycle_words.specs.Evacuation.Copied.{CanCopyOut, copy_room, copied_ou
 -- the roots of so many mutators, and then their answers: the words that name objects, in the order in which they are cleared
 abbrev pub root_places : (mutators : ℕ) → List Word
 root_places zero = []
-root_places (suc t) = root_places t ++ map (Root t) (range_with_len 0 16)
+root_places (suc mutator) = root_places mutator ++ map (Root mutator) (range_with_len 0 16)
 
 abbrev pub naming_places : Config → List Word
 naming_places config = root_places config.mutators ++ map Answer (range_with_len 0 config.mutators)

@@ -13,7 +13,7 @@ use Rattle.cycle_words.specs.Evacuation.Copying.{tops_outside}
 
 -- the region to which an object is copied: the lowest one outside the collection set that has room
 abbrev pub copy_room : Config → (Word → ℕ) → ℕ → Option ℕ
-copy_room config memory a = lowest_room config.region_words (tops_outside config.region_words (memory Cset) (λ region. memory (Top region))) (words_at memory a) config.regions
+copy_room config memory address = lowest_room config.region_words (tops_outside config.region_words (memory Cset) (λ region. memory (Top region))) (words_at memory address) config.regions
 
 -- An object can be copied out: it lies in one region, which is of the collection set, and no region uses more words than it
 -- has.
@@ -31,10 +31,10 @@ top_address config memory region = base_of config region + memory (Top region)
 -- the address of the copy, if some region has room
 abbrev pub copy_in : Config → (Word → ℕ) → Option ℕ → Option ℕ
 copy_in config memory None = None
-copy_in config memory (Some r) = Some (top_address config memory r)
+copy_in config memory (Some region) = Some (top_address config memory region)
 
 abbrev pub copy_address : Config → (Word → ℕ) → ℕ → Option ℕ
-copy_address config memory a = copy_in config memory (copy_room config memory a)
+copy_address config memory address = copy_in config memory (copy_room config memory address)
 
 -- the word at an address after so many words were copied from one address to another; the header of the copy is plain
 abbrev pub copied_word : (heap : ℕ → ℕ) (from to words : ℕ) → ℕ → ℕ
@@ -44,8 +44,8 @@ copied_word heap from to words address =
 -- The words after an object was copied to the top of a region: its words stand there, the top has grown, the region is not
 -- free, and the old copy is forwarded to the new one. All other words stay.
 unfoldable pub copied_to : Config → (Word → ℕ) → (address region : ℕ) → Word → ℕ
-copied_to config memory address region (Heap other_address) = if address == other_address then header_word (top_address config memory region) else copied_word (λ a. memory (Heap a)) address (top_address config memory region) (words_at memory address) other_address
-copied_to config memory address region (Top other_region) = if region == other_region then memory (Top region) + words_at memory address else memory (Top other_region)
+copied_to config memory address region (Heap asked_address) = if address == asked_address then header_word (top_address config memory region) else copied_word (λ heap_address. memory (Heap heap_address)) address (top_address config memory region) (words_at memory address) asked_address
+copied_to config memory address region (Top asked_region) = if region == asked_region then memory (Top region) + words_at memory address else memory (Top asked_region)
 copied_to config memory address region Free = bit_and (memory Free) (all_but region)
 copied_to config memory address region word = memory word
 
@@ -55,7 +55,7 @@ copied_in config memory a None word = memory word
 copied_in config memory address (Some region) word = copied_to config memory address region word
 
 abbrev pub copied_out : Config → (Word → ℕ) → ℕ → Word → ℕ
-copied_out config memory a = copied_in config memory a (copy_room config memory a)
+copied_out config memory address = copied_in config memory address (copy_room config memory address)
 
 -- the words of which copying may change some
 abbrev pub MayChange : Word → Type 0

@@ -12,7 +12,7 @@ use Rattle.cycle_words.specs.Evacuation.Live.{words_at}
 
 -- the tops as copying takes them: a region of the set counts as full
 abbrev pub tops_outside : (region_words set : ℕ) (top : ℕ → ℕ) → ℕ → ℕ
-tops_outside region_words set top r = if bit_at set r == 1 then region_words else top r
+tops_outside region_words set top region = if bit_at set region == 1 then region_words else top region
 
 -- objects to copy: each is marked, lies in a region of the set, has at most 35 words, and comes once
 pub record AreToCopy (config : Config) (memory : Word → ℕ) (set : ℕ) (objects : List ℕ) : Type 0 where

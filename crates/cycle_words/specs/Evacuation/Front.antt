@@ -8,15 +8,15 @@ use Rattle.cycle_words.specs.Marking.Marks.{bits_of}
 
 -- a region comes before another: less lives in it, or as much, and its number is lower
 abbrev pub ComesBefore : (live : ℕ → ℕ) → ℕ → ℕ → Type 0
-ComesBefore live q r = (live q < live r) ⊎ ((live q ≡ live r) × (q < r))
+ComesBefore live region other_region = (live region < live other_region) ⊎ ((live region ≡ live other_region) × (region < other_region))
 
 -- the same, as a test
 abbrev pub comes_before : (live : ℕ → ℕ) → ℕ → ℕ → Bool
-comes_before live q r = nat_lt (live q) (live r) || ((live q == live r) && nat_lt q r)
+comes_before live region other_region = nat_lt (live region) (live other_region) || ((live region == live other_region) && nat_lt region other_region)
 
 -- what lives in the regions of a set
 abbrev pub live_in : (regions : ℕ) (live : ℕ → ℕ) (set : ℕ) → ℕ
-live_in regions live set = sum_below (λ r. if bit_at set r == 1 then live r else 0) regions
+live_in regions live set = sum_below (λ region. if bit_at set region == 1 then live region else 0) regions
 
 -- A set of so many regions is a front of the candidates that fits: with a candidate it has each one that comes before, and
 -- what lives in it is within a limit.

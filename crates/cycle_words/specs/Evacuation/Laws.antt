@@ -24,7 +24,7 @@ use Rattle.cycle_words.specs.StillHolds.{WhileCollecting}
 
 -- The test of a candidate says what it is to be one.
 abbrev pub CandidateIsCandidate : Type 0
-CandidateIsCandidate = (config : Config) (memory : Word → ℕ) (r : ℕ) → (is_candidate config memory r ≡ true) ↔ IsCandidate config memory r
+CandidateIsCandidate = (config : Config) (memory : Word → ℕ) (region : ℕ) → (is_candidate config memory region ≡ true) ↔ IsCandidate config memory region
 
 -- What is chosen is the choice, and there is no other.
 pub record ChosenIsTheChoice : Type 0 where
@@ -43,7 +43,7 @@ RoomIsFound = (config : Config) (memory : Word → ℕ) (objects : List ℕ) →
 
 -- Copying an object of the collection set to a region that has room for it, outside of the set, does what it is said to do.
 abbrev pub CopyingCopies : Type 0
-CopyingCopies = (config : Config) (memory : Word → ℕ) (address r : ℕ) → config.region_words ≤ address → IsIn (memory Cset) (region_with config address) → copy_room config memory address ≡ Some r
+CopyingCopies = (config : Config) (memory : Word → ℕ) (address region : ℕ) → config.region_words ≤ address → IsIn (memory Cset) (region_with config address) → copy_room config memory address ≡ Some region
     → IsCopiedOut config memory (copied_out config memory address) address
 
 -- Whichever marked objects of the chosen regions are copied out, one after the other, where marked objects lie apart and each
@@ -91,7 +91,7 @@ IsMarkedIn config memory region words = (block : Plot) → AreSized memory block
 
 -- That is what lives in the region.
 abbrev pub LiveIsMarked : Type 0
-LiveIsMarked = (config : Config) (memory : Word → ℕ) (r : ℕ) → IsMarkedIn config memory r (live_words config memory r)
+LiveIsMarked = (config : Config) (memory : Word → ℕ) (region : ℕ) → IsMarkedIn config memory region (live_words config memory region)
 
 -- Where the words hold a graph, and what can be reached is kept, each object of a set's regions that can be reached is marked, so that it
 -- counts as live there.

@@ -18,7 +18,7 @@ words_at memory address = object_words (memory (Heap (address + 1)))
 
 -- the same if the object is marked, and 0 else
 abbrev pub marked_words : Config → (Word → ℕ) → ℕ → ℕ
-marked_words config memory a = if is_black config memory a then words_at memory a else 0
+marked_words config memory address = if is_black config memory address then words_at memory address else 0
 
 -- the words of the marked objects of a region
 abbrev pub live_words : Config → (Word → ℕ) → ℕ → ℕ

@@ -18,7 +18,7 @@ is_left config memory address = is_collected config memory address && not (is_pi
 -- some region was found
 abbrev pub is_found : Option ℕ → Bool
 is_found None = false
-is_found (Some r) = true
+is_found (Some region) = true
 
 -- some region outside the collection set has room for an object
 abbrev pub has_copy_room : Config → (Word → ℕ) → ℕ → Bool

@@ -16,10 +16,10 @@ use Rattle.cycle_words.specs.Finishing.Copies.{CanCopyFrom, all_copied, is_room_
 
 -- the regions of the collection set that are freed, and those that are pinned
 abbrev pub is_to_free : Config → (Word → ℕ) → ℕ → Bool
-is_to_free config memory r = is_chosen memory r && not (is_pinned config memory r)
+is_to_free config memory region = is_chosen memory region && not (is_pinned config memory region)
 
 abbrev pub is_to_stay : Config → (Word → ℕ) → ℕ → Bool
-is_to_stay config memory r = is_chosen memory r && is_pinned config memory r
+is_to_stay config memory region = is_chosen memory region && is_pinned config memory region
 
 -- what has moved
 abbrev pub has_moved : (Word → ℕ) → ℕ → Bool

@@ -70,7 +70,7 @@ CollectingCanFinish = (config : Config) (memory : Word → ℕ) (block : Plot) (
 -- Where no object is left in the set, nothing that can be reached lies there but in pinned regions, ..
 abbrev pub NoneLeftInside : Type 0
 NoneLeftInside = (config : Config) (memory : Word → ℕ) (block : Plot) (owner : ℕ → Option ℕ) (promises : Promises) (graph : Graph) → HoldsBy config memory block owner promises graph → AreSized memory block
-    → WhileCollecting config memory block → ((a : ℕ) → is_left config memory a ≡ false) → NothingInside config memory
+    → WhileCollecting config memory block → ((address : ℕ) → is_left config memory address ≡ false) → NothingInside config memory
 
 -- .. and then nothing names what goes once all references were updated: it may be freed, and what has moved in pinned regions filled over.
 abbrev pub UpdatedNamesNothing : Type 0

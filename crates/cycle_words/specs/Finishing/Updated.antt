@@ -26,11 +26,11 @@ is_kept_here config memory address = not (is_forwarded (memory (Heap address))) 
 
 -- an address is that of a reference of the object at another one; words that only fill have none
 abbrev pub is_reference : (Word → ℕ) → (object : ℕ) → ℕ → Bool
-is_reference memory address x = not (is_filler (memory (Heap address))) && nat_le (address + 3) x && nat_lt x (address + 3 + refs_in (memory (Heap (address + 1))))
+is_reference memory object address = not (is_filler (memory (Heap object))) && nat_le (object + 3) address && nat_lt address (object + 3 + refs_in (memory (Heap (object + 1))))
 
 -- objects of a region stay: it is outside the collection set, or pinned
 abbrev pub stays : Config → (Word → ℕ) → ℕ → Bool
-stays config memory r = (bit_at (memory Cset) r == 0) || is_pinned config memory r
+stays config memory region = (bit_at (memory Cset) region == 0) || is_pinned config memory region
 
 -- an address lies in the part in use of such a region
 abbrev pub is_staying : Config → (Word → ℕ) → ℕ → Bool
@@ -38,7 +38,7 @@ is_staying config memory address = is_in_use config memory address && stays conf
 
 -- an address is that of a reference of a kept object that stays
 abbrev pub is_kept_field : Config → (Word → ℕ) → ℕ → Bool
-is_kept_field config memory x = is_staying config memory x && is_kept_here config memory (object_of config memory x) && is_reference memory (object_of config memory x) x
+is_kept_field config memory address = is_staying config memory address && is_kept_here config memory (object_of config memory address) && is_reference memory (object_of config memory address) address
 
 -- The words after all references were updated: those of kept objects that stay, roots and answers. All other words stay.
 abbrev pub all_updated : Config → (Word → ℕ) → Word → ℕ

@@ -23,7 +23,7 @@ pub data IsTraced (config : Config) (memory : Word → ℕ) : ℕ → Type 0 whe
 -- the grey ones among so many addresses from the heap's first on
 abbrev pub greys_below : Config → (Word → ℕ) → ℕ → List ℕ
 greys_below config memory zero = []
-greys_below config memory (suc k) = greys_below config memory k ++ (if is_grey config memory (config.region_words + k) then (config.region_words + k) ∷ [] else [])
+greys_below config memory (suc offset) = greys_below config memory offset ++ (if is_grey config memory (config.region_words + offset) then (config.region_words + offset) ∷ [] else [])
 
 -- the entries of the buffers of so many mutators
 abbrev pub entries_below : (Word → ℕ) → ℕ → List ℕ
@@ -36,7 +36,7 @@ starts_in config memory = greys_below config memory (config.regions * config.reg
 
 -- what an object leads to: its fields, unless it was black
 abbrev pub open_fields : Config → (Word → ℕ) → ℕ → List ℕ
-open_fields config memory a = if is_black config memory a then [] else field_words memory a
+open_fields config memory address = if is_black config memory address then [] else field_words memory address
 
 -- the addresses that tracing has found after so many turns, and all of them
 abbrev pub traced_by : Config → (Word → ℕ) → ℕ → List ℕ

@@ -51,7 +51,7 @@ freed config out memory word = memory word
 
 -- the pieces that are left, and whose a region then is
 abbrev pub freed_block : Config → (ℕ → Bool) → Plot → Plot
-freed_block config out block a = if out (region_with config a) then None else block a
+freed_block config out block address = if out (region_with config address) then None else block address
 
 abbrev pub freed_owner : (ℕ → Bool) → (ℕ → Option ℕ) → ℕ → Option ℕ
 freed_owner out owner region = if out region then None else owner region

@@ -34,4 +34,4 @@ pruned_piece live piece = piece
 
 -- the pieces where objects that are not of a set are dead
 abbrev pub pruned : (ℕ → Bool) → Plot → Plot
-pruned live block a = option_map (pruned_piece (live a)) (block a)
+pruned live block address = option_map (pruned_piece (live address)) (block address)

@@ -44,7 +44,7 @@ ClosingKeeps = (config : Config) (memory : Word → ℕ) (block : Plot) (owner :
 
 -- The test of a dead region says what it is to be dead.
 abbrev pub DeadIsDead : Type 0
-DeadIsDead = (config : Config) (memory : Word → ℕ) (r : ℕ) → (is_dead config memory r ≡ true) ↔ IsDead config memory r
+DeadIsDead = (config : Config) (memory : Word → ℕ) (region : ℕ) → (is_dead config memory region ≡ true) ↔ IsDead config memory region
 
 -- The end of marking: nothing that can be reached lies in a dead region, so that without the pieces of those the words stand
 -- for the same graph, and each object that can be reached is kept.

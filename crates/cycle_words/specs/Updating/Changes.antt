@@ -10,7 +10,7 @@ use Rattle.cycle_words.specs.Marking.Final.{freed}
 
 -- a region is in the collection set
 abbrev pub is_chosen : (Word → ℕ) → ℕ → Bool
-is_chosen memory r = bit_at (memory Cset) r == 1
+is_chosen memory region = bit_at (memory Cset) region == 1
 
 -- The limit of each region outside of the collection set is its edge, and that of each region of the set is 0. No copier is counted, and no
 -- unit is claimed. All other words stay.

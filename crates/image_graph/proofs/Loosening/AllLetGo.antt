@@ -33,79 +33,79 @@ pub record HasLetGo (config : Config) (memory next_memory : Word → ℕ) (block
   pub tops : (region : ℕ) → IsLowered config memory next_memory region
 
 -- a top that fell stays where it was let fall, where the next words have it
-lowered_on : (config : Config) (m n k : Word → ℕ) (region : ℕ) → k (Top region) ≡ n (Top region) → IsLowered config m n region → IsLowered config m k region
-lowered_on config memory other_memory k region same (IsLowered.as_it_was was) = IsLowered.as_it_was (same ∙ was)
-lowered_on config memory other_memory k region same (IsLowered.given_back seat some more of top) = IsLowered.given_back seat some more of (same ∙ top)
+lowered_on : (config : Config) (first_memory second_memory third_memory : Word → ℕ) (region : ℕ) → third_memory (Top region) ≡ second_memory (Top region) → IsLowered config first_memory second_memory region → IsLowered config first_memory third_memory region
+lowered_on config memory middle_memory third_memory region same_top (IsLowered.as_it_was as_before) = IsLowered.as_it_was (same_top ∙ as_before)
+lowered_on config memory middle_memory third_memory region same_top (IsLowered.given_back seat has_buffer has_room of_region top) = IsLowered.given_back seat has_buffer has_room of_region (same_top ∙ top)
 
-module _ (config : Config) (other_memory : Word → ℕ) (block : Plot) (owner : ℕ → Option ℕ) (promises : Promises) (graph : Graph) (holds : HoldsBy config other_memory block owner promises graph) where
+module _ (config : Config) (old_memory : Word → ℕ) (block : Plot) (owner : ℕ → Option ℕ) (promises : Promises) (graph : Graph) (holds : HoldsBy config old_memory block owner promises graph) where
   -- what stands from one turn to the next
   abbrev Stand : (Word → ℕ) → Type 0
-  Stand n = HasLetGo config other_memory n block owner promises graph
+  Stand turn_memory = HasLetGo config old_memory turn_memory block owner promises graph
 
-  first : Stand other_memory
+  first : Stand old_memory
   first = record {
     plot = block;
-    left = record { loosened = loosened_none other_memory block (λ a words is. holds.pieces.some a (filler words) is); holds = holds };
-    tops = λ r. IsLowered.as_it_was refl;
+    left = record { loosened = loosened_none old_memory block (λ address words piece_there. holds.pieces.some address (filler words) piece_there); holds = holds };
+    tops = λ region. IsLowered.as_it_was refl;
   }
 
-  module _ (n : Word → ℕ) (so_far : Stand n) where
-    on : (memory : Word → ℕ) (more : Plot) → HoldsLoosened config n memory so_far.plot more owner promises graph → HoldsLoosened config other_memory memory block more owner promises graph
-    on memory more next = record { loosened = loosened_on other_memory n memory block so_far.plot more so_far.left.loosened next.loosened; holds = next.holds }
+  module _ (turn_memory : Word → ℕ) (so_far : Stand turn_memory) where
+    on : (memory : Word → ℕ) (later_plot : Plot) → HoldsLoosened config turn_memory memory so_far.plot later_plot owner promises graph → HoldsLoosened config old_memory memory block later_plot owner promises graph
+    on memory later_plot next_holds = record { loosened = loosened_on old_memory turn_memory memory block so_far.plot later_plot so_far.left.loosened next_holds.loosened; holds = next_holds.holds }
 
-    drops : (current : ℕ → ℕ) → ((seat : ℕ) → IsDropped (currents_of n) current seat) → Stand (refitted n (tops_of n) (heap_of n) current)
+    drops : (current : ℕ → ℕ) → ((seat : ℕ) → IsDropped (currents_of turn_memory) current seat) → Stand (refitted turn_memory (tops_of turn_memory) (heap_of turn_memory) current)
     drops current dropped = record {
       plot = so_far.plot;
-      left = on (refitted n (tops_of n) (heap_of n) current) so_far.plot (turn.drops config n so_far.plot owner promises graph so_far.left.holds current dropped);
-      tops = λ region. lowered_on config other_memory n (refitted n (tops_of n) (heap_of n) current) region refl (so_far.tops region);
+      left = on (refitted turn_memory (tops_of turn_memory) (heap_of turn_memory) current) so_far.plot (turn.drops config turn_memory so_far.plot owner promises graph so_far.left.holds current dropped);
+      tops = λ region. lowered_on config old_memory turn_memory (refitted turn_memory (tops_of turn_memory) (heap_of turn_memory) current) region refl (so_far.tops region);
     }
 
-    module _ (seat word : ℕ) (is : n (Current seat) ≡ word) (some : word ≢ 0) (more : next_in word < end_in word) where
-      fills : Stand (turn.fills_words config n so_far.plot owner promises graph so_far.left.holds seat word is some more)
+    module _ (seat word : ℕ) (seat_word : turn_memory (Current seat) ≡ word) (some_word : word ≢ 0) (has_room : next_in word < end_in word) where
+      fills : Stand (turn.fills_words config turn_memory so_far.plot owner promises graph so_far.left.holds seat word seat_word some_word has_room)
       fills = record {
-        plot = turn.fills_plot config n so_far.plot owner promises graph so_far.left.holds seat word is some more;
-        left = on (turn.fills_words config n so_far.plot owner promises graph so_far.left.holds seat word is some more) (turn.fills_plot config n so_far.plot owner promises graph so_far.left.holds seat word is some more)
-            (turn.fills config n so_far.plot owner promises graph so_far.left.holds seat word is some more);
-        tops = λ region. lowered_on config other_memory n (turn.fills_words config n so_far.plot owner promises graph so_far.left.holds seat word is some more) region refl (so_far.tops region);
+        plot = turn.fills_plot config turn_memory so_far.plot owner promises graph so_far.left.holds seat word seat_word some_word has_room;
+        left = on (turn.fills_words config turn_memory so_far.plot owner promises graph so_far.left.holds seat word seat_word some_word has_room) (turn.fills_plot config turn_memory so_far.plot owner promises graph so_far.left.holds seat word seat_word some_word has_room)
+            (turn.fills config turn_memory so_far.plot owner promises graph so_far.left.holds seat word seat_word some_word has_room);
+        tops = λ region. lowered_on config old_memory turn_memory (turn.fills_words config turn_memory so_far.plot owner promises graph so_far.left.holds seat word seat_word some_word has_room) region refl (so_far.tops region);
       }
 
-      module _ (last : is_last config n word ≡ true) (full : AllHaveFree n) where
+      module _ (last_buffer : is_last config turn_memory word ≡ true) (all_free : AllHaveFree turn_memory) where
         abbrev after : Word → ℕ
-        after = turn.gives_words config n so_far.plot owner promises graph so_far.left.holds seat word is some more last full
+        after = turn.gives_words config turn_memory so_far.plot owner promises graph so_far.left.holds seat word seat_word some_word has_room last_buffer all_free
 
         -- the buffer was there from the beginning
-        its : other_memory (Current seat) ≡ word
-        its = sym (so_far.left.loosened.fewer seat (λ none. some (sym is ∙ none))) ∙ is
+        its : old_memory (Current seat) ≡ word
+        its = sym (so_far.left.loosened.fewer seat (λ no_word. some_word (sym seat_word ∙ no_word))) ∙ seat_word
 
-        tops : (region : ℕ) → IsLowered config other_memory after region
+        tops : (region : ℕ) → IsLowered config old_memory after region
         tops region = ⊎_elim
-            (λ (at : buffer_region config word ≡ region).
-            IsLowered.given_back seat (λ none. some (sym its ∙ none)) (subst (λ k. next_in k < end_in k) (sym its) more) (ap (buffer_region config) its ∙ at)
-            (updated_same (tops_of n) (buffer_region config word) (next_in word - base_of config (buffer_region config word)) region at ∙ ap (λ q. next_in word - base_of config q) at ∙ ap (λ k. next_in k - base_of config region) (sym its)))
-            (λ (other : buffer_region config word ≢ region). lowered_on config other_memory n after region (updated_else (tops_of n) (buffer_region config word) (next_in word - base_of config (buffer_region config word)) region other) (so_far.tops region))
+            (λ (right_region : buffer_region config word ≡ region).
+            IsLowered.given_back seat (λ no_word. some_word (sym its ∙ no_word)) (subst (λ buffer_word. next_in buffer_word < end_in buffer_word) (sym its) has_room) (ap (buffer_region config) its ∙ right_region)
+            (updated_same (tops_of turn_memory) (buffer_region config word) (next_in word - base_of config (buffer_region config word)) region right_region ∙ ap (λ some_region. next_in word - base_of config some_region) right_region ∙ ap (λ buffer_word. next_in buffer_word - base_of config region) (sym its)))
+            (λ (other_region : buffer_region config word ≢ region). lowered_on config old_memory turn_memory after region (updated_else (tops_of turn_memory) (buffer_region config word) (next_in word - base_of config (buffer_region config word)) region other_region) (so_far.tops region))
             (cases_eq (buffer_region config word) region)
 
         gives : Stand after
         gives = record {
-          plot = turn.gives_plot config n so_far.plot owner promises graph so_far.left.holds seat word is some more last full;
-          left = on after (turn.gives_plot config n so_far.plot owner promises graph so_far.left.holds seat word is some more last full) (turn.gives config n so_far.plot owner promises graph so_far.left.holds seat word is some more last full);
+          plot = turn.gives_plot config turn_memory so_far.plot owner promises graph so_far.left.holds seat word seat_word some_word has_room last_buffer all_free;
+          left = on after (turn.gives_plot config turn_memory so_far.plot owner promises graph so_far.left.holds seat word seat_word some_word has_room last_buffer all_free) (turn.gives config turn_memory so_far.plot owner promises graph so_far.left.holds seat word seat_word some_word has_room last_buffer all_free);
           tops = tops;
         }
 
   keeps : KeepsTurns config Stand
   keeps = record {
-    filling = record { drops = drops; fills = λ n so_far seat word is some more other. fills n so_far seat word is some more };
-    lies = λ n so_far. turn.lies config n so_far.plot owner promises graph so_far.left.holds;
+    filling = record { drops = drops; fills = λ turns so_far seat word seat_word some_word has_room not_last. fills turns so_far seat word seat_word some_word has_room };
+    lies = λ turns so_far. turn.lies config turns so_far.plot owner promises graph so_far.left.holds;
     gives = gives;
   }
 
-  module _ (seats : HasNoMoreSeats config other_memory) where
-    pub has_let_go : HasLetGo config other_memory (let_go config other_memory) block owner promises graph
-    has_let_go = let_go_by_turns config Stand keeps other_memory seats first
+  module _ (seats : HasNoMoreSeats config old_memory) where
+    pub has_let_go : HasLetGo config old_memory (let_go config old_memory) block owner promises graph
+    has_let_go = let_go_by_turns config Stand keeps old_memory seats first
 
     -- nobody has a buffer then, and no piece is room
-    pub let_go_seats : (seat : ℕ) → let_go config other_memory (Current seat) ≡ 0
-    let_go_seats = none_at_all config Stand keeps other_memory seats
+    pub let_go_seats : (seat : ℕ) → let_go config old_memory (Current seat) ≡ 0
+    let_go_seats = none_at_all config Stand keeps old_memory seats
 
     pub let_go_none : HasNoRoom has_let_go.plot
-    let_go_none = none_have_room config (let_go config other_memory) has_let_go.plot owner promises graph has_let_go.left.holds let_go_seats
+    let_go_none = none_have_room config (let_go config old_memory) has_let_go.plot owner promises graph has_let_go.left.holds let_go_seats

@@ -12,4 +12,4 @@ inside_prop : (config : Config) (memory : Word → ℕ) → IsProp (AreInside co
 inside_prop config memory = hlevel (le_prop)
 
 pub inside_some : (config : Config) (memory : Word → ℕ) → HoldsSome config memory → AreInside config memory
-inside_some config memory holds = ∥∥₁_elim holds (inside_prop config memory) (λ h. buffers_inside config memory h.1.0 h.1.3.objects.plotted h.1.3.buffers)
+inside_some config memory holds = ∥∥₁_elim holds (inside_prop config memory) (λ held. buffers_inside config memory held.1.0 held.1.3.objects.plotted held.1.3.buffers)

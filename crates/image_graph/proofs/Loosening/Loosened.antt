@@ -39,41 +39,41 @@ pub record IsLoosened (memory other_memory : Word → ℕ) (block plot : Plot) :
 
 -- so it is where nothing changes
 pub loosened_none : (memory : Word → ℕ) (block : Plot) → ((address words : ℕ) → block address ≡ Some (filler words) → 1 ≤ words) → IsLoosened memory memory block block
-loosened_none memory block some = record {
-  same = record { stays = λ address b fixed is. is; came = λ address b fixed is. is };
-  rooms = λ address seat x is room. is;
-  some = some;
-  words = λ address k b fixed is below. refl;
-  headers = λ address words is. inr (is, refl);
-  others = λ word other. refl;
-  lower = λ r. omega arith;
-  fewer = λ s some. refl;
+loosened_none memory block fillers_long = record {
+  same = record { stays = λ address piece fixed piece_there. piece_there; came = λ address piece fixed piece_there. piece_there };
+  rooms = λ address seat room_piece piece_there room. piece_there;
+  some = fillers_long;
+  words = λ address offset piece fixed piece_there word_below. refl;
+  headers = λ address words piece_there. inr (piece_there, refl);
+  others = λ word other_word. refl;
+  lower = λ region. omega arith;
+  fewer = λ some_seat fillers_long. refl;
 }
 
 -- and from one to a second, and on to a third
-pub loosened_on : (m n k : Word → ℕ) (block plot more : Plot) → IsLoosened m n block plot → IsLoosened n k plot more → IsLoosened m k block more
-loosened_on memory other_memory k block plot more loosened two = record {
+pub loosened_on : (first_memory second_memory third_memory : Word → ℕ) (block plot third_plot : Plot) → IsLoosened first_memory second_memory block plot → IsLoosened second_memory third_memory plot third_plot → IsLoosened first_memory third_memory block third_plot
+loosened_on memory other_memory third_memory block plot third_plot loosened second_loosened = record {
   same = record {
-    stays = λ a b fixed is. two.same.stays a b fixed (loosened.same.stays a b fixed is);
-    came = λ a b fixed is. loosened.same.came a b fixed (two.same.came a b fixed is);
+    stays = λ place piece fixed piece_there. second_loosened.same.stays place piece fixed (loosened.same.stays place piece fixed piece_there);
+    came = λ place piece fixed piece_there. loosened.same.came place piece fixed (second_loosened.same.came place piece fixed piece_there);
   };
-  rooms = λ a seat x is room. loosened.rooms a seat x (two.rooms a seat x is room) room;
-  some = two.some;
-  words = λ a j b fixed is below. two.words a j b fixed (loosened.same.stays a b fixed is) below ∙ loosened.words a j b fixed is below;
-  headers = λ address words is. ⊎_elim
+  rooms = λ place seat room_piece piece_there room. loosened.rooms place seat room_piece (second_loosened.rooms place seat room_piece piece_there room) room;
+  some = second_loosened.some;
+  words = λ place offset piece fixed piece_there word_below. second_loosened.words place offset piece fixed (loosened.same.stays place piece fixed piece_there) word_below ∙ loosened.words place offset piece fixed piece_there word_below;
+  headers = λ address words piece_there. ⊎_elim
       (λ header. inl header)
-      (λ was. ⊎_elim (λ header. inl (was.1 ∙ header)) (λ before. inr (before.0, was.1 ∙ before.1)) (loosened.headers address words was.0))
-      (two.headers address words is);
-  others = λ word other. two.others word other ∙ loosened.others word other;
-  lower = λ region. (let first = loosened.lower region in let second = two.lower region in omega (arith, first, second));
-  fewer = λ seat some. let is = two.fewer seat some in is ∙ loosened.fewer seat (λ none. some (is ∙ none));
+      (λ was_there. ⊎_elim (λ header. inl (was_there.1 ∙ header)) (λ before. inr (before.0, was_there.1 ∙ before.1)) (loosened.headers address words was_there.0))
+      (second_loosened.headers address words piece_there);
+  others = λ word other_word. second_loosened.others word other_word ∙ loosened.others word other_word;
+  lower = λ region. (let first_lower = loosened.lower region in let second = second_loosened.lower region in omega (arith, first_lower, second));
+  fewer = λ seat some_buffer. let piece_there = second_loosened.fewer seat some_buffer in piece_there ∙ loosened.fewer seat (λ no_buffer. some_buffer (piece_there ∙ no_buffer));
 }
 
 -- who is no seat has no buffer still
 pub loosened_seats : (config : Config) (memory next_memory : Word → ℕ) (block plot : Plot) → IsLoosened memory next_memory block plot → HasNoMoreSeats config memory → HasNoMoreSeats config next_memory
-loosened_seats config memory next_memory block plot is seats seat past = ⊎_elim
-    (λ (none : next_memory (Current seat) ≡ 0). none)
-    (λ (some : next_memory (Current seat) ≢ 0). is.fewer seat some ∙ seats seat past)
+loosened_seats config memory next_memory block plot loosened seats seat seat_past = ⊎_elim
+    (λ (no_buffer : next_memory (Current seat) ≡ 0). no_buffer)
+    (λ (some_buffer : next_memory (Current seat) ≢ 0). loosened.fewer seat some_buffer ∙ seats seat seat_past)
     (cases_eq (next_memory (Current seat)) 0)
 
 -- a piece is not loose, or it is room, or it only fills
@@ -84,115 +84,115 @@ kind_of (carved seat words) = inr (inl (seat, refl))
 kind_of (filler words) = inr (inr (words, refl))
 kind_of _ = inl refl
 
-module _ (config : Config) (memory next_memory : Word → ℕ) (block plot : Plot) (owner : ℕ → Option ℕ) (promises : Promises) (graph : Graph) (holds : HoldsBy config memory block owner promises graph) (is : IsLoosened memory next_memory block plot) where
+module _ (config : Config) (memory next_memory : Word → ℕ) (block plot : Plot) (owner : ℕ → Option ℕ) (promises : Promises) (graph : Graph) (holds : HoldsBy config memory block owner promises graph) (loosened : IsLoosened memory next_memory block plot) where
   -- the header of a piece that is not loose stays
   pub header_stays : (address : ℕ) (piece : Block) → is_loose piece ≡ false → block address ≡ Some piece → next_memory (Heap address) ≡ memory (Heap address)
-  header_stays address piece fixed here =
-      let there : address ≡ address + 0 = omega arith in
-      ap (λ address. next_memory (Heap address)) there ∙ is.words address 0 piece fixed here (holds.pieces.some address piece here) ∙ ap (λ address. memory (Heap address)) (sym there)
+  header_stays address piece fixed piece_there =
+      let same_address : address ≡ address + 0 = omega arith in
+      ap (λ address. next_memory (Heap address)) same_address ∙ loosened.words address 0 piece fixed piece_there (holds.pieces.some address piece piece_there) ∙ ap (λ address. memory (Heap address)) (sym same_address)
 
   thing_header : (address refs nums : ℕ) (name : Name) → block address ≡ Some (thing name refs nums) → next_memory (Heap address) ≡ memory (Heap address)
-  thing_header address refs nums name here = header_stays address (thing name refs nums) refl here
+  thing_header address refs nums name thing_there = header_stays address (thing name refs nums) refl thing_there
 
   -- what has a name had it
   named_was : (address : ℕ) (name : Name) → name_at (plot address) ≡ Some name → name_at (block address) ≡ Some name
-  named_was = names_stay config plot block (record { stays = is.same.came; came = is.same.stays })
+  named_was = names_stay config plot block (record { stays = loosened.same.came; came = loosened.same.stays })
 
   named_now : (address : ℕ) (name : Name) → name_at (plot address) ≡ Some name → (refs : ℕ) × (nums : ℕ) × (plot address ≡ Some (thing name refs nums))
-  named_now address name named = let was = holds.pieces.named address name (named_was address name named) in (was.0, was.1, is.same.stays address (thing name was.0 was.1) refl was.2)
+  named_now address name named = let was_named = holds.pieces.named address name (named_was address name named) in (was_named.0, was_named.1, loosened.same.stays address (thing name was_named.0 was_named.1) refl was_named.2)
 
   now_again : (address : ℕ) (name : Name) → name_at (block address) ≡ Some name → now_in next_memory address ≡ now_in memory address
-  now_again address name named = let at = holds.pieces.named address name named in now_same next_memory memory address (thing_header address at.0 at.1 name at.2)
+  now_again address name named = let named_piece = holds.pieces.named address name named in now_same next_memory memory address (thing_header address named_piece.0 named_piece.1 name named_piece.2)
 
   -- pieces have words
   pub some_again : (address : ℕ) (piece : Block) → plot address ≡ Some piece → 1 ≤ words_of piece
-  some_again address piece here = ⊎_elim
-      (λ (fixed : is_loose piece ≡ false). holds.pieces.some address piece (is.same.came address piece fixed here))
+  some_again address piece piece_there = ⊎_elim
+      (λ (fixed : is_loose piece ≡ false). holds.pieces.some address piece (loosened.same.came address piece fixed piece_there))
       (λ loose. ⊎_elim
-      (λ (room : (seat : ℕ) × (room_of piece ≡ Some seat)). holds.pieces.some address piece (is.rooms address room.0 piece here room.1))
-      (λ (fills : (words : ℕ) × (piece ≡ filler words)). let long = is.some address fills.0 (here ∙ ap Some fills.1) in let same : words_of piece ≡ fills.0 = ap words_of fills.1 in omega (arith, long, same))
+      (λ (room : (seat : ℕ) × (room_of piece ≡ Some seat)). holds.pieces.some address piece (loosened.rooms address room.0 piece piece_there room.1))
+      (λ (fills : (words : ℕ) × (piece ≡ filler words)). let filler_long = loosened.some address fills.0 (piece_there ∙ ap Some fills.1) in let same_words : words_of piece ≡ fills.0 = ap words_of fills.1 in omega (arith, filler_long, same_words))
       loose)
       (kind_of piece)
 
   pieces_again : NamedAreThings plot
   pieces_again = record {
     named = named_now;
-    unpromised = λ address seat words here. holds.pieces.unpromised address seat words (is.same.came address (promised seat words) refl here);
-    unheld = λ address seat words here. holds.pieces.unheld address seat words (is.rooms address seat (hand seat words) here refl);
-    uncarved = λ address seat words here. holds.pieces.uncarved address seat words (is.rooms address seat (carved seat words) here refl);
+    unpromised = λ address seat words piece_there. holds.pieces.unpromised address seat words (loosened.same.came address (promised seat words) refl piece_there);
+    unheld = λ address seat words piece_there. holds.pieces.unheld address seat words (loosened.rooms address seat (hand seat words) piece_there refl);
+    uncarved = λ address seat words piece_there. holds.pieces.uncarved address seat words (loosened.rooms address seat (carved seat words) piece_there refl);
     some = some_again;
   }
 
   -- each piece says how many words it has, where each did
   pub loosened_sized : AreSized memory block → AreSized next_memory plot
   loosened_sized sized = record {
-    objects = λ a b here fixed.
-        let was = is.same.came a b fixed here in
-        let words = sized.objects a b was fixed in
-        ap object_words (is.words a 1 b fixed was (omega (arith, words))) ∙ words;
-    headers = λ address piece here fixed. let was = is.same.came address piece fixed here in ap is_filler (header_stays address piece fixed was) ∙ sized.headers address piece was fixed;
-    fillers = λ address words here. ⊎_elim (λ header. header) (λ was. was.1 ∙ sized.fillers address words was.0) (is.headers address words here);
+    objects = λ place object_piece piece_there fixed.
+        let was_there = loosened.same.came place object_piece fixed piece_there in
+        let words = sized.objects place object_piece was_there fixed in
+        ap object_words (loosened.words place 1 object_piece fixed was_there (omega (arith, words))) ∙ words;
+    headers = λ address piece piece_there fixed. let was_there = loosened.same.came address piece fixed piece_there in ap is_filler (header_stays address piece fixed was_there) ∙ sized.headers address piece was_there fixed;
+    fillers = λ address words piece_there. ⊎_elim (λ header. header) (λ was_there. was_there.1 ∙ sized.fillers address words was_there.0) (loosened.headers address words piece_there);
   }
 
   abbrev same_place : ℕ → ℕ
-  same_place x = x
+  same_place address = address
 
   abbrev Anywhere : ℕ → Type 0
-  Anywhere x = Unit {0}
+  Anywhere address = Unit {0}
 
   -- Where pieces fill the regions still, and the words of buffers tell of free words.
-  module _ (plotted : IsPlotted config (λ r. next_memory (Top r)) plot) where
+  module _ (plotted : IsPlotted config (λ any_region. next_memory (Top any_region)) plot) where
     carried : IsCarried config memory next_memory block plot same_place Anywhere
     carried = record {
       plotted = plotted;
-      names = names_stay config block plot is.same;
-      current = λ v name named.
-          let was = named_was v name named in
-          let copy = holds.objects.current v name was in
-          (copy.0, copy.1, ap plot (now_again v name was) ∙ is.same.stays (now_in memory v) (thing name copy.0 copy.1) refl copy.2);
+      names = names_stay config block plot loosened.same;
+      current = λ word name named.
+          let was_named = named_was word name named in
+          let copy = holds.objects.current word name was_named in
+          (copy.0, copy.1, ap plot (now_again word name was_named) ∙ loosened.same.stays (now_in memory word) (thing name copy.0 copy.1) refl copy.2);
       now = now_again;
       lands = λ address name named. tt;
-      one = λ x y at_x at_y same. same;
-      pieces = λ x refs nums name here. is.same.came x (thing name refs nums) refl here;
-      header = λ address refs nums name here at was. thing_header address refs nums name (is.same.came address (thing name refs nums) refl here) ∙ was;
-      words = λ x k refs nums name here at reads some below other. is.words x k (thing name refs nums) refl (is.same.came x (thing name refs nums) refl here) below;
-      fields = λ x i refs nums name here at few.
-          let place : x + 3 + i ≡ x + (3 + i) = omega arith in
-          not_renamed memory (memory (Heap (x + 3 + i))) (next_memory (Heap (x + 3 + i)))
-          (ap (λ address. next_memory (Heap address)) place ∙ is.words x (3 + i) (thing name refs nums) refl (is.same.came x (thing name refs nums) refl here) (omega (arith, few)) ∙ ap (λ address. memory (Heap address)) (sym place));
-      roots = λ mutator index inside few. not_renamed memory (memory (Root mutator index)) (next_memory (Root mutator index)) (is.others (Root mutator index) refl);
-      answers = λ mutator inside. not_renamed memory (memory (Answer mutator)) (next_memory (Answer mutator)) (is.others (Answer mutator) refl);
-      pins = λ mutator slot inside few. is.others (Pin mutator slot) refl;
+      one = λ thing_address second_address at_x at_y same_address. same_address;
+      pieces = λ thing_address refs nums name thing_there. loosened.same.came thing_address (thing name refs nums) refl thing_there;
+      header = λ address refs nums name thing_there address_named was_named. thing_header address refs nums name (loosened.same.came address (thing name refs nums) refl thing_there) ∙ was_named;
+      words = λ thing_address offset refs nums name thing_there address_named reads some_word field_below not_same. loosened.words thing_address offset (thing name refs nums) refl (loosened.same.came thing_address (thing name refs nums) refl thing_there) field_below;
+      fields = λ thing_address field refs nums name thing_there address_named few.
+          let place : thing_address + 3 + field ≡ thing_address + (3 + field) = omega arith in
+          not_renamed memory (memory (Heap (thing_address + 3 + field))) (next_memory (Heap (thing_address + 3 + field)))
+          (ap (λ address. next_memory (Heap address)) place ∙ loosened.words thing_address (3 + field) (thing name refs nums) refl (loosened.same.came thing_address (thing name refs nums) refl thing_there) (omega (arith, few)) ∙ ap (λ address. memory (Heap address)) (sym place));
+      roots = λ mutator index inside few. not_renamed memory (memory (Root mutator index)) (next_memory (Root mutator index)) (loosened.others (Root mutator index) refl);
+      answers = λ mutator inside. not_renamed memory (memory (Answer mutator)) (next_memory (Answer mutator)) (loosened.others (Answer mutator) refl);
+      pins = λ mutator slot inside few. loosened.others (Pin mutator slot) refl;
       pinned = λ mutator slot inside few name copy plain. ap is_forwarded (thing_header (memory (Pin mutator slot)) copy.0 copy.1 name copy.2) ∙ plain;
-      waits = λ mutator. is.others (Wait mutator) refl;
+      waits = λ mutator. loosened.others (Wait mutator) refl;
     }
 
     moved_again : (address refs nums : ℕ) (name : Name) → plot address ≡ Some (thing name refs nums) → is_forwarded (next_memory (Heap address)) ≡ true → HasMoved config next_memory plot address refs nums name
-    moved_again address refs nums name here forwarded =
-        let before = is.same.came address (thing name refs nums) refl here in
-        let was = holds.moved address refs nums name before (ap is_forwarded (sym (thing_header address refs nums name before)) ∙ forwarded) in
-        let now = now_again address name (ap name_at before) in
-        let set = is.others Cset refl in
+    moved_again address refs nums name thing_there forwarded =
+        let before = loosened.same.came address (thing name refs nums) refl thing_there in
+        let was_moved = holds.moved address refs nums name before (ap is_forwarded (sym (thing_header address refs nums name before)) ∙ forwarded) in
+        let now_named = now_again address name (ap name_at before) in
+        let same_set = loosened.others Cset refl in
         record {
-          in_set = subst (λ s. IsIn s (region_with config address)) (sym set) was.in_set;
-          copy = ap plot now ∙ is.same.stays (now_in memory address) (thing name refs nums) refl was.copy;
-          outside = subst (λ k. IsOutside (next_memory Cset) (region_with config k)) (sym now) (subst (λ s. IsOutside s (region_with config (now_in memory address))) (sym set) was.outside);
-          current = ap (λ address. is_forwarded (next_memory (Heap address))) now ∙ ap is_forwarded (thing_header (now_in memory address) refs nums name was.copy) ∙ was.current;
+          in_set = subst (λ cset. IsIn cset (region_with config address)) (sym same_set) was_moved.in_set;
+          copy = ap plot now_named ∙ loosened.same.stays (now_in memory address) (thing name refs nums) refl was_moved.copy;
+          outside = subst (λ some_address. IsOutside (next_memory Cset) (region_with config some_address)) (sym now_named) (subst (λ cset. IsOutside cset (region_with config (now_in memory address))) (sym same_set) was_moved.outside);
+          current = ap (λ address. is_forwarded (next_memory (Heap address))) now_named ∙ ap is_forwarded (thing_header (now_in memory address) refs nums name was_moved.copy) ∙ was_moved.current;
         }
 
     -- a free region has no words still
     free_again : IsFreeWord config (next_memory Free) (λ region. next_memory (Top region)) owner
-    free_again = subst (λ free. IsFreeWord config free (λ region. next_memory (Top region)) owner) (sym (is.others Free refl)) (record {
+    free_again = subst (λ free_regions. IsFreeWord config free_regions (λ region. next_memory (Top region)) owner) (sym (loosened.others Free refl)) (record {
       no_more = holds.free_word.no_more;
-      empty = λ region inside free. (let none = holds.free_word.empty region inside free in let less = is.lower region in omega (arith, none, less));
+      empty = λ region inside free_regions. (let no_words = holds.free_word.empty region inside free_regions in let less_top = loosened.lower region in omega (arith, no_words, less_top));
       nobodys = holds.free_word.nobodys;
     })
 
     share_again : ShareIsOpen config (next_memory Share) (next_memory Free) (next_memory Cset) owner
     share_again =
-        subst (λ share. ShareIsOpen config share (next_memory Free) (next_memory Cset) owner) (sym (is.others Share refl))
-        (subst (λ free. ShareIsOpen config (memory Share) free (next_memory Cset) owner) (sym (is.others Free refl))
-        (subst (λ cset. ShareIsOpen config (memory Share) (memory Free) cset owner) (sym (is.others Cset refl)) holds.shared_one))
+        subst (λ share. ShareIsOpen config share (next_memory Free) (next_memory Cset) owner) (sym (loosened.others Share refl))
+        (subst (λ free_regions. ShareIsOpen config (memory Share) free_regions (next_memory Cset) owner) (sym (loosened.others Free refl))
+        (subst (λ cset. ShareIsOpen config (memory Share) (memory Free) cset owner) (sym (loosened.others Cset refl)) holds.shared_one))
 
     pub loosened_holds : IsFilled config (λ region. next_memory (Top region)) plot → AreBuffers config (λ region. next_memory (Top region)) (λ seat. next_memory (Current seat)) plot → HoldsBy config next_memory plot owner promises graph
     loosened_holds filled buffers = carried_holds config memory next_memory block plot owner promises graph holds same_place Anywhere carried moved_again filled pieces_again free_again share_again buffers

@@ -25,10 +25,10 @@ use Rattle.image_graph.proofs.Loosening.Loosened.{is_of_buffers, IsLoosened, loo
 
 -- other words stay where only tops, words of the heap and buffers change
 refitted_others : (memory : Word → ℕ) (top heap current : ℕ → ℕ) (word : Word) → is_of_buffers word ≡ false → refitted memory top heap current word ≡ memory word
-refitted_others memory top heap current (Heap address) other = absurd (true≢false other)
-refitted_others memory top heap current (Top region) other = absurd (true≢false other)
-refitted_others memory top heap current (Current seat) other = absurd (true≢false other)
-refitted_others memory top heap current _ other = refl
+refitted_others memory top heap current (Heap address) not_of_buffers = absurd (true≢false not_of_buffers)
+refitted_others memory top heap current (Top region) not_of_buffers = absurd (true≢false not_of_buffers)
+refitted_others memory top heap current (Current seat) not_of_buffers = absurd (true≢false not_of_buffers)
+refitted_others memory top heap current _ not_of_buffers = refl
 
 -- The words hold the graph by other pieces, of which all but loose ones are the same.
 pub record HoldsLoosened (config : Config) (memory next_memory : Word → ℕ) (block plot : Plot) (owner : ℕ → Option ℕ) (promises : Promises) (graph : Graph) : Type 0 where
@@ -44,39 +44,39 @@ module _ (config : Config) (memory : Word → ℕ) (block : Plot) (owner : ℕ �
     pub drops : HoldsLoosened config memory without_them block block owner promises graph
     drops =
         let loosened : IsLoosened memory without_them block block = record {
-          same = record { stays = λ a b fixed is. is; came = λ a b fixed is. is };
-          rooms = λ a seat x is room. is;
-          some = λ a words is. holds.pieces.some a (filler words) is;
-          words = λ a k b fixed is below. refl;
-          headers = λ address words is. inr (is, refl);
+          same = record { stays = λ place piece fixed piece_there. piece_there; came = λ place piece fixed piece_there. piece_there };
+          rooms = λ place seat room_piece piece_there room. piece_there;
+          some = λ place words piece_there. holds.pieces.some place (filler words) piece_there;
+          words = λ place offset piece fixed piece_there word_below. refl;
+          headers = λ address words piece_there. inr (piece_there, refl);
           others = refitted_others memory (tops_of memory) (heap_of memory) current;
-          lower = λ r. omega arith;
+          lower = λ region. omega arith;
           fewer = dropped_fewer (currents_of memory) current dropped;
         } in
         record {
           loosened = loosened;
           holds = loosened_holds config memory without_them block block owner promises graph holds loosened holds.objects.plotted holds.filled
-              (buffers_dropped config (tops_of memory) (currents_of memory) current block dropped (λ a seat more is. holds.pieces.some a (spare seat more) is) holds.buffers);
+              (buffers_dropped config (tops_of memory) (currents_of memory) current block dropped (λ place seat free_words piece_there. holds.pieces.some place (spare seat free_words) piece_there) holds.buffers);
         }
 
-  module _ (seat word : ℕ) (is : memory (Current seat) ≡ word) (some : word ≢ 0) where
+  module _ (seat word : ℕ) (current_is : memory (Current seat) ≡ word) (some_word : word ≢ 0) where
     its : IsBuffer config (tops_of memory) block seat word
-    its = subst (IsBuffer config (tops_of memory) block seat) is (holds.buffers.each seat (λ none. some (sym is ∙ none)))
+    its = subst (IsBuffer config (tops_of memory) block seat) current_is (holds.buffers.each seat (λ no_buffer. some_word (sym current_is ∙ no_buffer)))
 
     pub lies : IsInside config word
     lies = buffer_inside config (tops_of memory) block seat word its (holds.objects.plotted.tops its.region its.within)
 
-    module _ (more : next_in word < end_in word) where
+    module _ (more_words : next_in word < end_in word) where
       -- its free words are a piece
       abbrev pub free : Block
       free = spare seat (end_in word - next_in word)
 
       pub free_piece : block (next_in word) ≡ Some free
-      free_piece = ⊎_elim (λ there. there) (λ has. absurd (holds.pieces.uncarved has.0 seat has.1 has.2)) (its.free more)
+      free_piece = ⊎_elim (λ piece_there. piece_there) (λ held_back. absurd (holds.pieces.uncarved held_back.0 seat held_back.1 held_back.2)) (its.free more_words)
 
       -- the piece of another seat lies elsewhere
-      elsewhere : (address s words : ℕ) → s ≢ seat → block address ≡ Some (spare s words) → address ≢ next_in word
-      elsewhere address s words differs here at = differs (let both = same_Some (spare s words) free (sym here ∙ ap block at ∙ free_piece) in cc)
+      elsewhere : (address other_seat words : ℕ) → other_seat ≢ seat → block address ≡ Some (spare other_seat words) → address ≢ next_in word
+      elsewhere address other_seat words differs spare_there same_address = differs (let both_there = same_Some (spare other_seat words) free (sym spare_there ∙ ap block same_address ∙ free_piece) in cc)
 
       -- They become words that only fill.
       abbrev pub fills_words : Word → ℕ
@@ -90,63 +90,63 @@ module _ (config : Config) (memory : Word → ℕ) (block : Plot) (owner : ℕ �
 
       -- a piece of another kind than words that only fill was there
       was_there : (address : ℕ) (piece : Block) → (filler (end_in word - next_in word) ≡ piece → ⊥) → fills_plot address ≡ Some piece → (address ≢ next_in word) × (block address ≡ Some piece)
-      was_there address piece differs here = ⊎_elim (λ now. absurd (differs now.1)) (λ was. was) (cases address piece here)
+      was_there address piece differs piece_there = ⊎_elim (λ filled_now. absurd (differs filled_now.1)) (λ stood_before. stood_before) (cases address piece piece_there)
 
       resized : IsResized block fills_plot
       resized = record {
-        from = λ address piece here. ⊎_elim
-            (λ (now : (address ≡ next_in word) × (filler (end_in word - next_in word) ≡ piece)). (free, ap block now.0 ∙ free_piece, ap words_of now.1))
-            (λ (was : (address ≢ next_in word) × (block address ≡ Some piece)). (piece, was.1, refl))
-            (cases address piece here);
-        to = λ x b here. ⊎_elim
-            (λ (at : next_in word ≡ x). (filler (end_in word - next_in word), updated_same block (next_in word) (Some (filler (end_in word - next_in word))) x at))
-            (λ (other : next_in word ≢ x). (b, updated_else block (next_in word) (Some (filler (end_in word - next_in word))) x other ∙ here))
-            (cases_eq (next_in word) x);
+        from = λ address piece piece_there. ⊎_elim
+            (λ (filled_now : (address ≡ next_in word) × (filler (end_in word - next_in word) ≡ piece)). (free, ap block filled_now.0 ∙ free_piece, ap words_of filled_now.1))
+            (λ (stood_before : (address ≢ next_in word) × (block address ≡ Some piece)). (piece, stood_before.1, refl))
+            (cases address piece piece_there);
+        to = λ place old_piece piece_there. ⊎_elim
+            (λ (same_address : next_in word ≡ place). (filler (end_in word - next_in word), updated_same block (next_in word) (Some (filler (end_in word - next_in word))) place same_address))
+            (λ (elsewhere : next_in word ≢ place). (old_piece, updated_else block (next_in word) (Some (filler (end_in word - next_in word))) place elsewhere ∙ piece_there))
+            (cases_eq (next_in word) place);
       }
 
       -- a piece that is not loose stays, and lies elsewhere
       fixed_elsewhere : (address : ℕ) (piece : Block) → is_loose piece ≡ false → block address ≡ Some piece → next_in word ≢ address
-      fixed_elsewhere address piece fixed here at = true≢false (ap is_loose (same_Some free piece (sym free_piece ∙ ap block at ∙ here)) ∙ fixed)
+      fixed_elsewhere address piece fixed piece_there same_address = true≢false (ap is_loose (same_Some free piece (sym free_piece ∙ ap block same_address ∙ piece_there)) ∙ fixed)
 
       not_fixed : (piece : Block) → is_loose piece ≡ false → filler (end_in word - next_in word) ≡ piece → ⊥
-      not_fixed piece fixed same = true≢false (ap is_loose same ∙ fixed)
+      not_fixed piece fixed same_piece = true≢false (ap is_loose same_piece ∙ fixed)
 
       heap_else : (address : ℕ) → next_in word ≢ address → fills_words (Heap address) ≡ memory (Heap address)
-      heap_else address other = updated_else (heap_of memory) (next_in word) (filler_header (end_in word - next_in word)) address other
+      heap_else address other_address = updated_else (heap_of memory) (next_in word) (filler_header (end_in word - next_in word)) address other_address
 
       fills_loosened : IsLoosened memory fills_words block fills_plot
       fills_loosened = record {
         same = record {
-          stays = λ address piece fixed here. updated_else block (next_in word) (Some (filler (end_in word - next_in word))) address (fixed_elsewhere address piece fixed here) ∙ here;
-          came = λ x b fixed here. (was_there x b (not_fixed b fixed) here).1;
+          stays = λ address piece fixed piece_there. updated_else block (next_in word) (Some (filler (end_in word - next_in word))) address (fixed_elsewhere address piece fixed piece_there) ∙ piece_there;
+          came = λ place some_piece fixed piece_there. (was_there place some_piece (not_fixed some_piece fixed) piece_there).1;
         };
-        rooms = λ x s b here room. (was_there x b (λ same. none-some s (ap room_of same ∙ room)) here).1;
-        some = λ address words here. ⊎_elim
-            (λ (now : (address ≡ next_in word) × (filler (end_in word - next_in word) ≡ filler words)). let long : end_in word - next_in word ≡ words = ap words_of now.1 in omega (arith, long, more))
-            (λ (was : (address ≢ next_in word) × (block address ≡ Some (filler words))). holds.pieces.some address (filler words) was.1)
-            (cases address (filler words) here);
-        words = λ x k b fixed here below.
-            let apart : x + k ≢ next_in word + 0 = far config (tops_of memory) block holds.objects.plotted x (next_in word) k 0 b free here free_piece (λ at. fixed_elsewhere x b fixed here (sym at)) below (omega (arith, more)) in
-            heap_else (x + k) (λ at. apart (omega (arith, at)));
-        headers = λ address words here. ⊎_elim
-            (λ (now : (address ≡ next_in word) × (filler (end_in word - next_in word) ≡ filler words)).
-            let long : end_in word - next_in word ≡ words = ap words_of now.1 in
-            inl (ap (λ address. fills_words (Heap address)) now.0 ∙ updated_there (heap_of memory) (next_in word) (filler_header (end_in word - next_in word)) ∙ ap filler_header long))
-            (λ (was : (address ≢ next_in word) × (block address ≡ Some (filler words))). inr (was.1, heap_else address (λ at. was.0 (sym at))))
-            (cases address (filler words) here);
+        rooms = λ place other_seat some_piece piece_there room. (was_there place some_piece (λ same_piece. none-some other_seat (ap room_of same_piece ∙ room)) piece_there).1;
+        some = λ address words piece_there. ⊎_elim
+            (λ (filled_now : (address ≡ next_in word) × (filler (end_in word - next_in word) ≡ filler words)). let same_words : end_in word - next_in word ≡ words = ap words_of filled_now.1 in omega (arith, same_words, more_words))
+            (λ (stood_before : (address ≢ next_in word) × (block address ≡ Some (filler words))). holds.pieces.some address (filler words) stood_before.1)
+            (cases address (filler words) piece_there);
+        words = λ place offset some_piece fixed piece_there word_below.
+            let words_apart : place + offset ≢ next_in word + 0 = far config (tops_of memory) block holds.objects.plotted place (next_in word) offset 0 some_piece free piece_there free_piece (λ same_address. fixed_elsewhere place some_piece fixed piece_there (sym same_address)) word_below (omega (arith, more_words)) in
+            heap_else (place + offset) (λ same_address. words_apart (omega (arith, same_address)));
+        headers = λ address words piece_there. ⊎_elim
+            (λ (filled_now : (address ≡ next_in word) × (filler (end_in word - next_in word) ≡ filler words)).
+            let same_words : end_in word - next_in word ≡ words = ap words_of filled_now.1 in
+            inl (ap (λ address. fills_words (Heap address)) filled_now.0 ∙ updated_there (heap_of memory) (next_in word) (filler_header (end_in word - next_in word)) ∙ ap filler_header same_words))
+            (λ (stood_before : (address ≢ next_in word) × (block address ≡ Some (filler words))). inr (stood_before.1, heap_else address (λ same_address. stood_before.0 (sym same_address))))
+            (cases address (filler words) piece_there);
         others = refitted_others memory (tops_of memory) (updated (heap_of memory) (next_in word) (filler_header (end_in word - next_in word))) (updated (currents_of memory) seat 0);
-        lower = λ r. omega arith;
+        lower = λ region. omega arith;
         fewer = without_fewer (currents_of memory) seat;
       }
 
       fills_buffers : AreBuffers config (tops_of memory) (updated (currents_of memory) seat 0) fills_plot
       fills_buffers = buffers_without config (tops_of memory) (tops_of memory) (currents_of memory) block fills_plot seat holds.buffers holds.pieces.uncarved
-          (λ address s words differs here. updated_else block (next_in word) (Some (filler (end_in word - next_in word))) address (λ at. elsewhere address s words differs here (sym at)) ∙ here)
-          (λ x s words here.
-          let was = was_there x (spare s words) (λ same. cc) here in
-          let there = holds.buffers.spares x s words was.1 in
-          ((λ at. was.0 (sym there.0 ∙ ap (λ seat. next_in (memory (Current seat))) at ∙ ap next_in is)), was.1))
-          (λ s differs is_some. (holds.buffers.each s is_some).to_top)
+          (λ address other_seat words differs spare_there. updated_else block (next_in word) (Some (filler (end_in word - next_in word))) address (λ same_address. elsewhere address other_seat words differs spare_there (sym same_address)) ∙ spare_there)
+          (λ place other_seat words spare_there.
+          let stood_before = was_there place (spare other_seat words) (λ same_piece. cc) spare_there in
+          let own_words = holds.buffers.spares place other_seat words stood_before.1 in
+          ((λ same_address. stood_before.0 (sym own_words.0 ∙ ap (λ seat. next_in (memory (Current seat))) same_address ∙ ap next_in current_is)), stood_before.1))
+          (λ other_seat differs is_some. (holds.buffers.each other_seat is_some).to_top)
 
       pub fills : HoldsLoosened config memory fills_words block fills_plot owner promises graph
       fills = record {
@@ -156,13 +156,13 @@ module _ (config : Config) (memory : Word → ℕ) (block : Plot) (owner : ℕ �
       }
 
       -- They are given back, where they end at the top, while each buffer has free words.
-      module _ (last : is_last config memory word ≡ true) (full : AllHaveFree memory) where
+      module _ (buffer_last : is_last config memory word ≡ true) (all_have_free : AllHaveFree memory) where
         abbrev region : ℕ
         region = buffer_region config word
 
         can : CanCutOff config (tops_of memory) block region (next_in word) free
         can =
-            let end : end_in word ≡ base_of config region + memory (Top region) = eqb-true (end_in word) (base_of config region + memory (Top region)) last in
+            let end : end_in word ≡ base_of config region + memory (Top region) = eqb-true (end_in word) (base_of config region + memory (Top region)) buffer_last in
             record {
               plotted = holds.objects.plotted;
               filled = holds.filled;
@@ -170,7 +170,7 @@ module _ (config : Config) (memory : Word → ℕ) (block : Plot) (owner : ℕ �
               within = lies.region;
               from_base = lies.from_base;
               here = free_piece;
-              at_top = omega (arith, more, end);
+              at_top = omega (arith, more_words, end);
             }
 
         abbrev pub gives_words : Word → ℕ
@@ -185,13 +185,13 @@ module _ (config : Config) (memory : Word → ℕ) (block : Plot) (owner : ℕ �
         gives_loosened : IsLoosened memory gives_words block gives_plot
         gives_loosened = record {
           same = record {
-            stays = λ address piece fixed here. stays config (tops_of memory) block region (next_in word) free can address (λ at. fixed_elsewhere address piece fixed here (sym at)) ∙ here;
-            came = λ x b fixed here. (was_left x b here).1;
+            stays = λ address piece fixed piece_there. stays config (tops_of memory) block region (next_in word) free can address (λ same_address. fixed_elsewhere address piece fixed piece_there (sym same_address)) ∙ piece_there;
+            came = λ place some_piece fixed piece_there. (was_left place some_piece piece_there).1;
           };
-          rooms = λ x s b here room. (was_left x b here).1;
-          some = λ x words here. holds.pieces.some x (filler words) (was_left x (filler words) here).1;
-          words = λ x k b fixed here below. refl;
-          headers = λ address words here. inr ((was_left address (filler words) here).1, refl);
+          rooms = λ place other_seat some_piece piece_there room. (was_left place some_piece piece_there).1;
+          some = λ place words piece_there. holds.pieces.some place (filler words) (was_left place (filler words) piece_there).1;
+          words = λ place offset some_piece fixed piece_there word_below. refl;
+          headers = λ address words piece_there. inr ((was_left address (filler words) piece_there).1, refl);
           others = refitted_others memory (updated (tops_of memory) region (next_in word - base_of config region)) (heap_of memory) (updated (currents_of memory) seat 0);
           lower = falls config (tops_of memory) block region (next_in word) free can;
           fewer = without_fewer (currents_of memory) seat;
@@ -202,5 +202,5 @@ module _ (config : Config) (memory : Word → ℕ) (block : Plot) (owner : ℕ �
           loosened = gives_loosened;
           holds = loosened_holds config memory gives_words block gives_plot owner promises graph holds gives_loosened
               (plotted_without config (tops_of memory) block region (next_in word) free can) (filled_without config (tops_of memory) block region (next_in word) free can)
-              (buffers_cut config (tops_of memory) (currents_of memory) block seat (next_in word) (end_in word - next_in word) region can holds.buffers holds.pieces.uncarved full);
+              (buffers_cut config (tops_of memory) (currents_of memory) block seat (next_in word) (end_in word - next_in word) region can holds.buffers holds.pieces.uncarved all_have_free);
         }

@@ -13,22 +13,22 @@ module _ (config : Config) (top : ℕ → ℕ) (block plot : Plot) (is_resized :
   pub resized_plotted : IsPlotted config top block → IsPlotted config top plot
   resized_plotted plotted = record {
     tops = plotted.tops;
-    in_use = λ address b is. let was = is_resized.from address b is in subst (λ words. IsInUse config top address words) was.2 (plotted.in_use address was.0 was.1);
-    apart = λ a b x y is_x is_y before.
-        let was_x = is_resized.from a x is_x in
-        let was_y = is_resized.from b y is_y in
-        let far = plotted.apart a b was_x.0 was_y.0 was_x.1 was_y.1 before in
-        omega (arith, far, was_x.2);
+    in_use = λ address b piece_there. let old_piece = is_resized.from address b piece_there in subst (λ words. IsInUse config top address words) old_piece.2 (plotted.in_use address old_piece.0 old_piece.1);
+    apart = λ first_address b first_block second_block first_there second_there before.
+        let was_x = is_resized.from first_address first_block first_there in
+        let was_y = is_resized.from b second_block second_there in
+        let far_apart = plotted.apart first_address b was_x.0 was_y.0 was_x.1 was_y.1 before in
+        omega (arith, far_apart, was_x.2);
   }
 
   there : (address : ℕ) → (piece : Block) × (block address ≡ Some piece) → (piece : Block) × (plot address ≡ Some piece)
-  there address was = is_resized.to address was.0 was.1
+  there address old_piece = is_resized.to address old_piece.0 old_piece.1
 
   pub resized_filled : IsFilled config top block → IsFilled config top plot
   resized_filled filled = record {
-    first = λ r inside used. there (base_of config r) (filled.first r inside used);
-    next = λ r a x inside from is below.
-        let was = is_resized.from a x is in
-        subst (λ w. (piece : Block) × (plot (a + w) ≡ Some piece)) was.2
-        (there (a + words_of was.0) (filled.next r a was.0 inside from was.1 (omega (arith, below, was.2))));
+    first = λ region inside used. there (base_of config region) (filled.first region inside used);
+    next = λ region address some_piece inside from piece_there end_below.
+        let old_piece = is_resized.from address some_piece piece_there in
+        subst (λ words. (piece : Block) × (plot (address + words) ≡ Some piece)) old_piece.2
+        (there (address + words_of old_piece.0) (filled.next region address old_piece.0 inside from old_piece.1 (omega (arith, end_below, old_piece.2))));
   }

@@ -19,72 +19,72 @@ use Rattle.step_core.proofs.Machines.Owed.{words_promised}
 
 -- what a waiting mutator has asked for, by its answer and its command
 abbrev pub asking_by : ℕ → Command → Asking
-asking_by now command = if now == 0 then asks (refs_of command) (nums_of command) else (if now == 1 then refused else given (refs_of command) (nums_of command))
+asking_by answer command = if answer == 0 then asks (refs_of command) (nums_of command) else (if answer == 1 then refused else given (refs_of command) (nums_of command))
 
 -- what a mutator at a spot has asked for
 abbrev pub asking_at : Spot → ℕ → Command → Asking
-asking_at spot now command = if is_waiting spot then asking_by now command else nothing
+asking_at spot answer command = if is_waiting spot then asking_by answer command else nothing
 
 abbrev pub asking_in : Machine → ℕ → Asking
-asking_in (mutating mutator) now = asking_at mutator.spot now mutator.kept.command
-asking_in _ now = nothing
+asking_in (mutating mutator) answer = asking_at mutator.spot answer mutator.kept.command
+asking_in _ answer = nothing
 
 abbrev pub asking_of : Option Actor → ℕ → Asking
-asking_of None now = nothing
-asking_of (Some actor) now = asking_in actor.machine now
+asking_of None answer = nothing
+asking_of (Some actor) answer = asking_in actor.machine answer
 
-pub asking_asks : (now : ℕ) (command : Command) → now ≡ 0 → asking_by now command ≡ asks (refs_of command) (nums_of command)
-asking_asks now command is = cond-true (now == 0) _ _ (eq-eqb now 0 is)
+pub asking_asks : (answer : ℕ) (command : Command) → answer ≡ 0 → asking_by answer command ≡ asks (refs_of command) (nums_of command)
+asking_asks answer command no_answer = cond-true (answer == 0) _ _ (eq-eqb answer 0 no_answer)
 
-pub asking_refused : (now : ℕ) (command : Command) → now ≡ 1 → asking_by now command ≡ refused
-asking_refused now command is = cond-false (now == 0) _ _ (ne_eqb now 0 (λ e. omega (arith, is, e))) ∙ cond-true (now == 1) _ _ (eq-eqb now 1 is)
+pub asking_refused : (answer : ℕ) (command : Command) → answer ≡ 1 → asking_by answer command ≡ refused
+asking_refused answer command answer_refused = cond-false (answer == 0) _ _ (ne_eqb answer 0 (λ no_answer. omega (arith, answer_refused, no_answer))) ∙ cond-true (answer == 1) _ _ (eq-eqb answer 1 answer_refused)
 
-pub asking_given : (now : ℕ) (command : Command) → 1 < now → asking_by now command ≡ given (refs_of command) (nums_of command)
-asking_given now command is = cond-false (now == 0) _ _ (ne_eqb now 0 (λ e. omega (arith, is, e))) ∙ cond-false (now == 1) _ _ (ne_eqb now 1 (λ e. omega (arith, is, e)))
+pub asking_given : (answer : ℕ) (command : Command) → 1 < answer → asking_by answer command ≡ given (refs_of command) (nums_of command)
+asking_given answer command answer_given = cond-false (answer == 0) _ _ (ne_eqb answer 0 (λ equal. omega (arith, answer_given, equal))) ∙ cond-false (answer == 1) _ _ (ne_eqb answer 1 (λ equal. omega (arith, answer_given, equal)))
 
 -- a mutator that looks for its answer has asked so
-pub polling_asked : (world : World) (seat made : ℕ) (other_command command : Command) (fixed : Option Reply) → IsPolling world seat made other_command command fixed
-    → IsAsked world.memory world.block world.graph.count seat (asking_by (world.memory (Answer seat)) other_command)
-polling_asked world seat made other_command command fixed (inl waits) = subst (λ x. IsAsked world.memory world.block world.graph.count seat x) (sym (asking_asks _ other_command waits.0.1.1)) waits.0.1
-polling_asked world seat made other_command command fixed (inr (inl has)) = subst (λ x. IsAsked world.memory world.block world.graph.count seat x) (sym (asking_given _ other_command has.1.1)) has.1
-polling_asked world seat made other_command command fixed (inr (inr is)) = subst (λ x. IsAsked world.memory world.block world.graph.count seat x) (sym (asking_refused _ other_command is.1.1)) is.1
+pub polling_asked : (world : World) (seat made : ℕ) (kept_command command : Command) (fixed : Option Reply) → IsPolling world seat made kept_command command fixed
+    → IsAsked world.memory world.block world.graph.count seat (asking_by (world.memory (Answer seat)) kept_command)
+polling_asked world seat made kept_command command fixed (inl waits) = subst (λ asked_for. IsAsked world.memory world.block world.graph.count seat asked_for) (sym (asking_asks _ kept_command waits.0.1.1)) waits.0.1
+polling_asked world seat made kept_command command fixed (inr (inl was_given)) = subst (λ asked_for. IsAsked world.memory world.block world.graph.count seat asked_for) (sym (asking_given _ kept_command was_given.1.1)) was_given.1
+polling_asked world seat made kept_command command fixed (inr (inr was_refused)) = subst (λ asked_for. IsAsked world.memory world.block world.graph.count seat asked_for) (sym (asking_refused _ kept_command was_refused.1.1)) was_refused.1
 
 -- so has one that has its answer
-pub answered_asked : (world : World) (seat made : ℕ) (other_command command : Command) (fixed : Option Reply) → IsAnswered world seat made other_command command fixed
-    → IsAsked world.memory world.block world.graph.count seat (asking_by (world.memory (Answer seat)) other_command)
-answered_asked world seat made other_command command fixed (inl has) = subst (λ x. IsAsked world.memory world.block world.graph.count seat x) (sym (asking_given _ other_command has.1.1)) has.1
-answered_asked world seat made other_command command fixed (inr is) = subst (λ x. IsAsked world.memory world.block world.graph.count seat x) (sym (asking_refused _ other_command is.1.1)) is.1
+pub answered_asked : (world : World) (seat made : ℕ) (kept_command command : Command) (fixed : Option Reply) → IsAnswered world seat made kept_command command fixed
+    → IsAsked world.memory world.block world.graph.count seat (asking_by (world.memory (Answer seat)) kept_command)
+answered_asked world seat made kept_command command fixed (inl was_given) = subst (λ asked_for. IsAsked world.memory world.block world.graph.count seat asked_for) (sym (asking_given _ kept_command was_given.1.1)) was_given.1
+answered_asked world seat made kept_command command fixed (inr was_refused) = subst (λ asked_for. IsAsked world.memory world.block world.graph.count seat asked_for) (sym (asking_refused _ kept_command was_refused.1.1)) was_refused.1
 
 -- who asked for nothing is answered nothing
-pub nothing_then : (memory : Word → ℕ) (block : Plot) (count : ℕ → ℕ) (t : ℕ) (asking : Asking) → Answers nothing asking → IsAsked memory block count t asking → IsAsked memory block count t nothing
-nothing_then memory block count t nothing answers asked = asked
-nothing_then memory block count t (asks refs nums) answers asked = absurd answers
-nothing_then memory block count t refused answers asked = absurd answers
-nothing_then memory block count t (given refs nums) answers asked = absurd answers
+pub nothing_then : (memory : Word → ℕ) (block : Plot) (count : ℕ → ℕ) (seat : ℕ) (asking : Asking) → Answers nothing asking → IsAsked memory block count seat asking → IsAsked memory block count seat nothing
+nothing_then memory block count seat nothing answers asked = asked
+nothing_then memory block count seat (asks refs nums) answers asked = absurd answers
+nothing_then memory block count seat refused answers asked = absurd answers
+nothing_then memory block count seat (given refs nums) answers asked = absurd answers
 
 -- who was refused stays refused
-pub refused_then : (memory : Word → ℕ) (block : Plot) (count : ℕ → ℕ) (t : ℕ) (asking : Asking) → Answers refused asking → IsAsked memory block count t asking → IsAsked memory block count t refused
-refused_then memory block count t nothing answers asked = absurd answers
-refused_then memory block count t (asks refs nums) answers asked = absurd answers
-refused_then memory block count t refused answers asked = asked
-refused_then memory block count t (given refs nums) answers asked = absurd answers
+pub refused_then : (memory : Word → ℕ) (block : Plot) (count : ℕ → ℕ) (seat : ℕ) (asking : Asking) → Answers refused asking → IsAsked memory block count seat asking → IsAsked memory block count seat refused
+refused_then memory block count seat nothing answers asked = absurd answers
+refused_then memory block count seat (asks refs nums) answers asked = absurd answers
+refused_then memory block count seat refused answers asked = asked
+refused_then memory block count seat (given refs nums) answers asked = absurd answers
 
 -- who was given an object has it still
-pub given_then : (memory : Word → ℕ) (block : Plot) (count : ℕ → ℕ) (t refs nums : ℕ) (asking : Asking) → Answers (given refs nums) asking → IsAsked memory block count t asking → IsAsked memory block count t (given refs nums)
-given_then memory block count t refs nums nothing answers asked = absurd answers
-given_then memory block count t refs nums (asks more_refs more_nums) answers asked = absurd answers
-given_then memory block count t refs nums refused answers asked = absurd answers
-given_then memory block count t refs nums (given more_refs more_nums) answers asked =
-    subst (λ refs. IsAsked memory block count t (given refs nums)) (sym answers.0) (subst (λ nums. IsAsked memory block count t (given more_refs nums)) (sym answers.1) asked)
+pub given_then : (memory : Word → ℕ) (block : Plot) (count : ℕ → ℕ) (seat refs nums : ℕ) (asking : Asking) → Answers (given refs nums) asking → IsAsked memory block count seat asking → IsAsked memory block count seat (given refs nums)
+given_then memory block count seat refs nums nothing answers asked = absurd answers
+given_then memory block count seat refs nums (asks asked_refs asked_nums) answers asked = absurd answers
+given_then memory block count seat refs nums refused answers asked = absurd answers
+given_then memory block count seat refs nums (given asked_refs asked_nums) answers asked =
+    subst (λ refs. IsAsked memory block count seat (given refs nums)) (sym answers.0) (subst (λ nums. IsAsked memory block count seat (given asked_refs nums)) (sym answers.1) asked)
 
 -- who asks is refused or given the object
-pub asks_then : (memory : Word → ℕ) (block : Plot) (count : ℕ → ℕ) (t refs nums : ℕ) (asking : Asking) → Answers (asks refs nums) asking → IsAsked memory block count t asking
-    → (IsAsked memory block count t refused × (asking ≡ refused)) ⊎ IsAsked memory block count t (given refs nums)
-asks_then memory block count t refs nums nothing answers asked = absurd answers
-asks_then memory block count t refs nums (asks more_refs more_nums) answers asked = absurd answers
-asks_then memory block count t refs nums refused answers asked = inl (asked, refl)
-asks_then memory block count t refs nums (given more_refs more_nums) answers asked =
-    inr (subst (λ refs. IsAsked memory block count t (given refs nums)) (sym answers.0) (subst (λ nums. IsAsked memory block count t (given more_refs nums)) (sym answers.1) asked))
+pub asks_then : (memory : Word → ℕ) (block : Plot) (count : ℕ → ℕ) (seat refs nums : ℕ) (asking : Asking) → Answers (asks refs nums) asking → IsAsked memory block count seat asking
+    → (IsAsked memory block count seat refused × (asking ≡ refused)) ⊎ IsAsked memory block count seat (given refs nums)
+asks_then memory block count seat refs nums nothing answers asked = absurd answers
+asks_then memory block count seat refs nums (asks asked_refs asked_nums) answers asked = absurd answers
+asks_then memory block count seat refs nums refused answers asked = inl (asked, refl)
+asks_then memory block count seat refs nums (given asked_refs asked_nums) answers asked =
+    inr (subst (λ refs. IsAsked memory block count seat (given refs nums)) (sym answers.0) (subst (λ nums. IsAsked memory block count seat (given asked_refs nums)) (sym answers.1) asked))
 
 -- what was asked for stands in two memories that have the same requests, answers and objects
 pub asked_same : (memory other_memory : Word → ℕ) (block : Plot) (count : ℕ → ℕ) (mutator : ℕ) (asking : Asking) → other_memory (Wait mutator) ≡ memory (Wait mutator) → other_memory (Answer mutator) ≡ memory (Answer mutator) → ((address : ℕ) → other_memory (Heap address) ≡ memory (Heap address))
@@ -95,10 +95,10 @@ asked_same memory other_memory block count mutator (asks refs nums) wait answer 
 asked_same memory other_memory block count mutator refused wait answer heap asked = (wait ∙ asked.0, answer ∙ asked.1, asked.2)
 asked_same memory other_memory block count mutator (given refs nums) wait answer heap asked = (
   wait ∙ asked.0,
-  subst (λ k. 1 < k) (sym answer) asked.1,
+  subst (λ number. 1 < number) (sym answer) asked.1,
   subst (λ address. IsPromise other_memory block count mutator refs nums address) (sym answer) (record {
     here = asked.2.here;
-    words = λ k below. heap (memory (Answer mutator) + k) ∙ asked.2.words k below;
+    words = λ number offset_below. heap (memory (Answer mutator) + number) ∙ asked.2.words number offset_below;
     only = asked.2.only;
     few_refs = asked.2.few_refs;
     few_nums = asked.2.few_nums;
@@ -107,7 +107,7 @@ asked_same memory other_memory block count mutator (given refs nums) wait answer
 )
 
 shape_words : (refs nums : ℕ) → refs ≤ 16 → nums ≤ 16 → object_words (shape_word refs nums) ≡ 3 + refs + nums
-shape_words refs nums at_most less = omega (arith, at_most, less)
+shape_words refs nums at_most few_nums = omega (arith, at_most, few_nums)
 
 -- the words of a promised object, by the answer and by what was asked for
 pub promised_given : (memory : Word → ℕ) (block : Plot) (count : ℕ → ℕ) (mutator : ℕ) (asking : Asking) → IsAsked memory block count mutator asking → words_promised memory mutator ≡ words_given asking

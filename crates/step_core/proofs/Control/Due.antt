@@ -11,12 +11,12 @@ use Rattle.heap_world.specs.Change.{IsDue}
 -- what is due stays so
 pub due_stays : (config : Config) (world next_world : World) (seat : ℕ) → Rely config seat world next_world → IsDue config world.memory → IsDue config next_world.memory
 due_stays config world next_world seat rely due late quiet =
-    let same = rely.marks.keeps.phase in
+    let same_phase = rely.marks.keeps.phase in
     let asks = rely.asked in
-    rely.fields.claims (due (omega (arith, late, same)) (still (bit_at (world.memory Ask) 1) (bit_at-lt (world.memory Ask) 1) (λ one. (let two = asks one in omega (arith, two, quiet)))))
+    rely.fields.claims (due (omega (arith, late, same_phase)) (still (bit_at (world.memory Ask) 1) (bit_at-lt (world.memory Ask) 1) (λ bit_set. (let two = asks bit_set in omega (arith, two, quiet)))))
   where
     still : (n : ℕ) → n < 2 → (n ≡ 1 → ⊥) → n ≡ 0
-    still n small other = grind (arith, small, other)
+    still n small not_one = grind (arith, small, not_one)
 
 -- A pause is due wherever all regions are claimed,
 pub claimed_due : (config : Config) (memory : Word → ℕ) → config.regions ≤ memory Claim → IsDue config memory

@@ -23,17 +23,17 @@ use Rattle.step_core.proofs.Machines.Owed.{AreRead, AreLoaded}
 
 -- the table after an access
 abbrev pub words_after : Config → List ℕ → Touch → List ℕ
-words_after config words t = slice_set words (table_index (placed config t)) (made_of (placed config t) (slice_index words (table_index (placed config t))))
+words_after config words access = slice_set words (table_index (placed config access)) (made_of (placed config access) (slice_index words (table_index (placed config access))))
 
 -- the word that an access finds, by its name
-pub found-placed : (config : Config) (words : List ℕ) (t : Touch) → is_word config t.word ≡ true → slice_index words (table_index (placed config t)) ≡ view config words t.word
-found-placed config words t is = ap (λ index. slice_index words index) (table_index-access_at (word_at config t.word) t.form) ∙ sym (view_word config words t.word (is_word_true config t.word is))
+pub found-placed : (config : Config) (words : List ℕ) (access : Touch) → is_word config access.word ≡ true → slice_index words (table_index (placed config access)) ≡ view config words access.word
+found-placed config words access real_word = ap (λ index. slice_index words index) (table_index-access_at (word_at config access.word) access.form) ∙ sym (view_word config words access.word (is_word_true config access.word real_word))
 
 -- the table after it, by the names of its words
-pub view-placed : (config : Config) (words : List ℕ) (t : Touch) → is_word config t.word ≡ true → length words ≡ table_words config → view config (words_after config words t) ≡ touched (view config words) t
-view-placed config words t is long =
-    rw (made_of-access_at (word_at config t.word) t.form, found-placed config words t is, table_index-access_at (word_at config t.word) t.form)
-    (view_set_all config words t.word (formed t.form (view config words t.word)) long (is_word_true config t.word is))
+pub view-placed : (config : Config) (words : List ℕ) (access : Touch) → is_word config access.word ≡ true → length words ≡ table_words config → view config (words_after config words access) ≡ touched (view config words) access
+view-placed config words access real_word table_length =
+    rw (made_of-access_at (word_at config access.word) access.form, found-placed config words access real_word, table_index-access_at (word_at config access.word) access.form)
+    (view_set_all config words access.word (formed access.form (view config words access.word)) table_length (is_word_true config access.word real_word))
 
 -- a load leaves the table as it is
 pub words_loaded : (config : Config) (words : List ℕ) (word : Word) → words_after config words (touch word loads) ≡ words
@@ -41,126 +41,126 @@ words_loaded config words word = set-get_or words (word_at config word) 0
 
 -- a word of the image stands where the image begins or behind it, and another one in front
 pub image_at : (config : Config) (word : Word) → is_word config word ≡ true → is_image word ≡ true → image_start config ≤ word_at config word
-image_at config word is image = leb-true _ _ (sym (is_image-word_at config word (is_word_true config word is)) ∙ image)
+image_at config word real_word image = leb-true _ _ (sym (is_image-word_at config word (is_word_true config word real_word)) ∙ image)
 
 pub outside_at : (config : Config) (word : Word) → is_word config word ≡ true → is_image word ≡ false → word_at config word < image_start config
-outside_at config word is image = leb-false _ _ (sym (is_image-word_at config word (is_word_true config word is)) ∙ image)
+outside_at config word real_word image = leb-false _ _ (sym (is_image-word_at config word (is_word_true config word real_word)) ∙ image)
 
 -- what a word of an image reads
 pub image_reads : (config : Config) (image : List ℕ) (word : Word) → is_word config word ≡ true → is_image word ≡ true → image_view config image word ≡ slice_index image (word_at config word - image_start config)
-image_reads config image word is in_image =
-    cond-true (is_word config word) _ _ is
-    ∙ get_or-append_right (replicate (image_start config) 0) image (image_start config) (word_at config word) 0 (length-replicate (image_start config) 0) (image_at config word is in_image)
+image_reads config image word real_word in_image =
+    cond-true (is_word config word) _ _ real_word
+    ∙ get_or-append_right (replicate (image_start config) 0) image (image_start config) (word_at config word) 0 (length-replicate (image_start config) 0) (image_at config word real_word in_image)
 
 -- a word outside the image does not count there
 pub uncounted : (config : Config) (counting : Counting) (word : Word) → is_image word ≡ false → is_counting config counting word ≡ false
-uncounted config counting word outside = ap (λ b. b && counts config counting.extent counting.image (word_at config word - image_start config)) outside
+uncounted config counting word outside = ap (λ in_image. in_image && counts config counting.extent counting.image (word_at config word - image_start config)) outside
 
 -- two memories of names read the same, if they do so at each word
-pub mixed_reads : (config : Config) (words : List ℕ) (counting : Counting) (other : Word → ℕ)
-    → ((word : Word) → is_counting config counting word ≡ true → image_view config counting.image word ≡ other word) → ((word : Word) → is_counting config counting word ≡ false → view config words word ≡ other word) → mixed config words counting ≡ other
-mixed_reads config words counting other counted uncounted = fun_ext (λ word. ⊎_elim
-    (λ (is : is_counting config counting word ≡ true). cond-true (is_counting config counting word) _ _ is ∙ counted word is)
-    (λ (no : is_counting config counting word ≡ false). cond-false (is_counting config counting word) _ _ no ∙ uncounted word no)
+pub mixed_reads : (config : Config) (words : List ℕ) (counting : Counting) (other_memory : Word → ℕ)
+    → ((word : Word) → is_counting config counting word ≡ true → image_view config counting.image word ≡ other_memory word) → ((word : Word) → is_counting config counting word ≡ false → view config words word ≡ other_memory word) → mixed config words counting ≡ other_memory
+mixed_reads config words counting other_memory counted uncounted = fun_ext (λ word. ⊎_elim
+    (λ (counts_word : is_counting config counting word ≡ true). cond-true (is_counting config counting word) _ _ counts_word ∙ counted word counts_word)
+    (λ (not_counting : is_counting config counting word ≡ false). cond-false (is_counting config counting word) _ _ not_counting ∙ uncounted word not_counting)
     (cases_Bool (is_counting config counting word)))
 
 -- a word of the image that counts there is read there
 counted_reads : (config : Config) (counting : Counting) (word : Word) → is_counting config counting word ≡ true → is_word config word ≡ true → image_view config counting.image word ≡ slice_index counting.image (word_at config word - image_start config)
-counted_reads config counting word counted is = image_reads config counting.image word is (and_parts (is_image word) _ counted).0
+counted_reads config counting word counted real_word = image_reads config counting.image word real_word (and_parts (is_image word) _ counted).0
 
 -- once all words of an image that count are those of the table, the table counts
 pub mixed_whole : (config : Config) (words : List ℕ) (counting : Counting) → AreRead config words counting (image_words config) → mixed config words counting ≡ view config words
 mixed_whole config words counting read = mixed_reads config words counting (view config words)
     (λ word counted. ⊎_elim
-    (λ (is : is_word config word ≡ true).
-    let both = and_parts (is_image word) (counts config counting.extent counting.image (word_at config word - image_start config)) counted in
-    let from : image_start config ≤ word_at config word = image_at config word is both.0 in
-    let to : word_at config word < table_words config = word_inside config word (is_word_true config word is) in
-    let back : image_start config + (word_at config word - image_start config) ≡ word_at config word = omega (arith, from) in
-    counted_reads config counting word counted is ∙ read (word_at config word - image_start config) (omega (arith, from, to)) both.1 ∙ ap (λ index. slice_index words index) back ∙ sym (view_word config words word (is_word_true config word is)))
-    (λ (no : is_word config word ≡ false). cond-false (is_word config word) _ _ no ∙ sym (cond-false (is_word config word) _ _ no))
+    (λ (real_word : is_word config word ≡ true).
+    let both_parts = and_parts (is_image word) (counts config counting.extent counting.image (word_at config word - image_start config)) counted in
+    let from : image_start config ≤ word_at config word = image_at config word real_word both_parts.0 in
+    let word_below : word_at config word < table_words config = word_inside config word (is_word_true config word real_word) in
+    let same_index : image_start config + (word_at config word - image_start config) ≡ word_at config word = omega (arith, from) in
+    counted_reads config counting word counted real_word ∙ read (word_at config word - image_start config) (omega (arith, from, word_below)) both_parts.1 ∙ ap (λ index. slice_index words index) same_index ∙ sym (view_word config words word (is_word_true config word real_word)))
+    (λ (not_real : is_word config word ≡ false). cond-false (is_word config word) _ _ not_real ∙ sym (cond-false (is_word config word) _ _ not_real))
     (cases_Bool (is_word config word)))
     (λ w uncounted. refl)
 
 -- a store into the table of a word of the image that counts changes nothing that counts
-pub mixed_stored : (config : Config) (words : List ℕ) (counting : Counting) (at value : ℕ) → image_start config ≤ at → counts config counting.extent counting.image (at - image_start config) ≡ true
-    → mixed config (slice_set words at value) counting ≡ mixed config words counting
-mixed_stored config words counting at value at_most here = mixed_reads config (slice_set words at value) counting (mixed config words counting)
-    (λ w counted. sym (cond-true (is_counting config counting w) _ _ counted))
-    (λ word no. ⊎_elim
-    (λ (is : is_word config word ≡ true).
-    let differs : word_at config word ≡ at → ⊥ =
-    (λ e. true≢false (sym (and_from (is_image word) _ (is_image-word_at config word (is_word_true config word is) ∙ le-leb _ _ (omega (arith, e, at_most))) (ap (λ k. counts config counting.extent counting.image (k - image_start config)) e ∙ here)) ∙ no)) in
-    view_word config (slice_set words at value) word (is_word_true config word is)
-    ∙ get_or-set_other words at (word_at config word) value 0 differs
-    ∙ sym (view_word config words word (is_word_true config word is))
-    ∙ sym (cond-false (is_counting config counting word) _ _ no))
-    (λ (none : is_word config word ≡ false). cond-false (is_word config word) _ _ none ∙ sym (cond-false (is_word config word) _ _ none) ∙ sym (cond-false (is_counting config counting word) _ _ no))
+pub mixed_stored : (config : Config) (words : List ℕ) (counting : Counting) (table_place value : ℕ) → image_start config ≤ table_place → counts config counting.extent counting.image (table_place - image_start config) ≡ true
+    → mixed config (slice_set words table_place value) counting ≡ mixed config words counting
+mixed_stored config words counting table_place value at_most counts_here = mixed_reads config (slice_set words table_place value) counting (mixed config words counting)
+    (λ counted_word counted. sym (cond-true (is_counting config counting counted_word) _ _ counted))
+    (λ word not_counting. ⊎_elim
+    (λ (real_word : is_word config word ≡ true).
+    let places_differ : word_at config word ≡ table_place → ⊥ =
+    (λ same_place. true≢false (sym (and_from (is_image word) _ (is_image-word_at config word (is_word_true config word real_word) ∙ le-leb _ _ (omega (arith, same_place, at_most))) (ap (λ place. counts config counting.extent counting.image (place - image_start config)) same_place ∙ counts_here)) ∙ not_counting)) in
+    view_word config (slice_set words table_place value) word (is_word_true config word real_word)
+    ∙ get_or-set_other words table_place (word_at config word) value 0 places_differ
+    ∙ sym (view_word config words word (is_word_true config word real_word))
+    ∙ sym (cond-false (is_counting config counting word) _ _ not_counting))
+    (λ (not_real : is_word config word ≡ false). cond-false (is_word config word) _ _ not_real ∙ sym (cond-false (is_word config word) _ _ not_real) ∙ sym (cond-false (is_counting config counting word) _ _ not_counting))
     (cases_Bool (is_word config word)))
 
 -- an access of a word outside the image changes that word alone, of those that count too
-mixed_touched : (config : Config) (words : List ℕ) (counting : Counting) (t : Touch) → is_word config t.word ≡ true → is_image t.word ≡ false → length words ≡ table_words config
-    → mixed config (words_after config words t) counting ≡ touched (mixed config words counting) t
-mixed_touched config words counting t is outside long = mixed_reads config (words_after config words t) counting (touched (mixed config words counting) t)
-    (λ w counted.
-    let in_image : is_image w ≡ true = (and_parts (is_image w) _ counted).0 in
-    let differs : same_word t.word w ≡ false = ⊎_elim
-    (λ (same : same_word t.word w ≡ true). absurd (false≢true (sym outside ∙ ap is_image (same_word_true t.word w same) ∙ in_image)))
-    (λ (no : same_word t.word w ≡ false). no)
-    (cases_Bool (same_word t.word w)) in
-    sym (cond-false (same_word t.word w) _ _ differs ∙ cond-true (is_counting config counting w) _ _ counted))
-    (λ w no.
-    let here : mixed config words counting t.word ≡ view config words t.word = cond-false (is_counting config counting t.word) _ _ (uncounted config counting t.word outside) in
-    let there : mixed config words counting w ≡ view config words w = cond-false (is_counting config counting w) _ _ no in
-    ap (λ m. m w) (view-placed config words t is long)
-    ∙ ap (λ k. if same_word t.word w then formed t.form k else view config words w) (sym here)
-    ∙ ap (λ k. if same_word t.word w then formed t.form (mixed config words counting t.word) else k) (sym there))
+mixed_touched : (config : Config) (words : List ℕ) (counting : Counting) (access : Touch) → is_word config access.word ≡ true → is_image access.word ≡ false → length words ≡ table_words config
+    → mixed config (words_after config words access) counting ≡ touched (mixed config words counting) access
+mixed_touched config words counting access real_word outside table_length = mixed_reads config (words_after config words access) counting (touched (mixed config words counting) access)
+    (λ asked_word counted.
+    let in_image : is_image asked_word ≡ true = (and_parts (is_image asked_word) _ counted).0 in
+    let words_differ : same_word access.word asked_word ≡ false = ⊎_elim
+    (λ (word_same : same_word access.word asked_word ≡ true). absurd (false≢true (sym outside ∙ ap is_image (same_word_true access.word asked_word word_same) ∙ in_image)))
+    (λ (no : same_word access.word asked_word ≡ false). no)
+    (cases_Bool (same_word access.word asked_word)) in
+    sym (cond-false (same_word access.word asked_word) _ _ words_differ ∙ cond-true (is_counting config counting asked_word) _ _ counted))
+    (λ asked_word no.
+    let access_reads : mixed config words counting access.word ≡ view config words access.word = cond-false (is_counting config counting access.word) _ _ (uncounted config counting access.word outside) in
+    let other_reads : mixed config words counting asked_word ≡ view config words asked_word = cond-false (is_counting config counting asked_word) _ _ no in
+    ap (λ viewed. viewed asked_word) (view-placed config words access real_word table_length)
+    ∙ ap (λ raw_value. if same_word access.word asked_word then formed access.form raw_value else view config words asked_word) (sym access_reads)
+    ∙ ap (λ raw_value. if same_word access.word asked_word then formed access.form (mixed config words counting access.word) else raw_value) (sym other_reads))
 
 -- the words that count after an access that is not of the image while an image counts
-pub settled_touched : (config : Config) (words : List ℕ) (t : Touch) (found : Option Counting) → is_word config t.word ≡ true → length words ≡ table_words config
-    → ((image : Counting) → found ≡ Some image → is_image t.word ≡ false) → settled_by config (words_after config words t) found ≡ touched (settled_by config words found) t
-settled_touched config words t None is long outside = view-placed config words t is long
-settled_touched config words t (Some counting) is long outside = mixed_touched config words counting t is (outside counting refl) long
+pub settled_touched : (config : Config) (words : List ℕ) (access : Touch) (found : Option Counting) → is_word config access.word ≡ true → length words ≡ table_words config
+    → ((image : Counting) → found ≡ Some image → is_image access.word ≡ false) → settled_by config (words_after config words access) found ≡ touched (settled_by config words found) access
+settled_touched config words access None real_word table_length outside = view-placed config words access real_word table_length
+settled_touched config words access (Some counting) real_word table_length outside = mixed_touched config words counting access real_word (outside counting refl) table_length
 
 -- and the word that it finds
-pub settled_found : (config : Config) (words : List ℕ) (t : Touch) (found : Option Counting) → is_word config t.word ≡ true
-    → ((image : Counting) → found ≡ Some image → is_image t.word ≡ false) → slice_index words (table_index (placed config t)) ≡ settled_by config words found t.word
-settled_found config words t None is outside = found-placed config words t is
-settled_found config words t (Some counting) is outside = found-placed config words t is ∙ sym (cond-false (is_counting config counting t.word) _ _ (uncounted config counting t.word (outside counting refl)))
+pub settled_found : (config : Config) (words : List ℕ) (access : Touch) (found : Option Counting) → is_word config access.word ≡ true
+    → ((image : Counting) → found ≡ Some image → is_image access.word ≡ false) → slice_index words (table_index (placed config access)) ≡ settled_by config words found access.word
+settled_found config words access None real_word outside = found-placed config words access real_word
+settled_found config words access (Some counting) real_word outside = found-placed config words access real_word ∙ sym (cond-false (is_counting config counting access.word) _ _ (uncounted config counting access.word (outside counting refl)))
 
 -- it leaves the words of the image in the table as they were
-pub image_kept : (config : Config) (words : List ℕ) (t : Touch) (i : ℕ) → is_word config t.word ≡ true → is_image t.word ≡ false
-    → slice_index (words_after config words t) (image_start config + i) ≡ slice_index words (image_start config + i)
-image_kept config words t i is outside =
-    let below : word_at config t.word < image_start config = outside_at config t.word is outside in
-    let at : table_index (placed config t) ≡ word_at config t.word = table_index-access_at (word_at config t.word) t.form in
-    get_or-set_other words (table_index (placed config t)) (image_start config + i) _ 0 (λ e. omega (arith, below, at, e))
+pub image_kept : (config : Config) (words : List ℕ) (access : Touch) (index : ℕ) → is_word config access.word ≡ true → is_image access.word ≡ false
+    → slice_index (words_after config words access) (image_start config + index) ≡ slice_index words (image_start config + index)
+image_kept config words access index real_word outside =
+    let outside_image : word_at config access.word < image_start config = outside_at config access.word real_word outside in
+    let place_is : table_index (placed config access) ≡ word_at config access.word = table_index-access_at (word_at config access.word) access.form in
+    get_or-set_other words (table_index (placed config access)) (image_start config + index) _ 0 (λ same_place. omega (arith, outside_image, place_is, same_place))
 
 -- one word more is loaded, which is of the extent
 pub image_grows : (config : Config) (words : List ℕ) (extent : Extent) (image : List ℕ) (index : ℕ) → length image ≡ index → AreLoaded config words extent image index → is_of_extent config extent index ≡ true
     → AreLoaded config words extent (image ++ slice_index words (image_start config + index) ∷ []) (index + 1)
-image_grows config words extent image index long loaded here i below = ⊎_elim
-    (λ (same : i ≡ index).
-    let at : i ≡ length image = same ∙ sym long in
-    ap (λ k. slice_index (image ++ slice_index words (image_start config + index) ∷ []) k) at
-    ∙ get_or-append_seam image (slice_index words (image_start config + index)) [] 0 ∙ ap (λ k. slice_index words (image_start config + k)) (sym same)
-    ∙ sym (cond-true (is_of_extent config extent i) _ _ (ap (is_of_extent config extent) same ∙ here)))
-    (λ (other : i ≡ index → ⊥).
-    get_or_append_left image (slice_index words (image_start config + index) ∷ []) 0 i (omega (arith, below, other, long)) ∙ loaded i (omega (arith, below, other)))
-    (cases_eq i index)
+image_grows config words extent image index image_length loaded in_extent read_index below_next = ⊎_elim
+    (λ (same_index : read_index ≡ index).
+    let at_end : read_index ≡ length image = same_index ∙ sym image_length in
+    ap (λ any_index. slice_index (image ++ slice_index words (image_start config + index) ∷ []) any_index) at_end
+    ∙ get_or-append_seam image (slice_index words (image_start config + index)) [] 0 ∙ ap (λ any_index. slice_index words (image_start config + any_index)) (sym same_index)
+    ∙ sym (cond-true (is_of_extent config extent read_index) _ _ (ap (is_of_extent config extent) same_index ∙ in_extent)))
+    (λ (index_differs : read_index ≡ index → ⊥).
+    get_or_append_left image (slice_index words (image_start config + index) ∷ []) 0 read_index (omega (arith, below_next, index_differs, image_length)) ∙ loaded read_index (omega (arith, below_next, index_differs)))
+    (cases_eq read_index index)
 
 -- as far as the first words go, so it is of each extent
-pub loaded_early : (config : Config) (words : List ℕ) (one other : Extent) (image : List ℕ) (bound : ℕ) → bound ≤ 7 → AreLoaded config words one image bound → AreLoaded config words other image bound
-loaded_early config words one other image bound at_most loaded i below =
-    loaded i below ∙ cond-true (is_of_extent config one i) _ _ (early config one i (omega (arith, below, at_most))) ∙ sym (cond-true (is_of_extent config other i) _ _ (early config other i (omega (arith, below, at_most))))
+pub loaded_early : (config : Config) (words : List ℕ) (extent other_extent : Extent) (image : List ℕ) (bound : ℕ) → bound ≤ 7 → AreLoaded config words extent image bound → AreLoaded config words other_extent image bound
+loaded_early config words extent other_extent image bound at_most loaded index index_below =
+    loaded index index_below ∙ cond-true (is_of_extent config extent index) _ _ (early config extent index (omega (arith, index_below, at_most))) ∙ sym (cond-true (is_of_extent config other_extent index) _ _ (early config other_extent index (omega (arith, index_below, at_most))))
 
 -- and words are left out that are not of the extent
-pub loaded_padded : (config : Config) (words : List ℕ) (extent : Extent) (image : List ℕ) (from to : ℕ) → length image ≡ from → AreLoaded config words extent image from
-    → ((i : ℕ) → from ≤ i → i < to → is_of_extent config extent i ≡ false) → AreLoaded config words extent (padded to image) to
-loaded_padded config words extent image from to long loaded left_out i below = padded_reads to image i ∙ ⊎_elim
-    (λ (less : i < from). loaded i less)
-    (λ (more : from ≤ i). get_or_past image i 0 (omega (arith, more, long)) ∙ sym (cond-false (is_of_extent config extent i) _ _ (left_out i more below)))
-    (cases_lt i from)
+pub loaded_padded : (config : Config) (words : List ℕ) (extent : Extent) (image : List ℕ) (from padded_length : ℕ) → length image ≡ from → AreLoaded config words extent image from
+    → ((index : ℕ) → from ≤ index → index < padded_length → is_of_extent config extent index ≡ false) → AreLoaded config words extent (padded padded_length image) padded_length
+loaded_padded config words extent image from padded_length image_length loaded left_out index index_below = padded_reads padded_length image index ∙ ⊎_elim
+    (λ (index_before : index < from). loaded index index_before)
+    (λ (index_behind : from ≤ index). get_or_past image index 0 (omega (arith, index_behind, image_length)) ∙ sym (cond-false (is_of_extent config extent index) _ _ (left_out index index_behind index_below)))
+    (cases_lt index from)
 
 -- The image as the table has it.
 abbrev pub image_in : Config → List ℕ → List ℕ
@@ -170,7 +170,7 @@ pub image_in_reads : (config : Config) (words : List ℕ) (index : ℕ) → slic
 image_in_reads config words index = get_or-drop (image_start config) words index 0
 
 pub image_in_long : (config : Config) (words : List ℕ) → length words ≡ table_words config → length (image_in config words) ≡ image_words config
-image_in_long config words long = omega (arith, length-drop (image_start config) words, long)
+image_in_long config words table_length = omega (arith, length-drop (image_start config) words, table_length)
 
 -- an image of which all counts
 abbrev pub all_of : List ℕ → Counting
@@ -182,40 +182,40 @@ module _ (config : Config) (words : List ℕ) (extent : Extent) (made part_made 
   n = record { extent = extent; image = part_made }
 
   inside : (word : Word) → is_word config word ≡ true → is_image word ≡ true → word_at config word - image_start config < image_words config
-  inside word is image =
-      let from : image_start config ≤ word_at config word = image_at config word is image in
-      let to : word_at config word < table_words config = word_inside config word (is_word_true config word is) in
-      omega (arith, from, to)
+  inside word real_word image =
+      let from : image_start config ≤ word_at config word = image_at config word real_word image in
+      let word_below : word_at config word < table_words config = word_inside config word (is_word_true config word real_word) in
+      omega (arith, from, word_below)
 
   -- what all of it reads
   all_reads : (word : Word) → is_word config word ≡ true → is_image word ≡ true → mixed config words (all_of made) word ≡ slice_index made (word_at config word - image_start config)
-  all_reads word is image = cond-true (is_counting config (all_of made) word) _ _ (and_from (is_image word) _ image refl) ∙ image_reads config made word is image
+  all_reads word real_word image = cond-true (is_counting config (all_of made) word) _ _ (and_from (is_image word) _ image refl) ∙ image_reads config made word real_word image
 
   in_part : (word : Word) → is_counting config n word ≡ true → image_view config part_made word ≡ mixed config words (all_of made) word
   in_part word counted = ⊎_elim
-      (λ (is : is_word config word ≡ true).
-      let both = and_parts (is_image word) (counts config extent part_made (word_at config word - image_start config)) counted in
-      image_reads config part_made word is both.0
-      ∙ sym (is_made (word_at config word - image_start config) (inside word is both.0) ∙ cond-true (counts config extent part_made (word_at config word - image_start config)) _ _ both.1)
-      ∙ sym (all_reads word is both.0))
-      (λ (no : is_word config word ≡ false).
-      cond-false (is_word config word) _ _ no
-      ∙ sym (cond-true (is_counting config (all_of made) word) _ _ (and_from (is_image word) _ (and_parts (is_image word) _ counted).0 refl) ∙ cond-false (is_word config word) _ _ no))
+      (λ (real_word : is_word config word ≡ true).
+      let both_parts = and_parts (is_image word) (counts config extent part_made (word_at config word - image_start config)) counted in
+      image_reads config part_made word real_word both_parts.0
+      ∙ sym (is_made (word_at config word - image_start config) (inside word real_word both_parts.0) ∙ cond-true (counts config extent part_made (word_at config word - image_start config)) _ _ both_parts.1)
+      ∙ sym (all_reads word real_word both_parts.0))
+      (λ (not_real : is_word config word ≡ false).
+      cond-false (is_word config word) _ _ not_real
+      ∙ sym (cond-true (is_counting config (all_of made) word) _ _ (and_from (is_image word) _ (and_parts (is_image word) _ counted).0 refl) ∙ cond-false (is_word config word) _ _ not_real))
       (cases_Bool (is_word config word))
 
   in_table : (word : Word) → is_counting config n word ≡ false → view config words word ≡ mixed config words (all_of made) word
-  in_table word none = ⊎_elim
+  in_table word not_counting = ⊎_elim
       (λ (image : is_image word ≡ true). ⊎_elim
-      (λ (is : is_word config word ≡ true).
-      let stays : counts config extent part_made (word_at config word - image_start config) ≡ false = ap (λ b. b && counts config extent part_made (word_at config word - image_start config)) (sym image) ∙ none in
-      let from : image_start config ≤ word_at config word = image_at config word is image in
-      view_word config words word (is_word_true config word is)
+      (λ (real_word : is_word config word ≡ true).
+      let word_stays : counts config extent part_made (word_at config word - image_start config) ≡ false = ap (λ in_image. in_image && counts config extent part_made (word_at config word - image_start config)) (sym image) ∙ not_counting in
+      let from : image_start config ≤ word_at config word = image_at config word real_word image in
+      view_word config words word (is_word_true config word real_word)
       ∙ ap (λ index. slice_index words index) (omega (arith, from))
       ∙ sym (image_in_reads config words (word_at config word - image_start config))
-      ∙ sym (is_made (word_at config word - image_start config) (inside word is image) ∙ cond-false (counts config extent part_made (word_at config word - image_start config)) _ _ stays)
-      ∙ sym (all_reads word is image))
-      (λ (other : is_word config word ≡ false).
-      cond-false (is_word config word) _ _ other ∙ sym (cond-true (is_counting config (all_of made) word) _ _ (and_from (is_image word) _ image refl) ∙ cond-false (is_word config word) _ _ other))
+      ∙ sym (is_made (word_at config word - image_start config) (inside word real_word image) ∙ cond-false (counts config extent part_made (word_at config word - image_start config)) _ _ word_stays)
+      ∙ sym (all_reads word real_word image))
+      (λ (not_real : is_word config word ≡ false).
+      cond-false (is_word config word) _ _ not_real ∙ sym (cond-true (is_counting config (all_of made) word) _ _ (and_from (is_image word) _ image refl) ∙ cond-false (is_word config word) _ _ not_real))
       (cases_Bool (is_word config word)))
       (λ (outside : is_image word ≡ false). sym (cond-false (is_counting config (all_of made) word) _ _ (uncounted config (all_of made) word outside)))
       (cases_Bool (is_image word))

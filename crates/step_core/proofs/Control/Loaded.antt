@@ -21,22 +21,22 @@ pub read_owes : (config : Config) (words : List ℕ) (block : Plot) (ghost : Gho
     → Shared config (open_world config words block ghost graph) → PromisedToMutators config block → IsControl config words (open_world config words block ghost graph) (control_number config) next → stored_image next.spot next.image ≡ None
     → Owes config words words (open_world config words block ghost graph) past (control_number config) machines (settled_by config words (stored_image next.spot next.image)) []
     (record { machine = controlling next; command = command; calls = calls ++ [] })
-read_owes config words block ghost graph past machines command calls next shared promised_to stands none = record {
+read_owes config words block ghost graph past machines command calls next shared promised_to control_stands no_image = record {
   world = open_world config words block ghost graph;
-  memory_is = ap (settled_by config words) (sym none);
+  memory_is = ap (settled_by config words) (sym no_image);
   graph_is = refl;
   legal = tt;
   entries = All-nil (IsSettled config.mutators);
   shared = shared;
   promised_to = promised_to;
-  own = stands;
-  others = λ k b differs there known.
-      machine_stays config words words (open_world config words block ghost graph) (open_world config words block ghost graph) (of_thread past (k + 1)) (of_thread (past ++ []) (k + 1)) k b b.machine shared
+  own = control_stands;
+  others = λ other_number other_actor differs found_there known_machine.
+      machine_stays config words words (open_world config words block ghost graph) (open_world config words block ghost graph) (of_thread past (other_number + 1)) (of_thread (past ++ []) (other_number + 1)) other_number other_actor other_actor.machine shared
       (record {
-        rely = rely_same config k (open_world config words block ghost graph);
+        rely = rely_same config other_number (open_world config words block ghost graph);
         answer = refl;
         counts = inl refl;
-        aims = λ control same. absurd (no_other_control config words (open_world config words block ghost graph) (of_thread past (k + 1)) k b b.machine differs known control same);
+        aims = λ control is_control. absurd (no_other_control config words (open_world config words block ghost graph) (of_thread past (other_number + 1)) other_number other_actor other_actor.machine differs known_machine control is_control);
       })
-      (ap (λ es. of_thread es (k + 1)) (append-nil past)) known;
+      (ap (λ entries. of_thread entries (other_number + 1)) (append-nil past)) known_machine;
 }

@@ -33,8 +33,8 @@ use Rattle.heap_words.specs.Ranges.{seat_count}
 
 -- a choice of two spots at which it stands so
 either : (f : Standing → Bool) (holds : Bool) (spot other_spot : ControlSpot) → f (control_standing spot) ≡ true → f (control_standing other_spot) ≡ true → f (control_standing (if holds then spot else other_spot)) ≡ true
-either f true spot other_spot is_x is_y = is_x
-either f false spot other_spot is_x is_y = is_y
+either f true spot other_spot first_met second_met = first_met
+either f false spot other_spot first_met second_met = second_met
 
 stopping_standing : (config : Config) (phase : ℕ) (spot : StopSpot) → control_standing (stopping config phase spot) ≡ stop_standing spot
 stopping_standing config phase stop.Raise = refl
@@ -53,40 +53,40 @@ unit_free _ = refl
 
 -- the access of a unit is of a word of the image
 pub unit_above : (config : Config) (seat : ℕ) (spot : UnitSpot) → seat < seat_count config.mutators config.helpers → unit.is_ready config seat spot ≡ true → image_start config ≤ table_index (placed config (units.touch_at config seat spot))
-unit_above config seat spot seated ready = placed_above config (units.touch_at config seat spot) (unit_inside config seat spot seated ready) (unit_image config seat spot)
+unit_above config seat spot seated spot_ready = placed_above config (units.touch_at config seat spot) (unit_inside config seat spot seated spot_ready) (unit_image config seat spot)
 
 pub control_obeys : (config : Config) (seat phase cset seen next value : ℕ) (spot : ControlSpot) → is_ready config spot ≡ true
     → Obeys config seat (control_standing spot) (access_with config spot value) (λ got. control_standing (next_spot config phase cset seen next spot got))
-control_obeys config seat phase cset seen next value LookLeft ready = record { elsewhere = placed_elsewhere config (touch Left loads) tt refl; goes_on = λ got. either is_free (nat_eq got 0) StoreEnd LookAsked refl refl }
-control_obeys config seat phase cset seen next value StoreEnd ready = record { elsewhere = placed_elsewhere config (touch End (stores 1)) tt refl; goes_on = λ got. refl }
-control_obeys config seat phase cset seen next value LookAsked ready = record {
+control_obeys config seat phase cset seen next value LookLeft spot_ready = record { elsewhere = placed_elsewhere config (touch Left loads) tt refl; goes_on = λ got. either is_free (nat_eq got 0) StoreEnd LookAsked refl refl }
+control_obeys config seat phase cset seen next value StoreEnd spot_ready = record { elsewhere = placed_elsewhere config (touch End (stores 1)) tt refl; goes_on = λ got. refl }
+control_obeys config seat phase cset seen next value LookAsked spot_ready = record {
   elsewhere = placed_elsewhere config (touch Ask loads) tt refl;
   goes_on = λ got. either is_free (begins_pause phase got) (Stopping stop.Raise) (unasked phase cset) refl (either is_free (nat_eq phase 0) LookFree (Working (units.begins phase cset)) refl refl);
 }
-control_obeys config seat phase cset seen next value LookFree ready = record { elsewhere = placed_elsewhere config (touch Free loads) tt refl; goes_on = λ got. either is_free (wants_pause config seen got) (Stopping stop.Raise) LookLeft refl refl }
-control_obeys config seat phase cset seen next value (Working spot) ready = record {
-  elsewhere = image_elsewhere config (placed config (units.touch_at config (control_seat config) spot)) (unit_above config (control_seat config) spot (omega arith) (and_parts _ _ ready).0);
+control_obeys config seat phase cset seen next value LookFree spot_ready = record { elsewhere = placed_elsewhere config (touch Free loads) tt refl; goes_on = λ got. either is_free (wants_pause config seen got) (Stopping stop.Raise) LookLeft refl refl }
+control_obeys config seat phase cset seen next value (Working spot) spot_ready = record {
+  elsewhere = image_elsewhere config (placed config (units.touch_at config (control_seat config) spot)) (unit_above config (control_seat config) spot (omega arith) (and_parts _ _ spot_ready).0);
   goes_on = λ got. unit_free (units.next_at config spot got);
 }
-control_obeys config seat phase cset seen next value (Stopping spot) ready =
+control_obeys config seat phase cset seen next value (Stopping spot) spot_ready =
     obeys_same config seat (stop_standing spot) _ (λ got. stop_standing (stop_next config spot got)) _ (λ got. stopping_standing config phase (stop_next config spot got))
-    (stop_obeys config seat spot (false_from_flip (is_stopped spot) (and_parts (touch_fits config (stop_touch spot)) (if is_stopped spot then false else true) ready).1))
-control_obeys config seat phase cset seen next value (LoadWord index extent) ready = record { elsewhere = image_elsewhere config _ (omega arith); goes_on = λ got. loads_on config (extent_after phase index extent got) index }
-control_obeys config seat phase cset seen next value (StoreWord index extent) ready = record { elsewhere = image_elsewhere config _ (omega arith); goes_on = λ got. either is_pausing (nat_lt next (image_words config)) (StoreWord next extent) Go refl refl }
-control_obeys config seat phase cset seen next value Go ready = go_obeys config seat
-control_obeys config seat phase cset seen next value Gone ready = record { elsewhere = placed_elsewhere config (touch Left loads) tt refl; goes_on = λ got. refl }
+    (stop_obeys config seat spot (false_from_flip (is_stopped spot) (and_parts (touch_fits config (stop_touch spot)) (if is_stopped spot then false else true) spot_ready).1))
+control_obeys config seat phase cset seen next value (LoadWord index extent) spot_ready = record { elsewhere = image_elsewhere config _ (omega arith); goes_on = λ got. loads_on config (extent_after phase index extent got) index }
+control_obeys config seat phase cset seen next value (StoreWord index extent) spot_ready = record { elsewhere = image_elsewhere config _ (omega arith); goes_on = λ got. either is_pausing (nat_lt next (image_words config)) (StoreWord next extent) Go refl refl }
+control_obeys config seat phase cset seen next value Go spot_ready = go_obeys config seat
+control_obeys config seat phase cset seen next value Gone spot_ready = record { elsewhere = placed_elsewhere config (touch Left loads) tt refl; goes_on = λ got. refl }
 
 -- its steps leave the count of the mutators as it is
 stop_counts : (config : Config) (value : ℕ) (spot : StopSpot) → Counts config false (access_with config (Stopping spot) value) (λ got. false)
-stop_counts config value stop.Raise = inr (record { not_written = inr (λ e. omega (arith, e)); same = λ got. refl })
+stop_counts config value stop.Raise = inr (record { not_written = inr (λ same_place. omega (arith, same_place)); same = λ got. refl })
 stop_counts config value (stop.Check seat) = inr (record { not_written = inl refl; same = λ got. refl })
 stop_counts config value stop.Stopped = inr (record { not_written = inl refl; same = λ got. refl })
 
 pub control_counts : (config : Config) (value : ℕ) (spot : ControlSpot) → is_ready config spot ≡ true → Counts config false (access_with config spot value) (λ got. false)
-control_counts config value StoreEnd ready = inr (record { not_written = inr (λ e. omega (arith, e)); same = λ got. refl })
-control_counts config value (Working spot) ready =
-    inr (record { not_written = inr (image_not_left config (placed config (units.touch_at config (control_seat config) spot)) (unit_above config (control_seat config) spot (omega arith) (and_parts _ _ ready).0)); same = λ got. refl })
-control_counts config value (Stopping spot) ready = stop_counts config value spot
-control_counts config value (StoreWord index extent) ready = inr (record { not_written = inr (image_not_left config (access_with config (StoreWord index extent) value) (omega arith)); same = λ got. refl })
-control_counts config value Go ready = inr (record { not_written = inr (λ e. omega (arith, e)); same = λ got. refl })
-control_counts config value _ ready = inr (record { not_written = inl refl; same = λ got. refl })
+control_counts config value StoreEnd spot_ready = inr (record { not_written = inr (λ same_place. omega (arith, same_place)); same = λ got. refl })
+control_counts config value (Working spot) spot_ready =
+    inr (record { not_written = inr (image_not_left config (placed config (units.touch_at config (control_seat config) spot)) (unit_above config (control_seat config) spot (omega arith) (and_parts _ _ spot_ready).0)); same = λ got. refl })
+control_counts config value (Stopping spot) spot_ready = stop_counts config value spot
+control_counts config value (StoreWord index extent) spot_ready = inr (record { not_written = inr (image_not_left config (access_with config (StoreWord index extent) value) (omega arith)); same = λ got. refl })
+control_counts config value Go spot_ready = inr (record { not_written = inr (λ same_place. omega (arith, same_place)); same = λ got. refl })
+control_counts config value _ spot_ready = inr (record { not_written = inl refl; same = λ got. refl })

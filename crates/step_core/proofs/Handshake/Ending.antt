@@ -25,15 +25,15 @@ use Rattle.step_core.proofs.Theorem.Beginning.{goes_begins}
 event_keeps_end : (change : Change) (config : Config) (stage : Stage Actor) (event : Event Order) → ((actor : Actor) → slice_get stage.machines event.number ≡ Some actor → CanGo config actor.machine)
     → EventKeepsEnd config (kind change config) has_ended stage event
 unfolding kind
-event_keeps_end change config stage event can actor is = machine_keeps_end change config event.order actor.machine is.takes (can actor is.here)
+event_keeps_end change config stage event may_go actor is = machine_keeps_end change config event.order actor.machine is.takes (may_go actor is.here)
 
 -- and each event of a run
 each_keeps_end : (change : Change) → PausesByParts change → (config : Config) (graph : Graph) (stage : Stage Actor) (past : List Entry) (events : List (Event Order)) → Goes config graph stage past
     → EachKeepsEnd config (kind change config) has_ended stage events
-each_keeps_end change law config graph stage past [] goes = tt
-each_keeps_end change law config graph stage past (event ∷ events) goes = (
-  event_keeps_end change config stage event (λ actor is. can_go config stage.words _ _ event.number actor actor.machine (goes.follows.machines event.number actor is)),
-  each_keeps_end change law config graph (act (kind change config) stage event) (past ++ told config stage event) events (goes_event change law config graph stage past event goes),
+each_keeps_end change law config graph stage past [] stage_goes = tt
+each_keeps_end change law config graph stage past (event ∷ events) stage_goes = (
+  event_keeps_end change config stage event (λ actor actor_there. can_go config stage.words _ _ event.number actor actor.machine (stage_goes.follows.machines event.number actor actor_there)),
+  each_keeps_end change law config graph (act (kind change config) stage event) (past ++ told config stage event) events (goes_event change law config graph stage past event stage_goes),
 )
 
 -- who is idle has not ended
@@ -48,7 +48,7 @@ run_ends change law config stage graph begins zero events =
     known_run config (kind change config) has_ended stage events
     (record {
       words = begins.words;
-      one = λ number a there has. absurd (true≢false (sym has ∙ idle_goes (view config stage.words Phase) (view config stage.words Cset) graph number a.machine (begins.machines number a there).idle));
-      none = λ no. zero;
+      one = λ number actor actor_there actor_ended. absurd (true≢false (sym actor_ended ∙ idle_goes (view config stage.words Phase) (view config stage.words Cset) graph number actor.machine (begins.machines number actor actor_there).idle));
+      none = λ none_ended. zero;
     })
     (each_keeps_end change law config graph stage [] events (goes_begins config stage graph begins))

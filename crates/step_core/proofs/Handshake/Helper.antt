@@ -45,33 +45,33 @@ module _ (config : Config) (seat : ℕ) (seated : seat < config.mutators + confi
 
   -- the access of a unit is of a word of the image
   above : (spot : UnitSpot) → spot_fits config seat (Working spot) ≡ true → image_start config ≤ table_index (placed config (units.touch_at config seat spot))
-  above spot fits = unit_above config seat spot (omega (arith, seated)) (and_parts _ _ fits).0
+  above spot spot_is_fit = unit_above config seat spot (omega (arith, seated)) (and_parts _ _ spot_is_fit).0
 
   -- a helper that has not ended obeys
   pub help_obeys : (spot : HelpSpot) → spot_fits config seat spot ≡ true → is_gone spot ≡ false → Obeys config seat (help_standing spot) (placed config (touch_at config seat spot)) (λ got. help_standing (next_spot config spot got))
-  help_obeys LoadEnd fits going = inr (record { harmless = inl refl; next_is = λ got. outside_both (nat_eq got 1) })
-  help_obeys (Entering spot) fits going =
-      obeys_same config seat (enter_standing spot) _ (λ got. enter_standing (enter_next spot got)) _ (λ got. enter_same (enter_next spot got)) (enter_obeys config seat spot (false_from_flip (is_entered spot) fits))
-  help_obeys LoadPhase fits going = record { elsewhere = placed_elsewhere config (touch Phase loads) tt refl; goes_on = λ got. within_both (nat_eq got 0) got }
-  help_obeys (LoadSet phase) fits going = record { elsewhere = placed_elsewhere config (touch Cset loads) tt refl; goes_on = λ got. refl }
-  help_obeys (Working spot) fits going = record { elsewhere = image_elsewhere config (placed config (units.touch_at config seat spot)) (above spot fits); goes_on = λ got. unit_within (units.next_at config spot got) }
-  help_obeys Leave fits going = leave_obeys config seat
-  help_obeys Gone fits going = absurd (cc (going))
+  help_obeys LoadEnd spot_is_fit spot_going = inr (record { harmless = inl refl; next_is = λ got. outside_both (nat_eq got 1) })
+  help_obeys (Entering spot) spot_is_fit spot_going =
+      obeys_same config seat (enter_standing spot) _ (λ got. enter_standing (enter_next spot got)) _ (λ got. enter_same (enter_next spot got)) (enter_obeys config seat spot (false_from_flip (is_entered spot) spot_is_fit))
+  help_obeys LoadPhase spot_is_fit spot_going = record { elsewhere = placed_elsewhere config (touch Phase loads) tt refl; goes_on = λ got. within_both (nat_eq got 0) got }
+  help_obeys (LoadSet phase) spot_is_fit spot_going = record { elsewhere = placed_elsewhere config (touch Cset loads) tt refl; goes_on = λ got. refl }
+  help_obeys (Working spot) spot_is_fit spot_going = record { elsewhere = image_elsewhere config (placed config (units.touch_at config seat spot)) (above spot spot_is_fit); goes_on = λ got. unit_within (units.next_at config spot got) }
+  help_obeys Leave spot_is_fit spot_going = leave_obeys config seat
+  help_obeys Gone spot_is_fit spot_going = absurd (cc (spot_going))
 
   -- its steps leave the count of the mutators as it is
   pub help_counts : (spot : HelpSpot) → spot_fits config seat spot ≡ true → Counts config false (placed config (touch_at config seat spot)) (λ got. false)
-  help_counts (Entering enter.Raise) fits = inr (record { not_written = inr (λ e. omega (arith, e)); same = λ got. refl })
-  help_counts (Entering enter.Lower) fits = inr (record { not_written = inr (λ e. omega (arith, e)); same = λ got. refl })
-  help_counts (Entering _) fits = inr (record { not_written = inl refl; same = λ got. refl })
-  help_counts (Working spot) fits = inr (record { not_written = inr (image_not_left config (placed config (units.touch_at config seat spot)) (above spot fits)); same = λ got. refl })
-  help_counts Leave fits = inr (record { not_written = inr (λ e. omega (arith, e)); same = λ got. refl })
-  help_counts _ fits = inr (record { not_written = inl refl; same = λ got. refl })
+  help_counts (Entering enter.Raise) spot_is_fit = inr (record { not_written = inr (λ same_place. omega (arith, same_place)); same = λ got. refl })
+  help_counts (Entering enter.Lower) spot_is_fit = inr (record { not_written = inr (λ same_place. omega (arith, same_place)); same = λ got. refl })
+  help_counts (Entering _) spot_is_fit = inr (record { not_written = inl refl; same = λ got. refl })
+  help_counts (Working spot) spot_is_fit = inr (record { not_written = inr (image_not_left config (placed config (units.touch_at config seat spot)) (above spot spot_is_fit)); same = λ got. refl })
+  help_counts Leave spot_is_fit = inr (record { not_written = inr (λ same_place. omega (arith, same_place)); same = λ got. refl })
+  help_counts _ spot_is_fit = inr (record { not_written = inl refl; same = λ got. refl })
 
   -- and the word of the end
   pub help_not_end : (spot : HelpSpot) → spot_fits config seat spot ≡ true → (is_load (placed config (touch_at config seat spot)) ≡ true) ⊎ (table_index (placed config (touch_at config seat spot)) ≢ word_at config End)
-  help_not_end (Entering enter.Raise) fits = inr (λ e. omega (arith, e))
-  help_not_end (Entering enter.Lower) fits = inr (λ e. omega (arith, e))
-  help_not_end (Entering _) fits = inl refl
-  help_not_end (Working spot) fits = inr (λ e. (let high = above spot fits in omega (arith, e, high)))
-  help_not_end Leave fits = inr (λ e. omega (arith, e))
-  help_not_end _ fits = inl refl
+  help_not_end (Entering enter.Raise) spot_is_fit = inr (λ same_place. omega (arith, same_place))
+  help_not_end (Entering enter.Lower) spot_is_fit = inr (λ same_place. omega (arith, same_place))
+  help_not_end (Entering _) spot_is_fit = inl refl
+  help_not_end (Working spot) spot_is_fit = inr (λ same_place. (let place_above = above spot spot_is_fit in omega (arith, same_place, place_above)))
+  help_not_end Leave spot_is_fit = inr (λ same_place. omega (arith, same_place))
+  help_not_end _ spot_is_fit = inl refl

@@ -25,8 +25,8 @@ module _ (change : Change) (config : Config) (stage : Stage Actor) (event : Even
   pub event_obeys : ((actor : Actor) → slice_get stage.machines event.number ≡ Some actor → HasNumber config event.number actor.machine) → ((actor : Actor) → slice_get stage.machines event.number ≡ Some actor → CanGo config actor.machine)
       → EventObeys config (kind change config) standing stage event
   unfolding kind
-  event_obeys has can actor is = machine_obeys change config event.number event.order actor.machine (has actor is.here) is.takes (can actor is.here)
+  event_obeys has_number may_go actor is = machine_obeys change config event.number event.order actor.machine (has_number actor is.here) is.takes (may_go actor is.here)
 
   pub event_counts : ((actor : Actor) → slice_get stage.machines event.number ≡ Some actor → CanGo config actor.machine) → EventCounts config (kind change config) is_left stage event
   unfolding kind
-  event_counts can actor is = machine_counts change config event.number event.order actor.machine is.takes (can actor is.here)
+  event_counts may_go actor is = machine_counts change config event.number event.order actor.machine is.takes (may_go actor is.here)

@@ -60,8 +60,8 @@ in_heap spot = is_within (standing_at spot)
 
 -- who is in the heap has not ended
 in_heap_left : (spot : Spot) → in_heap spot ≡ true → has_not_ended spot ≡ true
-in_heap_left Gone is = absurd (cc (is))
-in_heap_left _ is = refl
+in_heap_left Gone inside_heap = absurd (cc (inside_heap))
+in_heap_left _ inside_heap = refl
 
 entering_left : (next : Entered) (spot : EnterSpot) → has_not_ended (after_enter next spot) ≡ true
 entering_left Call Inside = refl
@@ -110,14 +110,14 @@ pin_image config seat made value kept order pins.Look = refl
 pin_image config seat made value kept order pins.Store = refl
 
 make_image : (config : Config) (seat made : ℕ) (kept : Kept) (order : Order) (spot : MakeSpot) → is_image (touch_at config seat made kept order (Making spot)).word ≡ true
-make_image config seat made kept order (make.Taking take) = in_image seat (words_made kept.command) take
+make_image config seat made kept order (make.Taking take_spot) = in_image seat (words_made kept.command) take_spot
 make_image config seat made kept order (make.StoreWord address done) = refl
 make_image config seat made kept order (make.StoreRoot address) = refl
 
 -- a mutator that enters is not inside yet
 not_entered : (spot : EnterSpot) → is_still_outside spot ≡ true → is_entered spot ≡ false
-not_entered Inside on = absurd (cc (on))
-not_entered _ on = refl
+not_entered Inside still_outside = absurd (cc (still_outside))
+not_entered _ still_outside = refl
 
 -- an order that a mutator may be given between two calls: a command, or the end
 abbrev pub IsGiven : Order → Type 0
@@ -129,16 +129,16 @@ IsGiven (Hint address) = ⊥
 -- a mutator between two calls: it enters, or ends
 begins : (config : Config) (mutator : Mutating) (order : Order) → IsGiven order
     → Obeys config mutator.seat outside (placed config (first_touch mutator.seat order)) (λ got. standing_at (call_begun order mutator).spot)
-begins config mutator Nothing given = absurd given
-begins config mutator (Hint address) given = absurd given
-begins config mutator (Begin command) given = inl (record { access_is = refl; next_is = λ got. refl })
-begins config mutator End given = inr (record { harmless = inr (placed_elsewhere config (touch Left (subtracts 1)) tt refl, omega arith); next_is = λ got. refl })
+begins config mutator Nothing order_given = absurd order_given
+begins config mutator (Hint address) order_given = absurd order_given
+begins config mutator (Begin command) order_given = inl (record { access_is = refl; next_is = λ got. refl })
+begins config mutator End order_given = inr (record { harmless = inr (placed_elsewhere config (touch Left (subtracts 1)) tt refl, omega arith); next_is = λ got. refl })
 
 begins_count : (config : Config) (mutator : Mutating) (order : Order) → IsGiven order → Counts config true (placed config (first_touch mutator.seat order)) (λ got. has_not_ended (call_begun order mutator).spot)
-begins_count config mutator Nothing given = absurd given
-begins_count config mutator (Hint address) given = absurd given
-begins_count config mutator (Begin command) given = inr (record { not_written = inr (λ e. omega (arith, e)); same = λ got. refl })
-begins_count config mutator End given = inl (record { access_is = refl; was_left = refl; has_ended = λ got. refl })
+begins_count config mutator Nothing order_given = absurd order_given
+begins_count config mutator (Hint address) order_given = absurd order_given
+begins_count config mutator (Begin command) order_given = inr (record { not_written = inr (λ same_place. omega (arith, same_place)); same = λ got. refl })
+begins_count config mutator End order_given = inl (record { access_is = refl; was_left = refl; has_ended = λ got. refl })
 
 module _ (config : Config) (mutator : Mutating) (order : Order) where
   -- what a mutator that stands at a spot obeys
@@ -151,40 +151,40 @@ module _ (config : Config) (mutator : Mutating) (order : Order) where
     pub next : (got : ℕ) → in_heap (next_of config (record mutator { spot = spot }) order got).spot ≡ true
 
   pub waits_in : (spot : WaitSpot) → wait_standing spot ≡ inside → StaysIn (Waiting spot)
-  waits_in wait.StepOut is = absurd (cc (is))
-  waits_in wait.Poll is = absurd (cc (is))
-  waits_in wait.LoadAnswer is = record { image = refl; next = λ got. goes_on_in config mutator order got (Waiting wait.LoadAnswer) is }
-  waits_in wait.StoreRequest is = record { image = refl; next = λ got. refl }
-  waits_in wait.AskRoom is = record { image = refl; next = λ got. refl }
-  waits_in (wait.StoreRoot address) is = record { image = refl; next = λ got. refl }
-  waits_in (wait.ClearAnswer reply) is = record { image = refl; next = λ got. refl }
+  waits_in wait.StepOut inside_there = absurd (cc (inside_there))
+  waits_in wait.Poll inside_there = absurd (cc (inside_there))
+  waits_in wait.LoadAnswer inside_there = record { image = refl; next = λ got. goes_on_in config mutator order got (Waiting wait.LoadAnswer) inside_there }
+  waits_in wait.StoreRequest inside_there = record { image = refl; next = λ got. refl }
+  waits_in wait.AskRoom inside_there = record { image = refl; next = λ got. refl }
+  waits_in (wait.StoreRoot address) inside_there = record { image = refl; next = λ got. refl }
+  waits_in (wait.ClearAnswer reply) inside_there = record { image = refl; next = λ got. refl }
 
   not_inside : (spot : EnterSpot) → is_still_outside spot ≡ true → enter_standing spot ≡ inside → ⊥
-  not_inside Inside on is = absurd (cc (on))
-  not_inside Raise on is = cc
-  not_inside Look on is = cc
-  not_inside Lower on is = cc
-  not_inside Await on is = cc
+  not_inside Inside still_outside inside_there = absurd (cc (still_outside))
+  not_inside Raise still_outside inside_there = cc
+  not_inside Look still_outside inside_there = cc
+  not_inside Lower still_outside inside_there = cc
+  not_inside Await still_outside inside_there = cc
 
   pub stays_in : (spot : Spot) → numbers_fit config mutator.seat mutator.made mutator.kept spot ≡ true → standing_at spot ≡ inside → StaysIn spot
-  stays_in LoadPhase on is = record { image = refl; next = λ got. goes_on_in config mutator order got LoadPhase is }
-  stays_in LoadSet on is = record { image = refl; next = λ got. goes_on_in config mutator order got LoadSet is }
-  stays_in (Loading spot) on is = record { image = load_image config mutator.seat mutator.made mutator.kept order spot; next = λ got. goes_on_in config mutator order got (Loading spot) is }
-  stays_in (OnField object spot) on is = record { image = field_image config mutator.seat mutator.made object mutator.kept order spot; next = λ got. goes_on_in config mutator order got (OnField object spot) is }
-  stays_in (Resolving address spot next) on is = record { image = resolve_image config mutator.seat address spot; next = λ got. goes_on_in config mutator order got (Resolving address spot next) is }
-  stays_in (Recording spot address next) on is = record { image = record_image config mutator.seat mutator.made address mutator.kept order spot next; next = λ got. goes_on_in config mutator order got (Recording spot address next) is }
-  stays_in (OnNumber object refs spot) on is = record { image = number_image config mutator.seat mutator.made object refs mutator.kept order spot; next = λ got. goes_on_in config mutator order got (OnNumber object refs spot) is }
-  stays_in (Showing value spot) on is = record { image = show_image config mutator.seat mutator.made value mutator.kept order spot; next = λ got. goes_on_in config mutator order got (Showing value spot) is }
-  stays_in (StoreRoot value) on is = record { image = refl; next = λ got. goes_on_in config mutator order got (StoreRoot value) is }
-  stays_in (Making spot) on is = record { image = make_image config mutator.seat mutator.made mutator.kept order spot; next = λ got. goes_on_in config mutator order got (Making spot) is }
-  stays_in (Pinning value spot) on is = record { image = pin_image config mutator.seat mutator.made value mutator.kept order spot; next = λ got. goes_on_in config mutator order got (Pinning value spot) is }
-  stays_in AskCycle on is = record { image = refl; next = λ got. goes_on_in config mutator order got AskCycle is }
-  stays_in (Waiting spot) on is = waits_in spot is
-  stays_in (Entering spot next) on is = absurd (not_inside spot on is)
-  stays_in Rest on is = absurd (cc (is))
-  stays_in (Ended reply) on is = absurd (cc (is))
-  stays_in Gone on is = absurd (cc (is))
-  stays_in (Leave reply) on is = absurd (cc (is))
+  stays_in LoadPhase numbers_right inside_there = record { image = refl; next = λ got. goes_on_in config mutator order got LoadPhase inside_there }
+  stays_in LoadSet numbers_right inside_there = record { image = refl; next = λ got. goes_on_in config mutator order got LoadSet inside_there }
+  stays_in (Loading spot) numbers_right inside_there = record { image = load_image config mutator.seat mutator.made mutator.kept order spot; next = λ got. goes_on_in config mutator order got (Loading spot) inside_there }
+  stays_in (OnField object spot) numbers_right inside_there = record { image = field_image config mutator.seat mutator.made object mutator.kept order spot; next = λ got. goes_on_in config mutator order got (OnField object spot) inside_there }
+  stays_in (Resolving address spot next) numbers_right inside_there = record { image = resolve_image config mutator.seat address spot; next = λ got. goes_on_in config mutator order got (Resolving address spot next) inside_there }
+  stays_in (Recording spot address next) numbers_right inside_there = record { image = record_image config mutator.seat mutator.made address mutator.kept order spot next; next = λ got. goes_on_in config mutator order got (Recording spot address next) inside_there }
+  stays_in (OnNumber object refs spot) numbers_right inside_there = record { image = number_image config mutator.seat mutator.made object refs mutator.kept order spot; next = λ got. goes_on_in config mutator order got (OnNumber object refs spot) inside_there }
+  stays_in (Showing value spot) numbers_right inside_there = record { image = show_image config mutator.seat mutator.made value mutator.kept order spot; next = λ got. goes_on_in config mutator order got (Showing value spot) inside_there }
+  stays_in (StoreRoot value) numbers_right inside_there = record { image = refl; next = λ got. goes_on_in config mutator order got (StoreRoot value) inside_there }
+  stays_in (Making spot) numbers_right inside_there = record { image = make_image config mutator.seat mutator.made mutator.kept order spot; next = λ got. goes_on_in config mutator order got (Making spot) inside_there }
+  stays_in (Pinning value spot) numbers_right inside_there = record { image = pin_image config mutator.seat mutator.made value mutator.kept order spot; next = λ got. goes_on_in config mutator order got (Pinning value spot) inside_there }
+  stays_in AskCycle numbers_right inside_there = record { image = refl; next = λ got. goes_on_in config mutator order got AskCycle inside_there }
+  stays_in (Waiting spot) numbers_right inside_there = waits_in spot inside_there
+  stays_in (Entering spot next) numbers_right inside_there = absurd (not_inside spot numbers_right inside_there)
+  stays_in Rest numbers_right inside_there = absurd (cc (inside_there))
+  stays_in (Ended reply) numbers_right inside_there = absurd (cc (inside_there))
+  stays_in Gone numbers_right inside_there = absurd (cc (inside_there))
+  stays_in (Leave reply) numbers_right inside_there = absurd (cc (inside_there))
 
   -- where it is in the heap, so it obeys
   on : (spot : Spot) → StaysIn spot → IsWord config (touch_at config mutator.seat mutator.made mutator.kept order spot).word
@@ -217,42 +217,42 @@ module _ (config : Config) (mutator : Mutating) (order : Order) where
   given_ended reply (Hint address) takes = absurd (cc (takes))
 
   spot_obeys : (spot : Spot) → takes_at spot mutator.made order ≡ true → numbers_fit config mutator.seat mutator.made mutator.kept spot ≡ true → IsWord config (touch_at config mutator.seat mutator.made mutator.kept Nothing spot).word → ObeysAt spot
-  spot_obeys Rest takes going word = begins config (record mutator { spot = Rest }) order (given_order order takes)
-  spot_obeys (Ended reply) takes going word = begins config (record mutator { spot = Ended reply }) order (given_ended reply order takes)
-  spot_obeys Gone takes going word = absurd (cc (takes))
-  spot_obeys (Entering spot next) takes going word =
+  spot_obeys Rest takes numbers_all_fit word = begins config (record mutator { spot = Rest }) order (given_order order takes)
+  spot_obeys (Ended reply) takes numbers_all_fit word = begins config (record mutator { spot = Ended reply }) order (given_ended reply order takes)
+  spot_obeys Gone takes numbers_all_fit word = absurd (cc (takes))
+  spot_obeys (Entering spot next) takes numbers_all_fit word =
       obeys_same config mutator.seat (enter_standing spot) _ (λ got. enter_standing (enter_next spot got)) _ (λ got. enter_same next (enter_next spot got))
-      (enter_obeys config mutator.seat spot (not_entered spot going))
-  spot_obeys (Waiting spot) takes going word = waits_obey spot word
-  spot_obeys (Leave reply) takes going word = record { access_is = refl; next_is = λ got. refl }
-  spot_obeys LoadPhase takes going word = on LoadPhase (stays_in LoadPhase going refl) word
-  spot_obeys LoadSet takes going word = on LoadSet (stays_in LoadSet going refl) word
-  spot_obeys (Loading spot) takes going word = on (Loading spot) (stays_in (Loading spot) going refl) word
-  spot_obeys (OnField object spot) takes going word = on (OnField object spot) (stays_in (OnField object spot) going refl) word
-  spot_obeys (Resolving address spot next) takes going word = on (Resolving address spot next) (stays_in (Resolving address spot next) going refl) word
-  spot_obeys (Recording spot address next) takes going word = on (Recording spot address next) (stays_in (Recording spot address next) going refl) word
-  spot_obeys (OnNumber object refs spot) takes going word = on (OnNumber object refs spot) (stays_in (OnNumber object refs spot) going refl) word
-  spot_obeys (Showing value spot) takes going word = on (Showing value spot) (stays_in (Showing value spot) going refl) word
-  spot_obeys (StoreRoot value) takes going word = on (StoreRoot value) (stays_in (StoreRoot value) going refl) word
-  spot_obeys (Making spot) takes going word = on (Making spot) (stays_in (Making spot) going refl) word
-  spot_obeys (Pinning value spot) takes going word = on (Pinning value spot) (stays_in (Pinning value spot) going refl) word
-  spot_obeys AskCycle takes going word = on AskCycle (stays_in AskCycle going refl) word
+      (enter_obeys config mutator.seat spot (not_entered spot numbers_all_fit))
+  spot_obeys (Waiting spot) takes numbers_all_fit word = waits_obey spot word
+  spot_obeys (Leave reply) takes numbers_all_fit word = record { access_is = refl; next_is = λ got. refl }
+  spot_obeys LoadPhase takes numbers_all_fit word = on LoadPhase (stays_in LoadPhase numbers_all_fit refl) word
+  spot_obeys LoadSet takes numbers_all_fit word = on LoadSet (stays_in LoadSet numbers_all_fit refl) word
+  spot_obeys (Loading spot) takes numbers_all_fit word = on (Loading spot) (stays_in (Loading spot) numbers_all_fit refl) word
+  spot_obeys (OnField object spot) takes numbers_all_fit word = on (OnField object spot) (stays_in (OnField object spot) numbers_all_fit refl) word
+  spot_obeys (Resolving address spot next) takes numbers_all_fit word = on (Resolving address spot next) (stays_in (Resolving address spot next) numbers_all_fit refl) word
+  spot_obeys (Recording spot address next) takes numbers_all_fit word = on (Recording spot address next) (stays_in (Recording spot address next) numbers_all_fit refl) word
+  spot_obeys (OnNumber object refs spot) takes numbers_all_fit word = on (OnNumber object refs spot) (stays_in (OnNumber object refs spot) numbers_all_fit refl) word
+  spot_obeys (Showing value spot) takes numbers_all_fit word = on (Showing value spot) (stays_in (Showing value spot) numbers_all_fit refl) word
+  spot_obeys (StoreRoot value) takes numbers_all_fit word = on (StoreRoot value) (stays_in (StoreRoot value) numbers_all_fit refl) word
+  spot_obeys (Making spot) takes numbers_all_fit word = on (Making spot) (stays_in (Making spot) numbers_all_fit refl) word
+  spot_obeys (Pinning value spot) takes numbers_all_fit word = on (Pinning value spot) (stays_in (Pinning value spot) numbers_all_fit refl) word
+  spot_obeys AskCycle takes numbers_all_fit word = on AskCycle (stays_in AskCycle numbers_all_fit refl) word
 
   -- what it does to the count of the mutators that have not ended
   abbrev pub CountsAt : Spot → Type 0
   CountsAt spot = Counts config (has_not_ended spot) (placed config (touch_at config mutator.seat mutator.made mutator.kept order spot)) (λ got. has_not_ended (next_of config (record mutator { spot = spot }) order got).spot)
 
   counts_in : (spot : Spot) → StaysIn spot → has_not_ended spot ≡ true → IsWord config (touch_at config mutator.seat mutator.made mutator.kept order spot).word → CountsAt spot
-  counts_in spot stays now word = inr (record {
+  counts_in spot stays not_ended word = inr (record {
     not_written = inr (image_not_left config (placed config (touch_at config mutator.seat mutator.made mutator.kept order spot)) (placed_above config (touch_at config mutator.seat mutator.made mutator.kept order spot) word stays.image));
-    same = λ got. in_heap_left _ (stays.next got) ∙ sym now;
+    same = λ got. in_heap_left _ (stays.next got) ∙ sym not_ended;
   })
 
   -- a step of no part in the heap that writes a state word or only reads
   enter_counts : (next : Entered) (spot : EnterSpot) → CountsAt (Entering spot next)
-  enter_counts next Raise = inr (record { not_written = inr (λ e. omega (arith, e)); same = λ got. entering_left next Look })
+  enter_counts next Raise = inr (record { not_written = inr (λ same_place. omega (arith, same_place)); same = λ got. entering_left next Look })
   enter_counts next Look = inr (record { not_written = inl refl; same = λ got. entering_left next (enter_next Look got) })
-  enter_counts next Lower = inr (record { not_written = inr (λ e. omega (arith, e)); same = λ got. entering_left next Await })
+  enter_counts next Lower = inr (record { not_written = inr (λ same_place. omega (arith, same_place)); same = λ got. entering_left next Await })
   enter_counts next Await = inr (record { not_written = inl refl; same = λ got. entering_left next (enter_next Await got) })
   enter_counts next Inside = inr (record { not_written = inl refl; same = λ got. entering_left next Inside })
 
@@ -261,7 +261,7 @@ module _ (config : Config) (mutator : Mutating) (order : Order) where
   polls_left false = refl
 
   waits_count : (spot : WaitSpot) → IsWord config (touch_at config mutator.seat mutator.made mutator.kept order (Waiting spot)).word → CountsAt (Waiting spot)
-  waits_count wait.StepOut word = inr (record { not_written = inr (λ e. omega (arith, e)); same = λ got. refl })
+  waits_count wait.StepOut word = inr (record { not_written = inr (λ same_place. omega (arith, same_place)); same = λ got. refl })
   waits_count wait.Poll word = inr (record { not_written = inl refl; same = λ got. polls_left (nat_eq got 0) })
   waits_count wait.StoreRequest word = counts_in (Waiting wait.StoreRequest) (waits_in wait.StoreRequest refl) refl word
   waits_count wait.AskRoom word = counts_in (Waiting wait.AskRoom) (waits_in wait.AskRoom refl) refl word
@@ -270,41 +270,41 @@ module _ (config : Config) (mutator : Mutating) (order : Order) where
   waits_count (wait.ClearAnswer reply) word = counts_in (Waiting (wait.ClearAnswer reply)) (waits_in (wait.ClearAnswer reply) refl) refl word
 
   spot_counts : (spot : Spot) → takes_at spot mutator.made order ≡ true → numbers_fit config mutator.seat mutator.made mutator.kept spot ≡ true → IsWord config (touch_at config mutator.seat mutator.made mutator.kept Nothing spot).word → CountsAt spot
-  spot_counts Rest takes going word = begins_count config (record mutator { spot = Rest }) order (given_order order takes)
-  spot_counts (Ended reply) takes going word = begins_count config (record mutator { spot = Ended reply }) order (given_ended reply order takes)
-  spot_counts Gone takes going word = absurd (cc (takes))
-  spot_counts (Entering spot next) takes going word = enter_counts next spot
-  spot_counts (Waiting spot) takes going word = waits_count spot word
-  spot_counts (Leave reply) takes going word = inr (record { not_written = inr (λ e. omega (arith, e)); same = λ got. refl })
-  spot_counts LoadPhase takes going word = counts_in LoadPhase (stays_in LoadPhase going refl) refl word
-  spot_counts LoadSet takes going word = counts_in LoadSet (stays_in LoadSet going refl) refl word
-  spot_counts (Loading spot) takes going word = counts_in (Loading spot) (stays_in (Loading spot) going refl) refl word
-  spot_counts (OnField object spot) takes going word = counts_in (OnField object spot) (stays_in (OnField object spot) going refl) refl word
-  spot_counts (Resolving address spot next) takes going word = counts_in (Resolving address spot next) (stays_in (Resolving address spot next) going refl) refl word
-  spot_counts (Recording spot address next) takes going word = counts_in (Recording spot address next) (stays_in (Recording spot address next) going refl) refl word
-  spot_counts (OnNumber object refs spot) takes going word = counts_in (OnNumber object refs spot) (stays_in (OnNumber object refs spot) going refl) refl word
-  spot_counts (Showing value spot) takes going word = counts_in (Showing value spot) (stays_in (Showing value spot) going refl) refl word
-  spot_counts (StoreRoot value) takes going word = counts_in (StoreRoot value) (stays_in (StoreRoot value) going refl) refl word
-  spot_counts (Making spot) takes going word = counts_in (Making spot) (stays_in (Making spot) going refl) refl word
-  spot_counts (Pinning value spot) takes going word = counts_in (Pinning value spot) (stays_in (Pinning value spot) going refl) refl word
-  spot_counts AskCycle takes going word = counts_in AskCycle (stays_in AskCycle going refl) refl word
+  spot_counts Rest takes numbers_all_fit word = begins_count config (record mutator { spot = Rest }) order (given_order order takes)
+  spot_counts (Ended reply) takes numbers_all_fit word = begins_count config (record mutator { spot = Ended reply }) order (given_ended reply order takes)
+  spot_counts Gone takes numbers_all_fit word = absurd (cc (takes))
+  spot_counts (Entering spot next) takes numbers_all_fit word = enter_counts next spot
+  spot_counts (Waiting spot) takes numbers_all_fit word = waits_count spot word
+  spot_counts (Leave reply) takes numbers_all_fit word = inr (record { not_written = inr (λ same_place. omega (arith, same_place)); same = λ got. refl })
+  spot_counts LoadPhase takes numbers_all_fit word = counts_in LoadPhase (stays_in LoadPhase numbers_all_fit refl) refl word
+  spot_counts LoadSet takes numbers_all_fit word = counts_in LoadSet (stays_in LoadSet numbers_all_fit refl) refl word
+  spot_counts (Loading spot) takes numbers_all_fit word = counts_in (Loading spot) (stays_in (Loading spot) numbers_all_fit refl) refl word
+  spot_counts (OnField object spot) takes numbers_all_fit word = counts_in (OnField object spot) (stays_in (OnField object spot) numbers_all_fit refl) refl word
+  spot_counts (Resolving address spot next) takes numbers_all_fit word = counts_in (Resolving address spot next) (stays_in (Resolving address spot next) numbers_all_fit refl) refl word
+  spot_counts (Recording spot address next) takes numbers_all_fit word = counts_in (Recording spot address next) (stays_in (Recording spot address next) numbers_all_fit refl) refl word
+  spot_counts (OnNumber object refs spot) takes numbers_all_fit word = counts_in (OnNumber object refs spot) (stays_in (OnNumber object refs spot) numbers_all_fit refl) refl word
+  spot_counts (Showing value spot) takes numbers_all_fit word = counts_in (Showing value spot) (stays_in (Showing value spot) numbers_all_fit refl) refl word
+  spot_counts (StoreRoot value) takes numbers_all_fit word = counts_in (StoreRoot value) (stays_in (StoreRoot value) numbers_all_fit refl) refl word
+  spot_counts (Making spot) takes numbers_all_fit word = counts_in (Making spot) (stays_in (Making spot) numbers_all_fit refl) refl word
+  spot_counts (Pinning value spot) takes numbers_all_fit word = counts_in (Pinning value spot) (stays_in (Pinning value spot) numbers_all_fit refl) refl word
+  spot_counts AskCycle takes numbers_all_fit word = counts_in AskCycle (stays_in AskCycle numbers_all_fit refl) refl word
 
 -- a mutator that is ready has its numbers in range, and makes an access of a word of the table
 pub ready_fits : (config : Config) (mutator : Mutating) → IsReady config mutator → numbers_fit config mutator.seat mutator.made mutator.kept mutator.spot ≡ true
-ready_fits config mutator ready = (and_parts (is_word config (touch_of config mutator Nothing).word && stores_fit config mutator.seat mutator.made mutator.kept mutator.spot) (numbers_fit config mutator.seat mutator.made mutator.kept mutator.spot) ready).1
+ready_fits config mutator mutator_ready = (and_parts (is_word config (touch_of config mutator Nothing).word && stores_fit config mutator.seat mutator.made mutator.kept mutator.spot) (numbers_fit config mutator.seat mutator.made mutator.kept mutator.spot) mutator_ready).1
 
 pub ready_word : (config : Config) (mutator : Mutating) → IsReady config mutator → IsWord config (touch_of config mutator Nothing).word
-ready_word config mutator ready =
+ready_word config mutator mutator_ready =
     is_word_true config (touch_of config mutator Nothing).word
     (and_parts (is_word config (touch_of config mutator Nothing).word) (stores_fit config mutator.seat mutator.made mutator.kept mutator.spot)
-    (and_parts (is_word config (touch_of config mutator Nothing).word && stores_fit config mutator.seat mutator.made mutator.kept mutator.spot) (numbers_fit config mutator.seat mutator.made mutator.kept mutator.spot) ready).0).0
+    (and_parts (is_word config (touch_of config mutator Nothing).word && stores_fit config mutator.seat mutator.made mutator.kept mutator.spot) (numbers_fit config mutator.seat mutator.made mutator.kept mutator.spot) mutator_ready).0).0
 
 -- the step of a mutator obeys the handshake
 pub mutator_obeys : (config : Config) (mutator : Mutating) (order : Order) → takes_at mutator.spot mutator.made order ≡ true → IsReady config mutator
     → Obeys config mutator.seat (standing_at mutator.spot) (placed config (touch_of config mutator order)) (λ got. standing_at (next_of config mutator order got).spot)
-mutator_obeys config mutator order takes ready = spot_obeys config mutator order mutator.spot takes (ready_fits config mutator ready) (ready_word config mutator ready)
+mutator_obeys config mutator order takes mutator_ready = spot_obeys config mutator order mutator.spot takes (ready_fits config mutator mutator_ready) (ready_word config mutator mutator_ready)
 
 -- and counts
 pub mutator_counts : (config : Config) (mutator : Mutating) (order : Order) → takes_at mutator.spot mutator.made order ≡ true → IsReady config mutator
     → Counts config (has_not_ended mutator.spot) (placed config (touch_of config mutator order)) (λ got. has_not_ended (next_of config mutator order got).spot)
-mutator_counts config mutator order takes ready = spot_counts config mutator order mutator.spot takes (ready_fits config mutator ready) (ready_word config mutator ready)
+mutator_counts config mutator order takes mutator_ready = spot_counts config mutator order mutator.spot takes (ready_fits config mutator mutator_ready) (ready_word config mutator mutator_ready)

@@ -31,53 +31,53 @@ use Rattle.step_core.proofs.Control.Images.{words_after, settled_touched, settle
 use Rattle.step_core.proofs.History.Owing.{follows_owes}
 use Rattle.step_core.proofs.Helpers.Quiet.{quiet_owes}
 
-module _ (change : Change) (config : Config) (graph : Graph) (stage : Stage Actor) (past : List Entry) (number : ℕ) (h : Helping) (command : Command) (calls : List Entry)
-    (follows : Follows config graph stage past) (shaken : IsKept config stage) (here : slice_get stage.machines number ≡ Some (record { machine = helping h; command = command; calls = calls })) (going : is_gone h.spot ≡ false) where
+module _ (change : Change) (config : Config) (graph : Graph) (stage : Stage Actor) (past : List Entry) (number : ℕ) (this_helper : Helping) (command : Command) (calls : List Entry)
+    (past_follows : Follows config graph stage past) (shaken : IsKept config stage) (helper_there : slice_get stage.machines number ≡ Some (record { machine = helping this_helper; command = command; calls = calls })) (helper_going : is_gone this_helper.spot ≡ false) where
   abbrev before : Actor
-  before = record { machine = helping h; command = command; calls = calls }
+  before = record { machine = helping this_helper; command = command; calls = calls }
 
   abbrev world_then : World
-  world_then = world_of config stage follows.block follows.ghost (after graph past)
+  world_then = world_of config stage past_follows.block past_follows.ghost (after graph past)
 
   abbrev touch : Touch
-  touch = help_touch config h
+  touch = help_touch config this_helper
 
-  helper : IsHelper config world_then number h
-  helper = follows.machines number before here
+  helper : IsHelper config world_then number this_helper
+  helper = past_follows.machines number before helper_there
 
   below : number < control_number config
   below = helper.below
 
   not_control : number ≢ control_number config
-  not_control = λ e. (let less = below in omega (arith, less, e))
+  not_control = λ same_number. (let number_less = below in omega (arith, number_less, same_number))
 
   word : is_word config touch.word ≡ true
-  word = is_word_from config touch.word (help_word config world_then number h follows.shared helper)
+  word = is_word_from config touch.word (help_word config world_then number this_helper past_follows.shared helper)
 
   -- while an image counts it is outside, and its access is of no word of the image
   left_image : (image : Counting) → held_image config stage ≡ Some image → is_image touch.word ≡ false
-  left_image image held = help_leaves_image config h.seat h.spot (outside_held config stage shaken image held number before below here)
+  left_image image image_held = help_leaves_image config this_helper.seat this_helper.spot (outside_held config stage shaken image image_held number before below helper_there)
 
   abbrev words_then : List ℕ
   words_then = words_after config stage.words touch
 
-  image_words_stay : is_within (help_standing h.spot) ≡ false → (i : ℕ) → slice_index words_then (image_start config + i) ≡ slice_index stage.words (image_start config + i)
-  image_words_stay out i = image_kept config stage.words touch i word (help_leaves_image config h.seat h.spot out)
+  image_words_stay : is_within (help_standing this_helper.spot) ≡ false → (index : ℕ) → slice_index words_then (image_start config + index) ≡ slice_index stage.words (image_start config + index)
+  image_words_stay helper_outside index = image_kept config stage.words touch index word (help_leaves_image config this_helper.seat this_helper.spot helper_outside)
 
   abbrev new_then : ℕ → Actor
-  new_then got = took_of change config before Nothing got (helping h)
+  new_then got = took_of change config before Nothing got (helping this_helper)
 
   pub follows_helper : Follows config graph (moved (kind change config) stage number before Nothing) (past ++ [])
   unfolding kind
   follows_helper =
-      let at : ℕ = table_index (placed config touch) in
+      let place : ℕ = table_index (placed config touch) in
       let owes : Owes config stage.words words_then world_then past number stage.machines (touched world_then.memory touch) [] (new_then (world_then.memory touch.word)) =
-      quiet_owes config stage.words (held_image config stage) follows.block follows.ghost (after graph past) past number stage.machines touch follows.words word left_image (new_then (world_then.memory touch.word)) follows.shared follows.promised_to
-      (help_step config world_then number h follows.shared helper going) (λ k b differs there known. aims_stay config graph stage past follows shaken number before here below words_then image_words_stay k b there) in
-      let found : slice_index stage.words at ≡ world_then.memory touch.word = settled_found config stage.words touch (held_image config stage) word left_image in
-      let memory_then : settled config (record { words = words_then; machines = slice_set stage.machines number (new_then (slice_index stage.words at)) }) ≡ touched world_then.memory touch =
-      ap (settled_by config words_then) (other_holds config stage number (new_then (slice_index stage.words at)) not_control) ∙ settled_touched config stage.words touch (held_image config stage) word follows.words left_image in
-      follows_owes config graph stage past number before (new_then (slice_index stage.words at)) words_then [] follows
-      (subst (λ memory. Owes config stage.words words_then world_then past number stage.machines memory [] (new_then (slice_index stage.words at))) (sym memory_then)
-      (subst (λ got. Owes config stage.words words_then world_then past number stage.machines (touched world_then.memory touch) [] (new_then got)) (sym found) owes))
-      here (length-set stage.words _ _ ∙ follows.words)
+      quiet_owes config stage.words (held_image config stage) past_follows.block past_follows.ghost (after graph past) past number stage.machines touch past_follows.words word left_image (new_then (world_then.memory touch.word)) past_follows.shared past_follows.promised_to
+      (help_step config world_then number this_helper past_follows.shared helper helper_going) (λ other_number other_actor differs actor_there actor_known. aims_stay config graph stage past past_follows shaken number before helper_there below words_then image_words_stay other_number other_actor actor_there) in
+      let word_found : slice_index stage.words place ≡ world_then.memory touch.word = settled_found config stage.words touch (held_image config stage) word left_image in
+      let memory_then : settled config (record { words = words_then; machines = slice_set stage.machines number (new_then (slice_index stage.words place)) }) ≡ touched world_then.memory touch =
+      ap (settled_by config words_then) (other_holds config stage number (new_then (slice_index stage.words place)) not_control) ∙ settled_touched config stage.words touch (held_image config stage) word past_follows.words left_image in
+      follows_owes config graph stage past number before (new_then (slice_index stage.words place)) words_then [] past_follows
+      (subst (λ memory. Owes config stage.words words_then world_then past number stage.machines memory [] (new_then (slice_index stage.words place))) (sym memory_then)
+      (subst (λ got. Owes config stage.words words_then world_then past number stage.machines (touched world_then.memory touch) [] (new_then got)) (sym word_found) owes))
+      helper_there (length-set stage.words _ _ ∙ past_follows.words)

@@ -18,37 +18,37 @@ use Rattle.collector_rows.specs.declared.control_spot.ControlSpot.TheVariants.{L
 use Rattle.collector_rows.specs.ControlRows.{says_at, wants_pause, working_says}
 
 -- a step that says one of two things, of which neither is Done, is not done
-not_done : (holds : Bool) (one other : Took) → (one ≡ Done → ⊥) → (other ≡ Done → ⊥) → (if holds then one else other) ≡ Done → ⊥
-not_done true one other first second is = first is
-not_done false one other first second is = second is
+not_done : (holds : Bool) (first_said second_said : Took) → (first_said ≡ Done → ⊥) → (second_said ≡ Done → ⊥) → (if holds then first_said else second_said) ≡ Done → ⊥
+not_done true first_said second_said first_not_done second_not_done said_done = first_not_done said_done
+not_done false first_said second_said first_not_done second_not_done said_done = second_not_done said_done
 
 -- nor is one of a helper that works on a unit
 helper_works_on : (next : UnitSpot) (said : Took) → helpers.working_says next said ≡ Done → ⊥
-helper_works_on (Ended NoneLeft) said is = cc
-helper_works_on (Ended Worked) Done is = cc
-helper_works_on (Ended Worked) More is = cc
-helper_works_on (Ended Worked) Again is = cc
-helper_works_on _ Done is = cc
-helper_works_on _ More is = cc
-helper_works_on _ Again is = cc
+helper_works_on (Ended NoneLeft) said said_done = cc
+helper_works_on (Ended Worked) Done said_done = cc
+helper_works_on (Ended Worked) More said_done = cc
+helper_works_on (Ended Worked) Again said_done = cc
+helper_works_on _ Done said_done = cc
+helper_works_on _ More said_done = cc
+helper_works_on _ Again said_done = cc
 
 -- a helper ends no call
 pub helps_on : (config : Config) (spot : HelpSpot) (got : ℕ) → helpers.says_at config spot got ≡ Done → ⊥
-helps_on config (help.Entering Await) got is = not_done (got == 0) More Again (λ e. cc) (λ e. cc) is
-helps_on config (help.Entering spot) got is = cc
-helps_on config help.LoadPhase got is = not_done (got == 0) Again More (λ e. cc) (λ e. cc) is
-helps_on config (help.Working spot) got is = helper_works_on (units.next_at config spot got) (units.says_at config spot got) is
-helps_on config _ got is = cc
+helps_on config (help.Entering Await) got said_done = not_done (got == 0) More Again (λ e. cc) (λ e. cc) said_done
+helps_on config (help.Entering spot) got said_done = cc
+helps_on config help.LoadPhase got said_done = not_done (got == 0) Again More (λ e. cc) (λ e. cc) said_done
+helps_on config (help.Working spot) got said_done = helper_works_on (units.next_at config spot got) (units.says_at config spot got) said_done
+helps_on config _ got said_done = cc
 
 -- nor does the control
 works_on : (said : Took) → working_says said ≡ Done → ⊥
-works_on Done is = cc
-works_on More is = cc
-works_on Again is = cc
+works_on Done said_done = cc
+works_on More said_done = cc
+works_on Again said_done = cc
 
 pub goes_on : (config : Config) (seen : ℕ) (spot : ControlSpot) (got : ℕ) → says_at config seen spot got ≡ Done → ⊥
-goes_on config seen LookFree got is = not_done (wants_pause config seen got) More Again (λ e. cc) (λ e. cc) is
-goes_on config seen (Working spot) got is = works_on (units.says_at config spot got) is
-goes_on config seen (Stopping (stop.Check seat)) got is = not_done (got == 0) More Again (λ e. cc) (λ e. cc) is
-goes_on config seen (Stopping spot) got is = cc
-goes_on config seen _ got is = cc
+goes_on config seen LookFree got said_done = not_done (wants_pause config seen got) More Again (λ e. cc) (λ e. cc) said_done
+goes_on config seen (Working spot) got said_done = works_on (units.says_at config spot got) said_done
+goes_on config seen (Stopping (stop.Check seat)) got said_done = not_done (got == 0) More Again (λ e. cc) (λ e. cc) said_done
+goes_on config seen (Stopping spot) got said_done = cc
+goes_on config seen _ got said_done = cc

@@ -35,55 +35,55 @@ control_stays config world next_world seat _ shared rely facts = rests_on config
 
 -- a helper that is not in the heap rests
 pub rests_outside : (config : Config) (world : World) (seat : ℕ) (spot : HelpSpot) → is_within (help_standing spot) ≡ false → HelpFacts config world seat spot → IsResting world seat
-rests_outside config world seat LoadEnd out facts = facts
-rests_outside config world seat (Entering spot) out facts = facts
-rests_outside config world seat Gone out facts = facts
-rests_outside config world seat _ out facts = absurd (cc (out))
+rests_outside config world seat LoadEnd helper_outside facts = facts
+rests_outside config world seat (Entering spot) helper_outside facts = facts
+rests_outside config world seat Gone helper_outside facts = facts
+rests_outside config world seat _ helper_outside facts = absurd (cc (helper_outside))
 
 -- and that is all that it counts on
 pub help_outside : (config : Config) (world : World) (seat : ℕ) (spot : HelpSpot) → is_within (help_standing spot) ≡ false → IsResting world seat → HelpFacts config world seat spot
-help_outside config world seat LoadEnd out rests = rests
-help_outside config world seat (Entering spot) out rests = rests
-help_outside config world seat Gone out rests = rests
-help_outside config world seat _ out rests = absurd (cc (out))
+help_outside config world seat LoadEnd helper_outside rests = rests
+help_outside config world seat (Entering spot) helper_outside rests = rests
+help_outside config world seat Gone helper_outside rests = rests
+help_outside config world seat _ helper_outside rests = absurd (cc (helper_outside))
 
 -- its access is then of no word of the image
 pub help_leaves_image : (config : Config) (seat : ℕ) (spot : HelpSpot) → is_within (help_standing spot) ≡ false → is_image (touch_at config seat spot).word ≡ false
-help_leaves_image config seat LoadEnd out = refl
-help_leaves_image config seat (Entering enter.Raise) out = refl
-help_leaves_image config seat (Entering enter.Look) out = refl
-help_leaves_image config seat (Entering enter.Lower) out = refl
-help_leaves_image config seat (Entering enter.Await) out = refl
-help_leaves_image config seat (Entering enter.Inside) out = refl
-help_leaves_image config seat Gone out = refl
-help_leaves_image config seat _ out = absurd (cc (out))
+help_leaves_image config seat LoadEnd helper_outside = refl
+help_leaves_image config seat (Entering enter.Raise) helper_outside = refl
+help_leaves_image config seat (Entering enter.Look) helper_outside = refl
+help_leaves_image config seat (Entering enter.Lower) helper_outside = refl
+help_leaves_image config seat (Entering enter.Await) helper_outside = refl
+help_leaves_image config seat (Entering enter.Inside) helper_outside = refl
+help_leaves_image config seat Gone helper_outside = refl
+help_leaves_image config seat _ helper_outside = absurd (cc (helper_outside))
 
 -- a helper's access is of a word of the table
 spot_word : (config : Config) (seat : ℕ) (spot : HelpSpot) → seat < config.mutators + config.helpers → spot_fits config seat spot ≡ true → IsWord config (touch_at config seat spot).word
-spot_word config seat LoadEnd below fits = tt
-spot_word config seat (Entering enter.Raise) below fits = below
-spot_word config seat (Entering enter.Look) below fits = tt
-spot_word config seat (Entering enter.Lower) below fits = below
-spot_word config seat (Entering enter.Await) below fits = tt
-spot_word config seat (Entering enter.Inside) below fits = tt
-spot_word config seat LoadPhase below fits = tt
-spot_word config seat (LoadSet phase) below fits = tt
-spot_word config seat (Working spot) below fits = unit_inside config seat spot (omega (arith, below)) (and_parts _ _ fits).0
-spot_word config seat Leave below fits = below
-spot_word config seat Gone below fits = tt
+spot_word config seat LoadEnd seat_below spot_is_fit = tt
+spot_word config seat (Entering enter.Raise) seat_below spot_is_fit = seat_below
+spot_word config seat (Entering enter.Look) seat_below spot_is_fit = tt
+spot_word config seat (Entering enter.Lower) seat_below spot_is_fit = seat_below
+spot_word config seat (Entering enter.Await) seat_below spot_is_fit = tt
+spot_word config seat (Entering enter.Inside) seat_below spot_is_fit = tt
+spot_word config seat LoadPhase seat_below spot_is_fit = tt
+spot_word config seat (LoadSet phase) seat_below spot_is_fit = tt
+spot_word config seat (Working spot) seat_below spot_is_fit = unit_inside config seat spot (omega (arith, seat_below)) (and_parts _ _ spot_is_fit).0
+spot_word config seat Leave seat_below spot_is_fit = seat_below
+spot_word config seat Gone seat_below spot_is_fit = tt
 
 pub help_word : (config : Config) (world : World) (number : ℕ) (helper : Helping) → Shared config world → IsHelper config world number helper → IsWord config (touch_at config helper.seat helper.spot).word
-help_word config world number helper shared is = spot_word config helper.seat helper.spot (subst (λ j. j < config.mutators + config.helpers) (sym is.number_is) is.below) (and_parts _ _ is.ready).1
+help_word config world number helper shared helper_known = spot_word config helper.seat helper.spot (subst (λ any_seat. any_seat < config.mutators + config.helpers) (sym helper_known.number_is) helper_known.below) (and_parts _ _ helper_known.ready).1
 
 -- a word that it finds is fit
 spot_found : (config : Config) (world : World) (seat : ℕ) (spot : HelpSpot) → Shared config world → spot_fits config seat spot ≡ true → HelpFacts config world seat spot → UnitGoesOn config seat spot (world.memory (touch_at config seat spot).word)
-spot_found config world seat (Working spot) shared fits facts = work_fits config world seat shared spot (and_parts _ _ fits).0 facts
-spot_found config world seat _ shared fits facts = tt
+spot_found config world seat (Working spot) shared spot_is_fit facts = work_fits config world seat shared spot (and_parts _ _ spot_is_fit).0 facts
+spot_found config world seat _ shared spot_is_fit facts = tt
 
 pub help_fits : (config : Config) (world : World) (number : ℕ) (helper : Helping) → Shared config world → IsHelper config world number helper → UnitGoesOn config helper.seat helper.spot (world.memory (touch_at config helper.seat helper.spot).word)
-help_fits config world number helper shared is = spot_found config world helper.seat helper.spot shared (and_parts _ _ is.ready).1 (subst (λ j. HelpFacts config world j helper.spot) (sym is.number_is) is.facts)
+help_fits config world number helper shared helper_known = spot_found config world helper.seat helper.spot shared (and_parts _ _ helper_known.ready).1 (subst (λ any_seat. HelpFacts config world any_seat helper.spot) (sym helper_known.number_is) helper_known.facts)
 
 -- and outside the heap each word is
 pub help_fits_outside : (config : Config) (seat : ℕ) (spot : HelpSpot) (got : ℕ) → is_within (help_standing spot) ≡ false → UnitGoesOn config seat spot got
-help_fits_outside config seat (Working spot) got out = absurd (cc (out))
-help_fits_outside config seat _ got out = tt
+help_fits_outside config seat (Working spot) got helper_outside = absurd (cc (helper_outside))
+help_fits_outside config seat _ got helper_outside = tt

@@ -65,10 +65,10 @@ pub record IsForCall (words : ℕ) (command : Command) (fixed : Option Reply) (s
 -- what was made for it is what its command asks for
 given_asked : (world : World) (seat made : ℕ) (other_command command : Command) (fixed : Option Reply) (spot : Spot) → is_between_calls spot ≡ false → IsAsking world seat made other_command command fixed (given (refs_of other_command) (nums_of other_command))
     → IsForCall (words_promised world.memory seat) command fixed spot
-given_asked world seat made other_command command fixed spot busy has = record {
-  unsettled = has.0.unsettled;
-  words_are = promised_given world.memory world.block world.graph.count seat (given (refs_of other_command) (nums_of other_command)) has.1 ∙ ap (λ x. words_asked (Some x)) (sym has.0.is);
-  in_call = busy;
+given_asked world seat made other_command command fixed spot in_call asks_given = record {
+  unsettled = asks_given.0.unsettled;
+  words_are = promised_given world.memory world.block world.graph.count seat (given (refs_of other_command) (nums_of other_command)) asks_given.1 ∙ ap (λ x. words_asked (Some x)) (sym asks_given.0.is);
+  in_call = in_call;
 }
 
 module _ (config : Config) (world : World) (seat made : ℕ) (kept : Kept) (command : Command) (fixed : Option Reply) where
@@ -77,191 +77,191 @@ module _ (config : Config) (world : World) (seat made : ℕ) (kept : Kept) (comm
 
   -- where its answer is none
   no_answer : (spot : Spot) → IsAsked world.memory world.block world.graph.count seat nothing → Promised spot
-  no_answer spot asked = inl (promised_given world.memory world.block world.graph.count seat nothing asked)
+  no_answer spot nothing_asked = inl (promised_given world.memory world.block world.graph.count seat nothing nothing_asked)
 
   -- where it polls
   polls_promised : (spot : Spot) → is_between_calls spot ≡ false → IsPolling world seat made kept.command command fixed → Promised spot
-  polls_promised spot busy (inl waits) = inl (promised_given world.memory world.block world.graph.count seat (asks (refs_of kept.command) (nums_of kept.command)) waits.0.1)
-  polls_promised spot busy (inr (inl has)) = inr (given_asked world seat made kept.command command fixed spot busy has)
-  polls_promised spot busy (inr (inr is)) = inl (promised_given world.memory world.block world.graph.count seat refused is.1)
+  polls_promised spot in_call (inl waits) = inl (promised_given world.memory world.block world.graph.count seat (asks (refs_of kept.command) (nums_of kept.command)) waits.0.1)
+  polls_promised spot in_call (inr (inl has)) = inr (given_asked world seat made kept.command command fixed spot in_call has)
+  polls_promised spot in_call (inr (inr was_refused)) = inl (promised_given world.memory world.block world.graph.count seat refused was_refused.1)
 
   -- where it has its answer
   answered_promised : (spot : Spot) → is_between_calls spot ≡ false → IsAnswered world seat made kept.command command fixed → Promised spot
-  answered_promised spot busy (inl has) = inr (given_asked world seat made kept.command command fixed spot busy has)
-  answered_promised spot busy (inr is) = inl (promised_given world.memory world.block world.graph.count seat refused is.1)
+  answered_promised spot in_call (inl has) = inr (given_asked world seat made kept.command command fixed spot in_call has)
+  answered_promised spot in_call (inr was_refused) = inl (promised_given world.memory world.block world.graph.count seat refused was_refused.1)
 
   -- outside the heap
   outside_promised : (spot : Spot) → is_within (standing_at spot) ≡ false → Mine config world (mutator_at seat made kept spot) command fixed → Promised spot
-  outside_promised Rest out mine = no_answer Rest (mine.seated.unasked refl)
-  outside_promised (Ended reply) out mine = no_answer (Ended reply) (mine.seated.unasked refl)
-  outside_promised Gone out mine = no_answer Gone (mine.seated.unasked refl)
-  outside_promised (Entering spot Call) out mine = no_answer (Entering spot Call) (mine.seated.unasked refl)
-  outside_promised (Entering spot Waited) out mine = answered_promised (Entering spot Waited) refl mine.facts
-  outside_promised (Waiting wait.Poll) out mine = polls_promised (Waiting wait.Poll) refl mine.facts
-  outside_promised (Waiting wait.StoreRequest) out mine = cc
-  outside_promised (Waiting wait.AskRoom) out mine = cc
-  outside_promised (Waiting wait.StepOut) out mine = cc
-  outside_promised (Waiting wait.LoadAnswer) out mine = cc
-  outside_promised (Waiting (wait.StoreRoot address)) out mine = cc
-  outside_promised (Waiting (wait.ClearAnswer reply)) out mine = cc
-  outside_promised _ out mine = cc
+  outside_promised Rest stands_outside own_facts = no_answer Rest (own_facts.seated.unasked refl)
+  outside_promised (Ended reply) stands_outside own_facts = no_answer (Ended reply) (own_facts.seated.unasked refl)
+  outside_promised Gone stands_outside own_facts = no_answer Gone (own_facts.seated.unasked refl)
+  outside_promised (Entering spot Call) stands_outside own_facts = no_answer (Entering spot Call) (own_facts.seated.unasked refl)
+  outside_promised (Entering spot Waited) stands_outside own_facts = answered_promised (Entering spot Waited) refl own_facts.facts
+  outside_promised (Waiting wait.Poll) stands_outside own_facts = polls_promised (Waiting wait.Poll) refl own_facts.facts
+  outside_promised (Waiting wait.StoreRequest) stands_outside own_facts = cc
+  outside_promised (Waiting wait.AskRoom) stands_outside own_facts = cc
+  outside_promised (Waiting wait.StepOut) stands_outside own_facts = cc
+  outside_promised (Waiting wait.LoadAnswer) stands_outside own_facts = cc
+  outside_promised (Waiting (wait.StoreRoot address)) stands_outside own_facts = cc
+  outside_promised (Waiting (wait.ClearAnswer reply)) stands_outside own_facts = cc
+  outside_promised _ stands_outside own_facts = cc
 
 -- the next command of calls that have ended, and one that is in progress
 next_of_calls : (calls : List Entry) (command : Command) → slice_get (commands_of calls ++ command ∷ []) (length calls) ≡ Some command
-next_of_calls calls command = append_right (commands_of calls) (command ∷ []) (length calls) 0 (let same = length-map calls (λ x. x.command) in omega (arith, same))
+next_of_calls calls command = append_right (commands_of calls) (command ∷ []) (length calls) 0 (let same_length = length-map calls (λ x. x.command) in omega (arith, same_length))
 
 -- A stage in which an image counts, and all but the control are outside.
-module _ (config : Config) (graph : Graph) (stage : Stage Actor) (past : List Entry) (follows : Follows config graph stage past)
+module _ (config : Config) (graph : Graph) (stage : Stage Actor) (past_entries : List Entry) (past_follows : Follows config graph stage past_entries)
     (outside : (k : ℕ) (b : Actor) → k < control_number config → slice_get stage.machines k ≡ Some b → is_within (standing_of b.machine) ≡ false) where
   abbrev world_then : World
-  world_then = world_of config stage follows.block follows.ghost (after graph past)
+  world_then = world_of config stage past_follows.block past_follows.ghost (after graph past_entries)
 
   -- what a thread asks for, in a call of which nothing is settled
-  promised_open : (mutator : ℕ) → mutator < config.mutators → words_promised world_then.memory mutator ≤ words_asked (next_command (scripts_begun config stage) past (mutator + 1))
-  promised_open mutator below =
-      let there = mutator_there config stage.words world_then past stage.machines follows.seats follows.machines mutator below in
-      let a = there.0 in
-      let m = there.1 in
-      let thread = there.4 in
-      let out : is_within (standing_at m.spot) ≡ false = ap (λ machine. is_within (standing_of machine)) (sym there.3) ∙ outside mutator a (omega (arith, below)) there.2 in
-      let promised = subst (λ j. (words_promised world_then.memory j ≡ 0) ⊎ IsForCall (words_promised world_then.memory j) a.command thread.fixed m.spot) thread.number_is
-      (outside_promised config world_then m.seat m.made m.kept a.command thread.fixed m.spot out thread.mine) in
+  promised_open : (mutator : ℕ) → mutator < config.mutators → words_promised world_then.memory mutator ≤ words_asked (next_command (scripts_begun config stage) past_entries (mutator + 1))
+  promised_open mutator mutator_below =
+      let found_mutator = mutator_there config stage.words world_then past_entries stage.machines past_follows.seats past_follows.machines mutator mutator_below in
+      let actor = found_mutator.0 in
+      let asking_mutating = found_mutator.1 in
+      let thread = found_mutator.4 in
+      let stands_outside : is_within (standing_at asking_mutating.spot) ≡ false = ap (λ machine. is_within (standing_of machine)) (sym found_mutator.3) ∙ outside mutator actor (omega (arith, mutator_below)) found_mutator.2 in
+      let promised = subst (λ number. (words_promised world_then.memory number ≡ 0) ⊎ IsForCall (words_promised world_then.memory number) actor.command thread.fixed asking_mutating.spot) thread.number_is
+      (outside_promised config world_then asking_mutating.seat asking_mutating.made asking_mutating.kept actor.command thread.fixed asking_mutating.spot stands_outside thread.mine) in
       ⊎_elim
-      (λ (none : words_promised world_then.memory mutator ≡ 0). omega (arith, none))
-      (λ (has : IsForCall (words_promised world_then.memory mutator) a.command thread.fixed m.spot).
-      let entries : of_thread past (mutator + 1) ≡ a.calls = thread.entries_are ∙ ap (λ f. a.calls ++ entries_of mutator a.command f) has.unsettled ∙ append-nil a.calls in
-      let begun_then : begun_by a ≡ commands_of a.calls ++ a.command ∷ [] =
-      ap (λ machine. commands_of a.calls ++ (if is_resting machine then [] else a.command ∷ [])) there.3 ∙ ap (λ b. commands_of a.calls ++ (if b then [] else a.command ∷ [])) has.in_call in
-      let next : next_command (scripts_begun config stage) past (mutator + 1) ≡ Some a.command =
-      next_is (scripts_begun config stage) past mutator
-      ∙ ap (λ xs. slice_get xs (length (of_thread past (mutator + 1)))) (begun_is config stage follows.seats mutator a below there.2 ∙ begun_then)
-      ∙ ap (λ es. slice_get (commands_of a.calls ++ a.command ∷ []) (length es)) entries
-      ∙ next_of_calls a.calls a.command in
-      let same : words_promised world_then.memory mutator ≡ words_asked (next_command (scripts_begun config stage) past (mutator + 1)) = has.words_are ∙ ap words_asked (sym next) in
-      omega (arith, same))
+      (λ (no_words : words_promised world_then.memory mutator ≡ 0). omega (arith, no_words))
+      (λ (for_call : IsForCall (words_promised world_then.memory mutator) actor.command thread.fixed asking_mutating.spot).
+      let entries : of_thread past_entries (mutator + 1) ≡ actor.calls = thread.entries_are ∙ ap (λ f. actor.calls ++ entries_of mutator actor.command f) for_call.unsettled ∙ append-nil actor.calls in
+      let begun_then : begun_by actor ≡ commands_of actor.calls ++ actor.command ∷ [] =
+      ap (λ machine. commands_of actor.calls ++ (if is_resting machine then [] else actor.command ∷ [])) found_mutator.3 ∙ ap (λ was_called. commands_of actor.calls ++ (if was_called then [] else actor.command ∷ [])) for_call.in_call in
+      let next_there : next_command (scripts_begun config stage) past_entries (mutator + 1) ≡ Some actor.command =
+      next_is (scripts_begun config stage) past_entries mutator
+      ∙ ap (λ script_now. slice_get script_now (length (of_thread past_entries (mutator + 1)))) (begun_is config stage past_follows.seats mutator actor mutator_below found_mutator.2 ∙ begun_then)
+      ∙ ap (λ entry_list. slice_get (commands_of actor.calls ++ actor.command ∷ []) (length entry_list)) entries
+      ∙ next_of_calls actor.calls actor.command in
+      let same_words : words_promised world_then.memory mutator ≡ words_asked (next_command (scripts_begun config stage) past_entries (mutator + 1)) = for_call.words_are ∙ ap words_asked (sym next_there) in
+      omega (arith, same_words))
       promised
 
   either_less : (holds other_holds : Bool) (x y : ℕ) → holds ≡ other_holds → x ≤ y → (if holds then 0 else x) ≤ (if other_holds then 0 else y)
-  either_less true true x y same less = omega arith
-  either_less false false x y same less = less
-  either_less true false x y same less = absurd (cc (same))
-  either_less false true x y same less = absurd (cc (same))
+  either_less true true x y tests_same is_less = omega arith
+  either_less false false x y tests_same is_less = is_less
+  either_less true false x y tests_same is_less = absurd (cc (tests_same))
+  either_less false true x y tests_same is_less = absurd (cc (tests_same))
 
   same_test : (t k : ℕ) → (k == t) ≡ ((k + 1) == (t + 1))
   same_test t k = ⊎_elim
-      (λ (same : k ≡ t). eq-eqb k t same ∙ sym (eq-eqb (k + 1) (t + 1) (omega (arith, same))))
-      (λ (differs : k ≡ t → ⊥). ne_eqb k t differs ∙ sym (ne_eqb (k + 1) (t + 1) (λ e. differs (omega (arith, e)))))
+      (λ (same_number : k ≡ t). eq-eqb k t same_number ∙ sym (eq-eqb (k + 1) (t + 1) (omega (arith, same_number))))
+      (λ (numbers_differ : k ≡ t → ⊥). ne_eqb k t numbers_differ ∙ sym (ne_eqb (k + 1) (t + 1) (λ same_thread. numbers_differ (omega (arith, same_thread)))))
       (cases_eq k t)
 
   -- who is refused then is crowded out
-  refused_crowded : (other_mutator : ℕ) (actor : Actor) (mutator : Mutating) → IsThread config stage.words world_then (of_thread past (other_mutator + 1)) other_mutator actor mutator → world_then.memory (Answer other_mutator) ≡ 1 → view config stage.words (Answer other_mutator) ≡ 0
-      → IsCrowded config.regions config.region_words graph (scripts_begun config stage) past (entry_of other_mutator actor.command Full)
-  refused_crowded other_mutator actor mutator thread full none =
-      let unsettled : thread.fixed ≡ None = ⊎_elim
-      (λ (both : (view config stage.words (Answer other_mutator) ≡ 1) × (thread.fixed ≡ Some Full)). absurd (let one = both.0 in omega (arith, one, none)))
-      (λ (not_yet : (view config stage.words (Answer other_mutator) ≡ 0) × (thread.fixed ≡ None)). not_yet.1)
-      (thread.seen.full full) in
-      let short = thread.short full unsettled in
-      let live : ℕ = sum_by (λ n. size (named (after graph past) (Some n))) short.names in
-      let sums : sum_below (λ k. if k == other_mutator then 0 else words_promised world_then.memory k) config.mutators ≤ sum_below (λ k. open_of (scripts_begun config stage) past (other_mutator + 1) (k + 1)) config.mutators =
-      sum_below_le _ _ config.mutators (λ mutator below. either_less (mutator == other_mutator) ((mutator + 1) == (other_mutator + 1)) _ _ (same_test other_mutator mutator) (promised_open mutator below)) in
-      let many : sum_below (λ k. open_of (scripts_begun config stage) past (other_mutator + 1) (k + 1)) (length (scripts_begun config stage)) ≡ sum_below (λ k. open_of (scripts_begun config stage) past (other_mutator + 1) (k + 1)) config.mutators =
-      ap (sum_below (λ k. open_of (scripts_begun config stage) past (other_mutator + 1) (k + 1))) (begun_many config stage follows.seats) in
-      let open_is = open_below (scripts_begun config stage) past (other_mutator + 1) in
-      let crowd = short.crowd in
-      (live, short.held, short.pinned, (short.names, short.reach, refl), short.held_is, short.pinned_is, omega (arith, crowd, sums, many, open_is))
+  refused_crowded : (refused_mutator : ℕ) (actor : Actor) (mutator : Mutating) → IsThread config stage.words world_then (of_thread past_entries (refused_mutator + 1)) refused_mutator actor mutator → world_then.memory (Answer refused_mutator) ≡ 1 → view config stage.words (Answer refused_mutator) ≡ 0
+      → IsCrowded config.regions config.region_words graph (scripts_begun config stage) past_entries (entry_of refused_mutator actor.command Full)
+  refused_crowded refused_mutator actor mutator is_thread answered_full no_answer =
+      let unsettled : is_thread.fixed ≡ None = ⊎_elim
+      (λ (full_settled : (view config stage.words (Answer refused_mutator) ≡ 1) × (is_thread.fixed ≡ Some Full)). absurd (let answer_one = full_settled.0 in omega (arith, answer_one, no_answer)))
+      (λ (not_yet : (view config stage.words (Answer refused_mutator) ≡ 0) × (is_thread.fixed ≡ None)). not_yet.1)
+      (is_thread.seen.full answered_full) in
+      let room_short = is_thread.short answered_full unsettled in
+      let live : ℕ = sum_by (λ name. size (named (after graph past_entries) (Some name))) room_short.names in
+      let sums : sum_below (λ any_mutator. if any_mutator == refused_mutator then 0 else words_promised world_then.memory any_mutator) config.mutators ≤ sum_below (λ any_mutator. open_of (scripts_begun config stage) past_entries (refused_mutator + 1) (any_mutator + 1)) config.mutators =
+      sum_below_le _ _ config.mutators (λ mutator mutator_below. either_less (mutator == refused_mutator) ((mutator + 1) == (refused_mutator + 1)) _ _ (same_test refused_mutator mutator) (promised_open mutator mutator_below)) in
+      let many : sum_below (λ any_mutator. open_of (scripts_begun config stage) past_entries (refused_mutator + 1) (any_mutator + 1)) (length (scripts_begun config stage)) ≡ sum_below (λ any_mutator. open_of (scripts_begun config stage) past_entries (refused_mutator + 1) (any_mutator + 1)) config.mutators =
+      ap (sum_below (λ any_mutator. open_of (scripts_begun config stage) past_entries (refused_mutator + 1) (any_mutator + 1))) (begun_many config stage past_follows.seats) in
+      let open_is = open_below (scripts_begun config stage) past_entries (refused_mutator + 1) in
+      let crowd = room_short.crowd in
+      (live, room_short.held, room_short.pinned, (room_short.names, room_short.reach, refl), room_short.held_is, room_short.pinned_is, omega (arith, crowd, sums, many, open_is))
 
 -- What an event settles leaves a history of which each refused entry was crowded out.
-module _ (change : Change) (config : Config) (graph : Graph) (stage : Stage Actor) (past : List Entry) (goes : Goes config graph stage past) (crowded : AreCrowded config.regions config.region_words graph (scripts_begun config stage) past) where
+module _ (change : Change) (config : Config) (graph : Graph) (stage : Stage Actor) (past_entries : List Entry) (goes_so_far : Goes config graph stage past_entries) (crowded : AreCrowded config.regions config.region_words graph (scripts_begun config stage) past_entries) where
   abbrev Crowded : List Entry → Type 0
-  Crowded settles = AreCrowded config.regions config.region_words graph (scripts_begun config stage) (past ++ settles)
+  Crowded settles = AreCrowded config.regions config.region_words graph (scripts_begun config stage) (past_entries ++ settles)
 
   abbrev now : World
-  now = world_of config stage goes.follows.block goes.follows.ghost (after graph past)
+  now = world_of config stage goes_so_far.follows.block goes_so_far.follows.ghost (after graph past_entries)
 
   -- entries without Full
   quiet : (settles : List Entry) → IsWithoutFull settles → Crowded settles
-  quiet settles without = crowded_none config.regions config.region_words graph (scripts_begun config stage) past crowded settles without
+  quiet settles without_full = crowded_none config.regions config.region_words graph (scripts_begun config stage) past_entries crowded settles without_full
 
   none : Crowded []
-  none = quiet [] (All-nil (λ e. e.reply ≢ Full))
+  none = quiet [] (All-nil (λ entry. entry.reply ≢ Full))
 
   -- a word of the new image that the control stores
   module _ (number index seen phase cset hints : ℕ) (extent : Extent) (image : List ℕ) (command : Command) (calls : List Entry)
-      (here : slice_get stage.machines number ≡ Some (record { machine = controlling (record { spot = StoreWord index extent; seen = seen; phase = phase; cset = cset; hints = hints; image = image }); command = command; calls = calls })) where
+      (control_there : slice_get stage.machines number ≡ Some (record { machine = controlling (record { spot = StoreWord index extent; seen = seen; phase = phase; cset = cset; hints = hints; image = image }); command = command; calls = calls })) where
     control_facts : IsControl config stage.words now number (record { spot = StoreWord index extent; seen = seen; phase = phase; cset = cset; hints = hints; image = image })
-    control_facts = goes.follows.machines number (record { machine = controlling (record { spot = StoreWord index extent; seen = seen; phase = phase; cset = cset; hints = hints; image = image }); command = command; calls = calls }) here
+    control_facts = goes_so_far.follows.machines number (record { machine = controlling (record { spot = StoreWord index extent; seen = seen; phase = phase; cset = cset; hints = hints; image = image }); command = command; calls = calls }) control_there
 
     held : held_image config stage ≡ Some (record { extent = extent; image = image })
-    held = ap (λ n. image_of (slice_get stage.machines n)) (sym control_facts.number_is) ∙ ap image_of here
+    held = ap (λ number. image_of (slice_get stage.machines number)) (sym control_facts.number_is) ∙ ap image_of control_there
 
     abbrev at : ℕ
     at = image_start config + index
 
     -- into an answer
     at_answer : (mutator : ℕ) → name_of config at ≡ Answer mutator → Crowded (told_word stage.machines (Answer mutator) (slice_index stage.words at) (slice_index image index))
-    at_answer other_mutator is =
-        let block = goes.follows.block in
-        let ghost = goes.follows.ghost in
-        let within : other_mutator < config.mutators = subst (λ w. IsWord config w) is
-        (storing.name_is_word change config stage.words block ghost (after graph past) past stage.machines extent image index seen phase cset hints command calls control_facts.ready goes.follows.words control_facts.aims.0 control_facts.aims.1 control_facts.aims.2 goes.follows.seats) in
-        let raw : view config stage.words (Answer other_mutator) ≡ slice_index stage.words at = ap (view config stage.words) (sym is)
-        ∙ storing.view_raw change config stage.words block ghost (after graph past) past stage.machines extent image index seen phase cset hints command calls control_facts.ready goes.follows.words control_facts.aims.0 control_facts.aims.1 control_facts.aims.2 goes.follows.seats in
-        let value : settled config stage (Answer other_mutator) ≡ slice_index image index = ap (λ o. settled_by config stage.words o (Answer other_mutator)) held ∙ ap (mixed config stage.words (record { extent = extent; image = image })) (sym is)
-        ∙ storing.now_is change config stage.words block ghost (after graph past) past stage.machines extent image index seen phase cset hints command calls control_facts.ready goes.follows.words control_facts.aims.0 control_facts.aims.1 control_facts.aims.2 goes.follows.seats in
-        let there = mutator_there config stage.words now past stage.machines goes.follows.seats goes.follows.machines other_mutator within in
-        subst (λ k. Crowded (entries_of other_mutator k (if (slice_index stage.words at == 0) && (slice_index image index == 1) then Some Full else None))) (ap command_at (sym there.2))
-        (by_test there.0 there.1 other_mutator there.4 raw value ((slice_index stage.words at == 0) && (slice_index image index == 1)) refl)
+    at_answer other_mutator names_answer =
+        let block = goes_so_far.follows.block in
+        let ghost = goes_so_far.follows.ghost in
+        let mutator_below : other_mutator < config.mutators = subst (λ word. IsWord config word) names_answer
+        (storing.name_is_word change config stage.words block ghost (after graph past_entries) past_entries stage.machines extent image index seen phase cset hints command calls control_facts.ready goes_so_far.follows.words control_facts.aims.0 control_facts.aims.1 control_facts.aims.2 goes_so_far.follows.seats) in
+        let raw : view config stage.words (Answer other_mutator) ≡ slice_index stage.words at = ap (view config stage.words) (sym names_answer)
+        ∙ storing.view_raw change config stage.words block ghost (after graph past_entries) past_entries stage.machines extent image index seen phase cset hints command calls control_facts.ready goes_so_far.follows.words control_facts.aims.0 control_facts.aims.1 control_facts.aims.2 goes_so_far.follows.seats in
+        let value : settled config stage (Answer other_mutator) ≡ slice_index image index = ap (λ found_image. settled_by config stage.words found_image (Answer other_mutator)) held ∙ ap (mixed config stage.words (record { extent = extent; image = image })) (sym names_answer)
+        ∙ storing.now_is change config stage.words block ghost (after graph past_entries) past_entries stage.machines extent image index seen phase cset hints command calls control_facts.ready goes_so_far.follows.words control_facts.aims.0 control_facts.aims.1 control_facts.aims.2 goes_so_far.follows.seats in
+        let found_mutator = mutator_there config stage.words now past_entries stage.machines goes_so_far.follows.seats goes_so_far.follows.machines other_mutator mutator_below in
+        subst (λ any_command. Crowded (entries_of other_mutator any_command (if (slice_index stage.words at == 0) && (slice_index image index == 1) then Some Full else None))) (ap command_at (sym found_mutator.2))
+        (by_test found_mutator.0 found_mutator.1 other_mutator found_mutator.4 raw value ((slice_index stage.words at == 0) && (slice_index image index == 1)) refl)
       where
-        by_test : (actor : Actor) (mutator : Mutating) (other_mutator : ℕ) → IsThread config stage.words now (of_thread past (other_mutator + 1)) other_mutator actor mutator → view config stage.words (Answer other_mutator) ≡ slice_index stage.words at → settled config stage (Answer other_mutator) ≡ slice_index image index
+        by_test : (actor : Actor) (mutator : Mutating) (other_mutator : ℕ) → IsThread config stage.words now (of_thread past_entries (other_mutator + 1)) other_mutator actor mutator → view config stage.words (Answer other_mutator) ≡ slice_index stage.words at → settled config stage (Answer other_mutator) ≡ slice_index image index
             → (holds : Bool) → ((slice_index stage.words at == 0) && (slice_index image index == 1)) ≡ holds → Crowded (entries_of other_mutator actor.command (if holds then Some Full else None))
-        by_test actor mutator other_mutator thread raw value false test = none
-        by_test actor mutator other_mutator thread raw value true test =
-            let both = and_parts (slice_index stage.words at == 0) (slice_index image index == 1) test in
-            crowded_one config.regions config.region_words graph (scripts_begun config stage) past crowded (entry_of other_mutator actor.command Full)
-            (refused_crowded config graph stage past goes.follows (outside_held config stage goes.shaken (record { extent = extent; image = image }) held) other_mutator actor mutator thread (value ∙ eqb-true _ _ both.1) (raw ∙ eqb-true _ _ both.0))
+        by_test actor mutator other_mutator is_thread raw_answer value false test = none
+        by_test actor mutator other_mutator is_thread raw_answer value true test =
+            let both_tests = and_parts (slice_index stage.words at == 0) (slice_index image index == 1) test in
+            crowded_one config.regions config.region_words graph (scripts_begun config stage) past_entries crowded (entry_of other_mutator actor.command Full)
+            (refused_crowded config graph stage past_entries goes_so_far.follows (outside_held config stage goes_so_far.shaken (record { extent = extent; image = image }) held) other_mutator actor mutator is_thread (value ∙ eqb-true _ _ both_tests.1) (raw_answer ∙ eqb-true _ _ both_tests.0))
 
     -- into any word
     by_word : (word : Word) → name_of config at ≡ word → Crowded (told_word stage.machines word (slice_index stage.words at) (slice_index image index))
-    by_word (Answer mutator) is = at_answer mutator is
-    by_word _ is = none
+    by_word (Answer mutator) names_word = at_answer mutator names_word
+    by_word _ names_word = none
 
   -- a step of the control
   by_spot : (number seen phase cset hints : ℕ) (image : List ℕ) (command : Command) (calls : List Entry) (spot : ControlSpot)
       → slice_get stage.machines number ≡ Some (record { machine = controlling (record { spot = spot; seen = seen; phase = phase; cset = cset; hints = hints; image = image }); command = command; calls = calls }) → Crowded (told_storing config stage spot image)
-  by_spot number seen phase cset hints image command calls (StoreWord index extent) here = by_word number index seen phase cset hints extent image command calls here (name_of config (image_start config + index)) refl
-  by_spot number seen phase cset hints image command calls _ here = none
+  by_spot number seen phase cset hints image command calls (StoreWord index extent) control_there = by_word number index seen phase cset hints extent image command calls control_there (name_of config (image_start config + index)) refl
+  by_spot number seen phase cset hints image command calls _ control_there = none
 
   -- a step of any machine
   by_role : (number : ℕ) (order : Order) (command : Command) (calls : List Entry) (machine : Machine) → slice_get stage.machines number ≡ Some (record { machine = machine; command = command; calls = calls })
       → Crowded (told_by config stage (record { machine = machine; command = command; calls = calls }) order machine)
-  by_role number order command calls (mutating mutator) here = quiet _ (mutator_not_full (settled config stage) mutator (command_by order command))
-  by_role number order command calls (controlling control) here = by_spot number control.seen control.phase control.cset control.hints control.image command calls control.spot here
-  by_role number order command calls _ here = none
+  by_role number order command calls (mutating mutator) actor_there = quiet _ (mutator_not_full (settled config stage) mutator (command_by order command))
+  by_role number order command calls (controlling control) actor_there = by_spot number control.seen control.phase control.cset control.hints control.image command calls control.spot actor_there
+  by_role number order command calls _ actor_there = none
 
   told_crowded : (event : Event Order) → Crowded (told config stage event)
   unfolding told
   told_crowded event = by_machine (slice_get stage.machines event.number) refl
     where
       by_order : (actor : Actor) (holds : Bool) → slice_get stage.machines event.number ≡ Some actor → Crowded (if holds then told_by config stage actor event.order actor.machine else [])
-      by_order actor true here = by_role event.number event.order actor.command actor.calls actor.machine here
-      by_order actor false here = none
+      by_order actor true actor_there = by_role event.number event.order actor.command actor.calls actor.machine actor_there
+      by_order actor false actor_there = none
 
       by_machine : (found : Option Actor) → slice_get stage.machines event.number ≡ found → Crowded (told_of_machine config stage event found)
-      by_machine None here = none
-      by_machine (Some actor) here = by_order actor (takes_of actor.machine event.order) here
+      by_machine None found_there = none
+      by_machine (Some actor) found_there = by_order actor (takes_of actor.machine event.order) found_there
 
 -- a run from a stage that follows a history of such entries
-goes_crowded : (change : Change) → PausesByParts change → (config : Config) (graph : Graph) (stage : Stage Actor) (past : List Entry) (events : List (Event Order)) → Goes config graph stage past → AreCrowded config.regions config.region_words graph (scripts_begun config stage) past
-    → AreCrowded config.regions config.region_words graph (scripts_begun config (go (kind change config) stage events)) (past ++ history change config stage events)
+goes_crowded : (change : Change) → PausesByParts change → (config : Config) (graph : Graph) (stage : Stage Actor) (past_entries : List Entry) (events : List (Event Order)) → Goes config graph stage past_entries → AreCrowded config.regions config.region_words graph (scripts_begun config stage) past_entries
+    → AreCrowded config.regions config.region_words graph (scripts_begun config (go (kind change config) stage events)) (past_entries ++ history change config stage events)
 unfolding go history
-goes_crowded change law config graph stage past [] goes crowded = subst (λ h. AreCrowded config.regions config.region_words graph (scripts_begun config stage) h) (sym (append-nil past)) crowded
-goes_crowded change law config graph stage past (event ∷ events) goes crowded =
-    subst (λ h. AreCrowded config.regions config.region_words graph (scripts_begun config (go (kind change config) (act (kind change config) stage event) events)) h) (append_assoc past (told config stage event) (history change config (act (kind change config) stage event) events))
-    (goes_crowded change law config graph (act (kind change config) stage event) (past ++ told config stage event) events (goes_event change law config graph stage past event goes)
-    (crowded_longer config.regions config.region_words graph (scripts_begun config stage) (scripts_begun config (act (kind change config) stage event)) (past ++ told config stage event) (begun_grows change config stage event goes.follows.seats) (told_crowded change config graph stage past goes crowded event)))
+goes_crowded change law config graph stage past_entries [] goes_so_far crowded = subst (λ entries. AreCrowded config.regions config.region_words graph (scripts_begun config stage) entries) (sym (append-nil past_entries)) crowded
+goes_crowded change law config graph stage past_entries (event ∷ events) goes_so_far crowded =
+    subst (λ entries. AreCrowded config.regions config.region_words graph (scripts_begun config (go (kind change config) (act (kind change config) stage event) events)) entries) (append_assoc past_entries (told config stage event) (history change config (act (kind change config) stage event) events))
+    (goes_crowded change law config graph (act (kind change config) stage event) (past_entries ++ told config stage event) events (goes_event change law config graph stage past_entries event goes_so_far)
+    (crowded_longer config.regions config.region_words graph (scripts_begun config stage) (scripts_begun config (act (kind change config) stage event)) (past_entries ++ told config stage event) (begun_grows change config stage event goes_so_far.follows.seats) (told_crowded change config graph stage past_entries goes_so_far crowded event)))
 
 -- Who is refused in a run from a stage that begins a graph was crowded out.
 pub run_crowded : (change : Change) → PausesByParts change → (config : Config) (stage : Stage Actor) (graph : Graph) → Begins config stage graph → (events : List (Event Order))
     → AreCrowded config.regions config.region_words graph (scripts_begun config (go (kind change config) stage events)) (history change config stage events)
-run_crowded change law config stage graph begins events = goes_crowded change law config graph stage [] events (goes_begins config stage graph begins) (λ k e there full. absurd (cc (there)))
+run_crowded change law config stage graph begins events = goes_crowded change law config graph stage [] events (goes_begins config stage graph begins) (λ index entry entry_there answered_full. absurd (cc (entry_there)))

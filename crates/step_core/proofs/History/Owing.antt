@@ -23,39 +23,39 @@ use Rattle.step_core.proofs.History.Entries.{after-append, legal-append}
 
 -- two worlds of equal parts are equal
 same_world : (world other_world : World) → world.memory ≡ other_world.memory → world.block ≡ other_world.block → world.ghost ≡ other_world.ghost → world.graph ≡ other_world.graph → world ≡ other_world
-same_world world other_world memory block ghost graph = λ address. record { memory = memory address; block = block address; ghost = ghost address; graph = graph address }
+same_world world other_world same_memory block ghost same_graph = λ address. record { memory = same_memory address; block = block address; ghost = ghost address; graph = same_graph address }
 
-module _ (config : Config) (graph : Graph) (stage : Stage Actor) (past : List Entry) (number : ℕ) (old new : Actor) (words : List ℕ) (settles : List Entry) where
+module _ (config : Config) (graph : Graph) (stage : Stage Actor) (past_entries : List Entry) (number : ℕ) (old new : Actor) (words : List ℕ) (settles : List Entry) where
   -- the stage after the event
   abbrev new_stage : Stage Actor
   new_stage = record { words = words; machines = slice_set stage.machines number new }
 
   -- the event puts the stage where it should be
-  pub follows_owes : (follows : Follows config graph stage past) → Owes config stage.words words (world_of config stage follows.block follows.ghost (after graph past)) past number stage.machines (settled config new_stage) settles new
-      → slice_get stage.machines number ≡ Some old → length words ≡ table_words config → Follows config graph new_stage (past ++ settles)
-  follows_owes follows owes here long =
-      let world_is : owes.world ≡ world_of config new_stage owes.world.block owes.world.ghost (after graph (past ++ settles)) =
-      same_world owes.world (world_of config new_stage owes.world.block owes.world.ghost (after graph (past ++ settles))) owes.memory_is refl refl (owes.graph_is ∙ sym (after-append graph past settles)) in
+  pub follows_owes : (past_follows : Follows config graph stage past_entries) → Owes config stage.words words (world_of config stage past_follows.block past_follows.ghost (after graph past_entries)) past_entries number stage.machines (settled config new_stage) settles new
+      → slice_get stage.machines number ≡ Some old → length words ≡ table_words config → Follows config graph new_stage (past_entries ++ settles)
+  follows_owes past_follows owes old_there table_length =
+      let world_is : owes.world ≡ world_of config new_stage owes.world.block owes.world.ghost (after graph (past_entries ++ settles)) =
+      same_world owes.world (world_of config new_stage owes.world.block owes.world.ghost (after graph (past_entries ++ settles))) owes.memory_is refl refl (owes.graph_is ∙ sym (after-append graph past_entries settles)) in
       record {
         block = owes.world.block;
         ghost = owes.world.ghost;
-        words = long;
-        seats = length-set stage.machines number new ∙ follows.seats;
-        legal = legal-append config.regions config.region_words graph past settles follows.legal owes.legal;
-        entries = All-append (IsSettled config.mutators) past settles follows.entries owes.entries;
-        no_more = subst (λ h. HasNoMoreRoots config.mutators h) (sym (after-append graph past settles)) (no_more_after config.mutators (after graph past) settles owes.entries follows.no_more);
-        no_more_pins = subst (λ h. HasNoMorePins config.mutators h) (sym (after-append graph past settles)) (no_more_pins_after config.mutators (after graph past) settles owes.entries follows.no_more_pins);
-        shared = subst (λ w. Shared config w) world_is owes.shared;
+        words = table_length;
+        seats = length-set stage.machines number new ∙ past_follows.seats;
+        legal = legal-append config.regions config.region_words graph past_entries settles past_follows.legal owes.legal;
+        entries = All-append (IsSettled config.mutators) past_entries settles past_follows.entries owes.entries;
+        no_more = subst (λ graph_after. HasNoMoreRoots config.mutators graph_after) (sym (after-append graph past_entries settles)) (no_more_after config.mutators (after graph past_entries) settles owes.entries past_follows.no_more);
+        no_more_pins = subst (λ graph_after. HasNoMorePins config.mutators graph_after) (sym (after-append graph past_entries settles)) (no_more_pins_after config.mutators (after graph past_entries) settles owes.entries past_follows.no_more_pins);
+        shared = subst (λ world. Shared config world) world_is owes.shared;
         promised_to = owes.promised_to;
-        machines = λ k a there.
-            subst (λ w. IsMachine config words w (of_thread (past ++ settles) (k + 1)) k a a.machine) world_is
+        machines = λ each_number actor actor_there.
+            subst (λ world. IsMachine config words world (of_thread (past_entries ++ settles) (each_number + 1)) each_number actor actor.machine) world_is
             (⊎_elim
-            (λ (same : k ≡ number).
-            let is : new ≡ a = same_Some new a (sym (slice_get-set_same stage.machines number old new here) ∙ ap (λ n. slice_get new_stage.machines n) (sym same) ∙ there) in
-            subst (λ n. IsMachine config words owes.world (of_thread (past ++ settles) (n + 1)) n a a.machine) (sym same)
-            (subst (λ b. IsMachine config words owes.world (of_thread (past ++ settles) (number + 1)) number b b.machine) is owes.own))
-            (λ (differs : k ≢ number).
-            let before : slice_get stage.machines k ≡ Some a = sym (slice_get-set_other stage.machines number k new differs) ∙ there in
-            owes.others k a differs before (follows.machines k a before))
-            (cases_eq k number));
+            (λ (same_number : each_number ≡ number).
+            let same_actor : new ≡ actor = same_Some new actor (sym (slice_get-set_same stage.machines number old new old_there) ∙ ap (λ machine_number. slice_get new_stage.machines machine_number) (sym same_number) ∙ actor_there) in
+            subst (λ machine_number. IsMachine config words owes.world (of_thread (past_entries ++ settles) (machine_number + 1)) machine_number actor actor.machine) (sym same_number)
+            (subst (λ given_actor. IsMachine config words owes.world (of_thread (past_entries ++ settles) (number + 1)) number given_actor given_actor.machine) same_actor owes.own))
+            (λ (numbers_differ : each_number ≢ number).
+            let actor_before : slice_get stage.machines each_number ≡ Some actor = sym (slice_get-set_other stage.machines number each_number new numbers_differ) ∙ actor_there in
+            owes.others each_number actor numbers_differ actor_before (past_follows.machines each_number actor actor_before))
+            (cases_eq each_number number));
       }

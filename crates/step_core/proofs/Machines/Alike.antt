@@ -44,7 +44,7 @@ is_of_handshake _ = false
 
 -- a store into such a word leaves the others
 alike_written : (memory : Word → ℕ) (word : Word) (value : ℕ) → is_of_handshake word ≡ true → AreAlike memory (write memory word value)
-alike_written memory Pause value is = record {
+alike_written memory Pause value handshake_word = record {
   phase = refl;
   cset = refl;
   evac = refl;
@@ -64,7 +64,7 @@ alike_written memory Pause value is = record {
   greys = λ n. refl;
   heap = λ a. refl;
 }
-alike_written memory Left value is = record {
+alike_written memory Left value handshake_word = record {
   phase = refl;
   cset = refl;
   evac = refl;
@@ -84,7 +84,7 @@ alike_written memory Left value is = record {
   greys = λ n. refl;
   heap = λ a. refl;
 }
-alike_written memory End value is = record {
+alike_written memory End value handshake_word = record {
   phase = refl;
   cset = refl;
   evac = refl;
@@ -104,7 +104,7 @@ alike_written memory End value is = record {
   greys = λ n. refl;
   heap = λ a. refl;
 }
-alike_written memory (State other) value is = record {
+alike_written memory (State other_seat) value handshake_word = record {
   phase = refl;
   cset = refl;
   evac = refl;
@@ -124,28 +124,28 @@ alike_written memory (State other) value is = record {
   greys = λ n. refl;
   heap = λ a. refl;
 }
-alike_written memory _ value is = absurd (cc (is))
+alike_written memory _ value handshake_word = absurd (cc (handshake_word))
 
 module _ (config : Config) (world : World) (memory : Word → ℕ) (seat : ℕ) (alike : AreAlike world.memory memory) where
   -- so current copies stay
   targets_alike : (address refs nums : ℕ) (name : Name) → TargetIn config world address refs nums name → TargetIn config (world_with world memory world.graph) address refs nums name
-  targets_alike address refs nums name is = record {
-    piece = is.piece;
-    safe = λ inside. subst IsQuiet (sym alike.evac) (is.safe (subst (λ set. IsCollected config set address) alike.cset inside));
+  targets_alike address refs nums name target_in = record {
+    piece = target_in.piece;
+    safe = λ region_collected. subst IsQuiet (sym alike.evac) (target_in.safe (subst (λ some_set. IsCollected config some_set address) alike.cset region_collected));
   }
 
   -- and what the facts of a seat stand on
   keeps_alike : Keeps config seat world (world_with world memory world.graph)
   keeps_alike = record {
-    names = λ a name is. is;
-    targets = λ address refs nums name is. targets_alike address refs nums name is;
-    promises = λ a words is. is;
-    no_promises = λ address words is. is;
-    promise_words = λ address words k is below. alike.heap (address + k);
-    root_words = λ i. alike.roots seat i;
-    roots = λ i. refl;
+    names = λ place name stood_there. stood_there;
+    targets = λ address refs nums name stood_there. targets_alike address refs nums name stood_there;
+    promises = λ place words stood_there. stood_there;
+    no_promises = λ address words stood_there. stood_there;
+    promise_words = λ address words offset stood_there word_below. alike.heap (address + offset);
+    root_words = λ slot. alike.roots seat slot;
+    roots = λ slot. refl;
     pin_words = λ index. alike.pins seat index;
-    pins = λ i. refl;
+    pins = λ slot. refl;
     count = refl;
     wait = alike.waits seat;
     answer = alike.answers seat;
@@ -156,32 +156,32 @@ module _ (config : Config) (world : World) (memory : Word → ℕ) (seat : ℕ) 
   -- and all that it relies on, where its state word does
   rely_alike : memory (State seat) ≡ world.memory (State seat) → Rely config seat world (world_with world memory world.graph)
   rely_alike state = record {
-    names = λ a name is. is;
-    targets = λ address refs nums name is. targets_alike address refs nums name is;
-    rooms = λ a x is room. is;
-    no_rooms = λ a x is room. is;
-    room_words = λ a k x is room below. alike.heap (a + k);
-    promises = λ a words is. is;
-    no_promises = λ address words is. is;
-    promise_words = λ address words k is below. alike.heap (address + k);
+    names = λ place name stood_there. stood_there;
+    targets = λ address refs nums name stood_there. targets_alike address refs nums name stood_there;
+    rooms = λ place piece stood_there room. stood_there;
+    no_rooms = λ place piece stood_there room. stood_there;
+    room_words = λ place offset piece stood_there room word_below. alike.heap (place + offset);
+    promises = λ place words stood_there. stood_there;
+    no_promises = λ address words stood_there. stood_there;
+    promise_words = λ address words offset stood_there word_below. alike.heap (address + offset);
     current = alike.currents seat;
-    opens = λ r is. record {
-      within = is.within;
-      in_use = λ bit. is.in_use (subst (λ free. IsIn free r) alike.free bit);
-      nobodys = is.nobodys;
-      outside = λ inside. is.outside (subst (λ set. IsIn set r) alike.cset inside);
+    opens = λ given_region stood_there. record {
+      within = stood_there.within;
+      in_use = λ bit. stood_there.in_use (subst (λ some_free. IsIn some_free given_region) alike.free bit);
+      nobodys = stood_there.nobodys;
+      outside = λ region_in_set. stood_there.outside (subst (λ some_set. IsIn some_set given_region) alike.cset region_in_set);
     };
-    owners = λ region is. is;
-    tops = λ r is. alike.tops r;
-    root_words = λ i. alike.roots seat i;
-    roots = λ i. refl;
+    owners = λ region stood_there. stood_there;
+    tops = λ given_region stood_there. alike.tops given_region;
+    root_words = λ slot. alike.roots seat slot;
+    roots = λ slot. refl;
     pin_words = λ index. alike.pins seat index;
-    pins = λ i. refl;
+    pins = λ slot. refl;
     count = refl;
     wait = alike.waits seat;
     answer = alike.answers seat;
     state = state;
-    asked = λ is. subst (λ n. bit_at n 1 ≡ 1) (sym alike.ask) is;
+    asked = λ stood_there. subst (λ ask_word. bit_at ask_word 1 ≡ 1) (sym alike.ask) stood_there;
     marks = marks_in config world memory world.graph seat alike.phase alike.greys alike.counts alike.buffers alike.heap;
     copies = copies_in config world memory world.graph seat alike.cset alike.evac alike.tops alike.heap;
     fields = fields_in config world memory world.graph alike.tams alike.limits alike.claim alike.heap;
@@ -189,12 +189,12 @@ module _ (config : Config) (world : World) (memory : Word → ℕ) (seat : ℕ) 
 
 -- the step of a load
 pub load_step : (config : Config) (world : World) (seat : ℕ) (word : Word) (facts : World → Type 0) → Shared config world → facts world → PartStep config world seat (touch word loads) facts
-load_step config world seat word facts shared own = record {
+load_step config world seat word facts shared own_facts = record {
   world = world;
   memory = load_keeps world.memory word;
   graph = refl;
   shared = shared;
-  own = own;
+  own = own_facts;
   keeps = keeps_of config seat world world (rely_same config seat world);
   others = λ seat differs. rely_same config seat world;
 }
@@ -202,12 +202,12 @@ load_step config world seat word facts shared own = record {
 -- and of a store into a word of the handshake, which is no state word of another machine
 pub store_step : (config : Config) (world : World) (seat : ℕ) (word : Word) (value : ℕ) (facts : World → Type 0) → is_of_handshake word ≡ true → ((other_seat : ℕ) → other_seat ≢ seat → write world.memory word value (State other_seat) ≡ world.memory (State other_seat))
     → Shared config (world_with world (write world.memory word value) world.graph) → facts (world_with world (write world.memory word value) world.graph) → PartStep config world seat (touch word (stores value)) facts
-store_step config world seat word value facts is states shared own = record {
+store_step config world seat word value facts handshake_word states shared own_facts = record {
   world = world_with world (write world.memory word value) world.graph;
   memory = refl;
   graph = refl;
   shared = shared;
-  own = own;
-  keeps = keeps_alike config world (write world.memory word value) seat (alike_written world.memory word value is);
-  others = λ other_seat differs. rely_alike config world (write world.memory word value) other_seat (alike_written world.memory word value is) (states other_seat differs);
+  own = own_facts;
+  keeps = keeps_alike config world (write world.memory word value) seat (alike_written world.memory word value handshake_word);
+  others = λ other_seat differs. rely_alike config world (write world.memory word value) other_seat (alike_written world.memory word value handshake_word) (states other_seat differs);
 }

@@ -39,7 +39,7 @@ leaves_is_prop _ got = hlevel
 -- of a unit of evacuation
 evacuation_is_prop : (config : Config) (seat : ℕ) (spot : EvacSpot) (got : ℕ) → IsProp (units.PartFit config seat spot got)
 evacuation_is_prop config seat (evac.LoadTop region) got = hlevel Bool-set
-evacuation_is_prop config seat (evac.Resolving address end next spot) got = hlevel (Bool-set, leaves_is_prop spot got)
+evacuation_is_prop config seat (evac.Resolving address end next_piece spot) got = hlevel (Bool-set, leaves_is_prop spot got)
 evacuation_is_prop config seat _ got = hlevel
 
 -- of a unit, of the control and of a helper

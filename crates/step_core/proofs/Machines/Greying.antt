@@ -73,12 +73,12 @@ kind GO = 2
 kind _ = 0
 
 kind_claims : (place : Place) → kind place ≡ 1 → place ≡ MC
-kind_claims MC is = refl
-kind_claims _ is = absurd (cc (is))
+kind_claims MC claim_kind = refl
+kind_claims _ claim_kind = absurd (cc (claim_kind))
 
 kind_greys : (place : Place) → kind place ≡ 2 → place ≡ GO
-kind_greys GO is = refl
-kind_greys _ is = absurd (cc (is))
+kind_greys GO grey_kind = refl
+kind_greys _ grey_kind = absurd (cc (grey_kind))
 
 -- the kind that goes with an address that is made grey
 abbrev by_greyed : Option ℕ → ℕ
@@ -161,7 +161,7 @@ by_work true greyed = 1
 by_work false greyed = by_greyed greyed
 
 evac_kind : (spot : EvacSpot) → kind (evacs.place_at spot) ≡ 0
-evac_kind (evac.Resolving address end next spot) = resolve_kind spot
+evac_kind (evac.Resolving address end next_piece spot) = resolve_kind spot
 evac_kind _ = refl
 
 update_kind : (spot : UpdateSpot) → kind (updates.place_at spot) ≡ 0
@@ -170,56 +170,56 @@ update_kind (update.Ended NoneLeft) = refl
 update_kind _ = refl
 
 scan_kind : (spot : ScanSpot) → not (scans.is_ended spot) ≡ true → kind (scans.place_at spot) ≡ by_work (units.takes_hint (Scanning spot)) (scans.greys_at spot)
-scan_kind (scan.Ended unit) goes = absurd (cc (goes))
-scan_kind _ goes = refl
+scan_kind (scan.Ended unit) goes_on = absurd (cc (goes_on))
+scan_kind _ goes_on = refl
 
 unit_kind : (spot : UnitSpot) → scans_on spot ≡ true → kind (units.place_at spot) ≡ by_work (units.takes_hint spot) (units.greys_at spot)
-unit_kind (Scanning spot) goes = scan_kind spot goes
-unit_kind (Evacuating cset spot) goes = evac_kind spot
-unit_kind (Updating cset spot) goes = update_kind spot
-unit_kind (Ended unit) goes = refl
+unit_kind (Scanning spot) scans_here = scan_kind spot scans_here
+unit_kind (Evacuating cset spot) scans_here = evac_kind spot
+unit_kind (Updating cset spot) scans_here = update_kind spot
+unit_kind (Ended unit) scans_here = refl
 
 stop_kind : (spot : StopSpot) → kind (stops.place_at spot) ≡ 0
 stop_kind stop.Raise = refl
 stop_kind _ = refl
 
 help_kind : (spot : HelpSpot) → scans_on (help_unit spot) ≡ true → kind (helpers.place_at spot) ≡ by_work (helpers.takes_hint spot) (helpers.greys_at spot)
-help_kind (help.Working spot) goes = unit_kind spot goes
-help_kind (help.Entering spot) goes = enter_kind spot
-help_kind _ goes = refl
+help_kind (help.Working spot) scans_here = unit_kind spot scans_here
+help_kind (help.Entering spot) scans_here = enter_kind spot
+help_kind _ scans_here = refl
 
 control_kind : (spot : ControlSpot) → scans_on (control_unit spot) ≡ true → kind (controls.control_place spot) ≡ by_work (controls.takes_hint spot) (controls.greys_at spot)
-control_kind (control.Working spot) goes = unit_kind spot goes
-control_kind (control.Stopping spot) goes = stop_kind spot
-control_kind _ goes = refl
+control_kind (control.Working spot) scans_here = unit_kind spot scans_here
+control_kind (control.Stopping spot) scans_here = stop_kind spot
+control_kind _ scans_here = refl
 
 -- a machine
 machine_kind : (machine : Machine) → scans_on (unit_in machine) ≡ true → kind (place_in Nothing machine) ≡ by_work (takes_hint machine) (greys_of machine)
-machine_kind (mutating mutator) goes = spot_kind mutator.spot
-machine_kind (helping helper) goes = help_kind helper.spot goes
-machine_kind (controlling k) goes = control_kind k.spot goes
+machine_kind (mutating mutator) scans_here = spot_kind mutator.spot
+machine_kind (helping helper) scans_here = help_kind helper.spot scans_here
+machine_kind (controlling controller) scans_here = control_kind controller.spot scans_here
 
 claims_by : (holds : Bool) (greyed : Option ℕ) → by_work holds greyed ≡ 1 → holds ≡ true
-claims_by true greyed is = refl
-claims_by false None is = absurd (cc (is))
-claims_by false (Some address) is = absurd (cc (is))
+claims_by true greyed claim_kind = refl
+claims_by false None claim_kind = absurd (cc (claim_kind))
+claims_by false (Some address) claim_kind = absurd (cc (claim_kind))
 
 taken_there : (machine : Machine) → scans_on (unit_in machine) ≡ true → (takes_hint machine ≡ true) ↔ (place_in Nothing machine ≡ MC)
-taken_there machine goes = (
-  (λ takes_it. kind_claims (place_in Nothing machine) (machine_kind machine goes ∙ ap (λ b. by_work b (greys_of machine)) takes_it)),
-  (λ there. claims_by (takes_hint machine) (greys_of machine) (sym (machine_kind machine goes) ∙ ap kind there)),
+taken_there machine scans_here = (
+  (λ takes_it. kind_claims (place_in Nothing machine) (machine_kind machine scans_here ∙ ap (λ is_taken. by_work is_taken (greys_of machine)) takes_it)),
+  (λ claims_there. claims_by (takes_hint machine) (greys_of machine) (sym (machine_kind machine scans_here) ∙ ap kind claims_there)),
 )
 
 -- where a scan has ended no address is made grey either
 scan_greys : (spot : ScanSpot) → (scans.greys_at spot ≡ None) ↔ (scans.place_at spot ≡ GO → ⊥)
-scan_greys (scan.SetGrey address field refs found) = ((λ none. absurd (cc (none))), (λ not_there. absurd (not_there refl)))
-scan_greys (scan.Ended Worked) = ((λ none there. cc), (λ not_there. refl))
-scan_greys (scan.Ended NoneLeft) = ((λ none there. cc), (λ not_there. refl))
-scan_greys _ = ((λ none there. cc), (λ not_there. refl))
+scan_greys (scan.SetGrey address field refs found) = ((λ no_grey. absurd (cc (no_grey))), (λ not_there. absurd (not_there refl)))
+scan_greys (scan.Ended Worked) = ((λ no_grey greys_there. cc), (λ not_there. refl))
+scan_greys (scan.Ended NoneLeft) = ((λ no_grey greys_there. cc), (λ not_there. refl))
+scan_greys _ = ((λ no_grey greys_there. cc), (λ not_there. refl))
 
 greyed_by : (place : Place) (greyed : Option ℕ) → kind place ≡ by_greyed greyed → (greyed ≡ None) ↔ (place ≡ GO → ⊥)
-greyed_by place None is = ((λ none there. (let a = is in let two = ap kind there in omega (arith, a, two))), (λ not_there. refl))
-greyed_by place (Some address) is = ((λ none. absurd (cc (none))), (λ not_there. absurd (not_there (kind_greys place is))))
+greyed_by place None kind_is = ((λ no_grey greys_there. (let own_kind = kind_is in let grey_kind = ap kind greys_there in omega (arith, own_kind, grey_kind))), (λ not_there. refl))
+greyed_by place (Some address) kind_is = ((λ no_grey. absurd (cc (no_grey))), (λ not_there. absurd (not_there (kind_greys place kind_is))))
 
 unit_greys : (spot : UnitSpot) → (units.greys_at spot ≡ None) ↔ (units.place_at spot ≡ GO → ⊥)
 unit_greys (Scanning spot) = scan_greys spot
@@ -240,7 +240,7 @@ control_greys spot = greyed_by (controls.control_place spot) None refl
 greyed_there : (machine : Machine) → (greys_of machine ≡ None) ↔ (place_in Nothing machine ≡ GO → ⊥)
 greyed_there (mutating mutator) = greyed_by (mutators.place_at Nothing mutator.spot) (mutators.greys_at mutator.spot) (spot_kind mutator.spot)
 greyed_there (helping helper) = help_greys helper.spot
-greyed_there (controlling k) = control_greys k.spot
+greyed_there (controlling controller) = control_greys controller.spot
 
 pub places_of_hints : HintsHavePlaces
 places_of_hints = record { taken = taken_there; greyed = greyed_there }

@@ -25,22 +25,22 @@ use Rattle.step_core.proofs.Machines.Owed.{CanWork, HelpFacts, ControlFacts, IsH
 module _ (config : Config) (world : World) (seat : ℕ) where
   -- in a unit
   scan_hinted : (address : ℕ) (spot : ScanSpot) → CanWork config world seat (Scanning spot) → CanWork config world seat (units.hinted_by config (Some address) (Scanning spot))
-  scan_hinted address scan.LoadClaim can = (scanning_steps.hinted config world seat address can.0, can.1, can.2, can.3)
-  scan_hinted address (scan.ClaimUnit unit) can = can
-  scan_hinted address (scan.LoadGrey word) can = can
-  scan_hinted address (scan.LoadBlack word grey) can = can
-  scan_hinted address (scan.SetBlack other_address) can = can
-  scan_hinted address (scan.LoadShape other_address) can = can
-  scan_hinted address (scan.LoadField other_address field refs) can = can
-  scan_hinted address (scan.SetGrey other_address field refs found) can = can
-  scan_hinted address (scan.Ended which) can = can
+  scan_hinted address scan.LoadClaim can_work = (scanning_steps.hinted config world seat address can_work.0, can_work.1, can_work.2, can_work.3)
+  scan_hinted address (scan.ClaimUnit unit) can_work = can_work
+  scan_hinted address (scan.LoadGrey word) can_work = can_work
+  scan_hinted address (scan.LoadBlack word grey) can_work = can_work
+  scan_hinted address (scan.SetBlack scanned_address) can_work = can_work
+  scan_hinted address (scan.LoadShape scanned_address) can_work = can_work
+  scan_hinted address (scan.LoadField scanned_address field refs) can_work = can_work
+  scan_hinted address (scan.SetGrey scanned_address field refs found) can_work = can_work
+  scan_hinted address (scan.Ended ending) can_work = can_work
 
   pub work_hinted : (hint : Option ℕ) (spot : UnitSpot) → CanWork config world seat spot → CanWork config world seat (units.hinted_by config hint spot)
-  work_hinted None spot can = can
-  work_hinted (Some address) (Scanning spot) can = scan_hinted address spot can
-  work_hinted (Some address) (Evacuating cset spot) can = can
-  work_hinted (Some address) (Updating cset spot) can = can
-  work_hinted (Some address) (Ended which) can = can
+  work_hinted None spot can_work = can_work
+  work_hinted (Some address) (Scanning spot) can_work = scan_hinted address spot can_work
+  work_hinted (Some address) (Evacuating cset spot) can_work = can_work
+  work_hinted (Some address) (Updating cset spot) can_work = can_work
+  work_hinted (Some address) (Ended ending) can_work = can_work
 
   -- wherever a helper stands
   help_facts : (hint : Option ℕ) (spot : HelpSpot) → HelpFacts config world seat spot → HelpFacts config world seat (helpers.hinted_by config hint spot)
@@ -53,26 +53,26 @@ module _ (config : Config) (world : World) (seat : ℕ) where
   help_facts hint help.Gone facts = facts
 
   pub help_hinted_is : (hint : Option ℕ) (helper : Helping) → IsHelper config world seat helper → IsHelper config world seat (help_hinted config hint helper)
-  help_hinted_is None helper is = is
-  help_hinted_is (Some address) helper is = record {
-    number_is = is.number_is;
-    ready = helped.help_hinted_ready config (Some address) helper is.ready;
-    facts = help_facts (Some address) helper.spot is.facts;
-    least = is.least;
-    below = is.below;
+  help_hinted_is None helper is_helper = is_helper
+  help_hinted_is (Some address) helper is_helper = record {
+    number_is = is_helper.number_is;
+    ready = helped.help_hinted_ready config (Some address) helper is_helper.ready;
+    facts = help_facts (Some address) helper.spot is_helper.facts;
+    least = is_helper.least;
+    below = is_helper.below;
   }
 
   -- and wherever the control does
   pub control_hinted_is : (words : List ℕ) (hint : Option ℕ) (control : Controlling) → IsControl config words world seat control → IsControl config words world seat (control_hinted config hint control)
-  control_hinted_is words None control is = is
-  control_hinted_is words (Some address) control is = record {
-    number_is = is.number_is;
-    ready = controlled.hinted_ready config (Some address) control.spot is.ready;
-    phase_is = is.phase_is;
-    set_is = is.set_is;
-    facts = controlled.by_unit config (λ spot next. ControlFacts config world seat spot → ControlFacts config world seat next) (Some address) (λ spot facts. facts) (λ at facts. work_hinted (Some address) at facts) control.spot is.facts;
-    aims = controlled.by_unit config (λ spot next. IsAim config words spot control.image → IsAim config words next control.image) (Some address) (λ spot aims. aims) (λ at aims. tt) control.spot is.aims;
-    extent_is = controlled.by_unit config (λ spot next. IsOfExtent config control.phase spot control.image → IsOfExtent config control.phase next control.image) (Some address) (λ spot extent. extent) (λ at extent. tt) control.spot is.extent_is;
+  control_hinted_is words None control is_control = is_control
+  control_hinted_is words (Some address) control is_control = record {
+    number_is = is_control.number_is;
+    ready = controlled.hinted_ready config (Some address) control.spot is_control.ready;
+    phase_is = is_control.phase_is;
+    set_is = is_control.set_is;
+    facts = controlled.by_unit config (λ spot next_spot. ControlFacts config world seat spot → ControlFacts config world seat next_spot) (Some address) (λ spot facts. facts) (λ unit_spot facts. work_hinted (Some address) unit_spot facts) control.spot is_control.facts;
+    aims = controlled.by_unit config (λ spot next_spot. IsAim config words spot control.image → IsAim config words next_spot control.image) (Some address) (λ spot aims. aims) (λ unit_spot aims. tt) control.spot is_control.aims;
+    extent_is = controlled.by_unit config (λ spot next_spot. IsOfExtent config control.phase spot control.image → IsOfExtent config control.phase next_spot control.image) (Some address) (λ spot extent. extent) (λ unit_spot extent. tt) control.spot is_control.extent_is;
   }
 
 module _ (config : Config) where
@@ -100,7 +100,7 @@ module _ (config : Config) where
 
   pub control_hinted_stands : (hint : Option ℕ) (control : Controlling) → control_standing (control_hinted config hint control).spot ≡ control_standing control.spot
   control_hinted_stands None control = refl
-  control_hinted_stands (Some address) control = controlled.by_unit config (λ spot next. control_standing next ≡ control_standing spot) (Some address) (λ spot. refl) (λ at. refl) control.spot
+  control_hinted_stands (Some address) control = controlled.by_unit config (λ spot next_spot. control_standing next_spot ≡ control_standing spot) (Some address) (λ spot. refl) (λ unit_spot. refl) control.spot
 
   pub control_hinted_gone : (hint : Option ℕ) (control : Controlling) → controls.is_gone (control_hinted config hint control).spot ≡ controls.is_gone control.spot
   control_hinted_gone None control = refl
@@ -109,4 +109,4 @@ module _ (config : Config) where
   -- and so is the image that counts
   pub control_hinted_image : (hint : Option ℕ) (control : Controlling) → stored_image (control_hinted config hint control).spot (control_hinted config hint control).image ≡ stored_image control.spot control.image
   control_hinted_image None control = refl
-  control_hinted_image (Some address) control = controlled.by_unit config (λ spot next. stored_image next control.image ≡ stored_image spot control.image) (Some address) (λ spot. refl) (λ at. refl) control.spot
+  control_hinted_image (Some address) control = controlled.by_unit config (λ spot next_spot. stored_image next_spot control.image ≡ stored_image spot control.image) (Some address) (λ spot. refl) (λ unit_spot. refl) control.spot

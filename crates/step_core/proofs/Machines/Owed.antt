@@ -1,4 +1,5 @@
 -- What holds of the machines of a stage, and what an event owes.
+use Rattle.heap_words.specs.Phases.{idle_phase}
 use Rattle.std.specs.Prelude.{ℕ, ◌≡◌, ◌≢◌, ◌+◌, ◌-◌, ◌*◌, ◌<◌, ◌≤◌, ◌==◌, ◌⊎◌, nat_le, true, false, List, ◌++◌, length, Option, Some, None, slice_get, sum_by, if◌then◌else◌, All}
 use Rattle.heap_words.specs.declared.config.Config.{Config}
 use Rattle.heap_words.specs.Encoding.{object_words}
@@ -101,7 +102,7 @@ CanWork config world seat (Ended NoneLeft) = IsResting world seat × IsDue confi
 -- elsewhere it rests.
 abbrev pub HelpFacts : Config → World → ℕ → HelpSpot → Type 0
 HelpFacts config world seat (help.Working spot) = CanWork config world seat spot
-HelpFacts config world seat (help.LoadSet phase) = IsResting world seat × (phase ≢ 0) × (phase ≡ world.memory Phase)
+HelpFacts config world seat (help.LoadSet phase) = IsResting world seat × (phase ≢ idle_phase) × (phase ≡ world.memory Phase)
 HelpFacts config world seat _ = IsResting world seat
 
 -- what holds of a helper: it has its number as its seat, and can make its next access
@@ -116,7 +117,7 @@ pub record IsHelper (config : Config) (world : World) (number : ℕ) (helper : H
 -- alone, and where it has begun a pause and until it has read the image, that pause is due.
 abbrev pub ControlFacts : Config → World → ℕ → ControlSpot → Type 0
 ControlFacts config world number (Working spot) = CanWork config world number spot
-ControlFacts config world number LookFree = IsResting world number × (world.memory Phase ≡ 0)
+ControlFacts config world number LookFree = IsResting world number × (world.memory Phase ≡ idle_phase)
 ControlFacts config world number (Stopping spot) = IsResting world number × IsDue config world.memory
 ControlFacts config world number (LoadWord index extent) = IsResting world number × IsDue config world.memory
 ControlFacts config world number _ = IsResting world number

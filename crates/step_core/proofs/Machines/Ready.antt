@@ -28,34 +28,34 @@ use Rattle.heap_world.proofs.Pointing.{piece_word, piece_small}
 use Rattle.alloc_buffers.specs.Facts.{OnlySpares}
 
 -- an access can be made whose word is one of the table and whose number is a word
-pub ready_of : (holds other_holds : Bool) → holds ≡ true → other_holds ≡ true → ((holds && other_holds) && true) ≡ true
-ready_of holds other_holds is_b is_d = rw (is_b, is_d) refl
+pub ready_of : (holds number_holds : Bool) → holds ≡ true → number_holds ≡ true → ((holds && number_holds) && true) ≡ true
+ready_of holds number_holds word_fits number_fits = rw (word_fits, number_fits) refl
 
 -- a small number is one that a word holds
-pub number_small : (n : ℕ) → n < 2 ^ 32 → is_number n ≡ true
-number_small n small = lt-ltb n (2 ^ 64) (omega arith)
+pub number_small : (number : ℕ) → number < 2 ^ 32 → is_number number ≡ true
+number_small number number_below = lt-ltb number (2 ^ 64) (omega arith)
 
 -- a state word of a mutator is one of the table
 pub state_word : (config : Config) (seat : ℕ) → seat < config.mutators → nat_lt seat (config.mutators + config.helpers) ≡ true
-state_word config seat below = lt-ltb _ _ (omega (arith, below))
+state_word config seat seat_below = lt-ltb _ _ (omega (arith, seat_below))
 
 -- a mutator between two calls can begin one
 pub rest_ready : (config : Config) (seat made : ℕ) (kept : Kept) (spot : Spot) → takes_commands spot ≡ true → seat < config.mutators → is_ready config seat made kept spot ≡ true
-rest_ready config seat made kept Rest takes below = ready_of _ true (state_word config seat below) refl
-rest_ready config seat made kept (Ended reply) takes below = ready_of _ true (state_word config seat below) refl
-rest_ready config seat made kept _ takes below = absurd (cc (takes))
+rest_ready config seat made kept Rest takes seat_below = ready_of _ true (state_word config seat seat_below) refl
+rest_ready config seat made kept (Ended reply) takes seat_below = ready_of _ true (state_word config seat seat_below) refl
+rest_ready config seat made kept _ takes seat_below = absurd (cc (takes))
 
 -- of the seat of a mutator that waits it is not said what it has asked for
 pub seated_waiting : (config : Config) (world : World) (seat made : ℕ) (waiting : Bool) → IsSeatedIn config world seat made waiting → IsSeatedIn config world seat made true
-seated_waiting config world seat made waiting seated = record { below = seated.below; counted = seated.counted; usable = seated.usable; unasked = λ no. absurd (cc (no)) }
+seated_waiting config world seat made waiting seated = record { below = seated.below; counted = seated.counted; usable = seated.usable; unasked = λ not_waiting. absurd (cc (not_waiting)) }
 
 -- a mutator can always leave
 leave_ready : (config : Config) (seat made : ℕ) (kept : Kept) (reply : Reply) → seat < config.mutators → is_ready config seat made kept (Leave reply) ≡ true
-leave_ready config seat made kept reply below = grind (arith, nat_tests)
+leave_ready config seat made kept reply seat_below = grind (arith, nat_tests)
 
 -- who has no room but free words of its buffer has none in hand
 pub no_hand : (world : World) (seat : ℕ) → OnlySpares world seat → (address words : ℕ) → world.block address ≡ Some (hand seat words) → ⊥
-no_hand world seat rooms address words is = let other = (rooms address (hand seat words) is refl).1 in cc
+no_hand world seat rooms address words hand_there = let not_hand = (rooms address (hand seat words) hand_there refl).1 in cc
 
 -- with its reply settled, a mutator has only to leave
 pub leaving : (config : Config) (world : World) (seat made : ℕ) (kept : Kept) (command : Command) (reply : Reply) → IsSeatedIn config world seat made false
@@ -65,16 +65,16 @@ pub leaving : (config : Config) (world : World) (seat made : ℕ) (kept : Kept) 
 leaving config world seat made kept command reply seated idle roots rooms = record {
   seated = seated;
   ready = leave_ready config seat made kept reply seated.below;
-  marking = record { records = idle.0; scans = idle.1; phase_is = λ no. absurd (cc (no)) };
-  copying = record { copies_is = idle.2; works_none = idle.3; set_is = λ no. absurd (cc (no)) };
+  marking = record { records = idle.0; scans = idle.1; phase_is = λ impossible. absurd (cc (impossible)) };
+  copying = record { copies_is = idle.2; works_none = idle.3; set_is = λ impossible. absurd (cc (impossible)) };
   roots = roots;
   rooms = rooms;
   facts = refl;
 }
 
 -- the words of a new object are words of 64 bits
-fresh_small : (seat made refs nums k : ℕ) → seat < 8 → made < most_objects → refs ≤ 16 → nums ≤ 16 → fresh_word seat made refs nums k < 2 ^ 64
-fresh_small seat made refs nums k few_seats few_made few_refs few_nums = grind (arith, nat_tests)
+fresh_small : (seat made refs nums offset : ℕ) → seat < 8 → made < most_objects → refs ≤ 16 → nums ≤ 16 → fresh_word seat made refs nums offset < 2 ^ 64
+fresh_small seat made refs nums offset few_seats few_made few_refs few_nums = grind (arith, nat_tests)
 
 module _ (config : Config) (seat made : ℕ) (kept : Kept) (command : Command) (fixed : Option Reply) (making : IsMaking made command fixed (dst_of kept.command) (refs_of kept.command) (nums_of kept.command)) where
   abbrev refs : ℕ
@@ -88,40 +88,40 @@ module _ (config : Config) (seat made : ℕ) (kept : Kept) (command : Command) (
   object_fits = and_from _ _ (lt-ltb _ _ making.few) (and_from _ _ (le-leb _ _ making.few_refs) (le-leb _ _ making.few_nums))
 
   -- the accesses of a taking can be made
-  pub taking_ready : (take : TakeSpot) → touch_fits config (takes.touch_at seat (3 + refs + nums) take) ≡ true → is_going take ≡ true → takes.numbers_fit config (3 + refs + nums) take ≡ true
-      → is_ready config seat made kept (Making (make.Taking take)) ≡ true
-  taking_ready take fits going numbers = and_from _ _ fits (and_from _ _ object_fits (and_from _ _ going numbers))
+  pub taking_ready : (take_spot : TakeSpot) → touch_fits config (takes.touch_at seat (3 + refs + nums) take_spot) ≡ true → is_going take_spot ≡ true → takes.numbers_fit config (3 + refs + nums) take_spot ≡ true
+      → is_ready config seat made kept (Making (make.Taking take_spot)) ≡ true
+  taking_ready take_spot touch_is_fit spot_going numbers = and_from _ _ touch_is_fit (and_from _ _ object_fits (and_from _ _ spot_going numbers))
 
-  module _ (top : ℕ → ℕ) (block : Plot) (plotted : IsPlotted config top block) (address : ℕ) (room : block address ≡ Some (hand seat (3 + refs + nums))) (mutator : seat < config.mutators) where
+  module _ (top : ℕ → ℕ) (block : Plot) (plotted : IsPlotted config top block) (address : ℕ) (room_there : block address ≡ Some (hand seat (3 + refs + nums))) (seat_below : seat < config.mutators) where
     -- the words of the object can be stored
-    pub word_ready : (done : ℕ) → done < 3 + refs + nums → is_ready config seat made kept (Making (make.StoreWord address done)) ≡ true
-    word_ready done below =
-        let few : seat < 8 = (let most = config.in_range.most_mutators in omega (arith, mutator, most)) in
+    pub word_ready : (stored_words : ℕ) → stored_words < 3 + refs + nums → is_ready config seat made kept (Making (make.StoreWord address stored_words)) ≡ true
+    word_ready stored_words done_below =
+        let few_seats : seat < 8 = (let most_mutators = config.in_range.most_mutators in omega (arith, seat_below, most_mutators)) in
         and_from _ _
         (and_from _ _
-        (piece_word config top block plotted address done (hand seat (3 + refs + nums)) room below)
-        (lt-ltb _ _ (fresh_small seat made refs nums done few making.few making.few_refs making.few_nums)))
-        (and_from _ _ object_fits (lt-ltb _ _ below))
+        (piece_word config top block plotted address stored_words (hand seat (3 + refs + nums)) room_there done_below)
+        (lt-ltb _ _ (fresh_small seat made refs nums stored_words few_seats making.few making.few_refs making.few_nums)))
+        (and_from _ _ object_fits (lt-ltb _ _ done_below))
 
     -- its address can be stored into a root
     pub fresh_ready : is_ready config seat made kept (Making (make.StoreRoot address)) ≡ true
     fresh_ready =
         and_from _ _
-        (and_from _ _ (and_from _ _ (lt-ltb _ _ mutator) (lt-ltb _ _ making.small)) (number_small address (piece_small config top block plotted address (hand seat (3 + refs + nums)) room)))
+        (and_from _ _ (and_from _ _ (lt-ltb _ _ seat_below) (lt-ltb _ _ making.small)) (number_small address (piece_small config top block plotted address (hand seat (3 + refs + nums)) room_there)))
         (and_from _ _ object_fits refl)
 
   -- the object can be asked for
   pub request_ready : seat < config.mutators → is_ready config seat made kept (Waiting wait.StoreRequest) ≡ true
-  request_ready below =
-      let few = making.few in
+  request_ready seat_below =
+      let few_seats = making.few in
       let few_refs = making.few_refs in
       let few_nums = making.few_nums in
-      and_from _ _ (and_from _ _ (lt-ltb _ _ below) (lt-ltb (request_of made kept.command) (2 ^ 64) (omega (arith, few, few_refs, few_nums)))) object_fits
+      and_from _ _ (and_from _ _ (lt-ltb _ _ seat_below) (lt-ltb (request_of made kept.command) (2 ^ 64) (omega (arith, few_seats, few_refs, few_nums)))) object_fits
 
   -- once it was made, its address can be stored into a root
   pub given_ready : (top : ℕ → ℕ) (block : Plot) (address : ℕ) → IsPlotted config top block → block address ≡ Some (promised seat (3 + refs + nums)) → seat < config.mutators
       → is_ready config seat made kept (Waiting (wait.StoreRoot address)) ≡ true
-  given_ready top block address plotted here below =
+  given_ready top block address plotted promise_there seat_below =
       and_from _ _
-      (and_from _ _ (and_from _ _ (lt-ltb _ _ below) (lt-ltb _ _ making.small)) (number_small address (piece_small config top block plotted address (promised seat (3 + refs + nums)) here)))
+      (and_from _ _ (and_from _ _ (lt-ltb _ _ seat_below) (lt-ltb _ _ making.small)) (number_small address (piece_small config top block plotted address (promised seat (3 + refs + nums)) promise_there)))
       (lt-ltb _ _ making.few)

@@ -30,7 +30,7 @@ module _ (config : Config) (world : World) (seat made : ℕ) (kept : Kept) (comm
 
   -- nothing is asked for
   not_asked : (spot : Spot) → is_waiting spot ≡ false → FitsSpot spot nothing → Mine config world (mutator_at seat made kept spot) command fixed → Asked spot
-  not_asked spot quiet fits mine = record { asking = nothing; is = mine.seated.unasked quiet; of_command = tt; at_spot = fits; heard = λ asked later. cc }
+  not_asked spot quiet fits own_facts = record { asking = nothing; is = own_facts.seated.unasked quiet; of_command = tt; at_spot = fits; heard = λ asked later. cc }
 
   -- it asks, or has asked, for an object
   asks_for : (spot : Spot) → FitsSpot spot (asks (refs_of kept.command) (nums_of kept.command)) → (spot ≢ Waiting wait.AskRoom → bit_at (world.memory Ask) 1 ≡ 1)
@@ -53,37 +53,37 @@ module _ (config : Config) (world : World) (seat made : ℕ) (kept : Kept) (comm
   }
 
   polls_for : IsPolling world seat made kept.command command fixed → Asked (Waiting wait.Poll)
-  polls_for (inl waits) = asks_for (Waiting wait.Poll) (λ none. cc) (λ later. waits.1) waits.0
-  polls_for (inr (inl has)) = was_given (Waiting wait.Poll) (λ none. cc) has
-  polls_for (inr (inr is)) = record { asking = refused; is = is.1; of_command = tt; at_spot = λ none. cc; heard = λ asked later. cc }
+  polls_for (inl waits) = asks_for (Waiting wait.Poll) (λ not_spot. cc) (λ later. waits.1) waits.0
+  polls_for (inr (inl has_given)) = was_given (Waiting wait.Poll) (λ not_spot. cc) has_given
+  polls_for (inr (inr is_refused)) = record { asking = refused; is = is_refused.1; of_command = tt; at_spot = λ not_spot. cc; heard = λ asked later. cc }
 
   is_told : (spot : Spot) → FitsSpot spot (given (refs_of kept.command) (nums_of kept.command)) → FitsSpot spot refused → IsAnswered world seat made kept.command command fixed → Asked spot
-  is_told spot has none (inl answer) = was_given spot has answer
-  is_told spot has none (inr full) = record { asking = refused; is = full.1; of_command = tt; at_spot = none; heard = λ asked later. cc }
+  is_told spot fits_given fits_refused (inl answer) = was_given spot fits_given answer
+  is_told spot fits_given fits_refused (inr full_answer) = record { asking = refused; is = full_answer.1; of_command = tt; at_spot = fits_refused; heard = λ asked later. cc }
 
   pub has_asked : (spot : Spot) → is_clearing spot ≡ false → Mine config world (mutator_at seat made kept spot) command fixed → Asked spot
-  has_asked (Waiting wait.StoreRequest) going mine = record { asking = nothing; is = mine.facts.1; of_command = tt; at_spot = refl; heard = λ asked later. cc }
-  has_asked (Waiting wait.AskRoom) going mine = asks_for (Waiting wait.AskRoom) refl (λ later. absurd (later refl)) mine.facts
-  has_asked (Waiting wait.StepOut) going mine = asks_for (Waiting wait.StepOut) refl (λ later. mine.facts.1) mine.facts.0
-  has_asked (Waiting wait.Poll) going mine = polls_for mine.facts
-  has_asked (Waiting wait.LoadAnswer) going mine = is_told (Waiting wait.LoadAnswer) refl refl mine.facts
-  has_asked (Waiting (wait.StoreRoot address)) going mine = was_given (Waiting (wait.StoreRoot address)) refl mine.facts.0
-  has_asked (Waiting (wait.ClearAnswer reply)) going mine = absurd (cc (going))
-  has_asked (Entering spot Waited) going mine = is_told (Entering spot Waited) refl refl mine.facts
-  has_asked (Entering spot Call) going mine = not_asked (Entering spot Call) refl refl mine
-  has_asked Rest going mine = not_asked Rest refl refl mine
-  has_asked (Ended reply) going mine = not_asked (Ended reply) refl refl mine
-  has_asked LoadPhase going mine = not_asked LoadPhase refl refl mine
-  has_asked LoadSet going mine = not_asked LoadSet refl refl mine
-  has_asked (Loading spot) going mine = not_asked (Loading spot) refl refl mine
-  has_asked (OnField object spot) going mine = not_asked (OnField object spot) refl refl mine
-  has_asked (Resolving address spot next) going mine = not_asked (Resolving address spot next) refl refl mine
-  has_asked (Recording spot address next) going mine = not_asked (Recording spot address next) refl refl mine
-  has_asked (OnNumber object refs spot) going mine = not_asked (OnNumber object refs spot) refl refl mine
-  has_asked (Showing value spot) going mine = not_asked (Showing value spot) refl refl mine
-  has_asked (StoreRoot value) going mine = not_asked (StoreRoot value) refl refl mine
-  has_asked (Making spot) going mine = not_asked (Making spot) refl refl mine
-  has_asked (Pinning value spot) going mine = not_asked (Pinning value spot) refl refl mine
-  has_asked AskCycle going mine = not_asked AskCycle refl refl mine
-  has_asked (Leave reply) going mine = not_asked (Leave reply) refl refl mine
-  has_asked Gone going mine = not_asked Gone refl refl mine
+  has_asked (Waiting wait.StoreRequest) spot_going own_facts = record { asking = nothing; is = own_facts.facts.1; of_command = tt; at_spot = refl; heard = λ asked later. cc }
+  has_asked (Waiting wait.AskRoom) spot_going own_facts = asks_for (Waiting wait.AskRoom) refl (λ later. absurd (later refl)) own_facts.facts
+  has_asked (Waiting wait.StepOut) spot_going own_facts = asks_for (Waiting wait.StepOut) refl (λ later. own_facts.facts.1) own_facts.facts.0
+  has_asked (Waiting wait.Poll) spot_going own_facts = polls_for own_facts.facts
+  has_asked (Waiting wait.LoadAnswer) spot_going own_facts = is_told (Waiting wait.LoadAnswer) refl refl own_facts.facts
+  has_asked (Waiting (wait.StoreRoot address)) spot_going own_facts = was_given (Waiting (wait.StoreRoot address)) refl own_facts.facts.0
+  has_asked (Waiting (wait.ClearAnswer reply)) spot_going own_facts = absurd (cc (spot_going))
+  has_asked (Entering spot Waited) spot_going own_facts = is_told (Entering spot Waited) refl refl own_facts.facts
+  has_asked (Entering spot Call) spot_going own_facts = not_asked (Entering spot Call) refl refl own_facts
+  has_asked Rest spot_going own_facts = not_asked Rest refl refl own_facts
+  has_asked (Ended reply) spot_going own_facts = not_asked (Ended reply) refl refl own_facts
+  has_asked LoadPhase spot_going own_facts = not_asked LoadPhase refl refl own_facts
+  has_asked LoadSet spot_going own_facts = not_asked LoadSet refl refl own_facts
+  has_asked (Loading spot) spot_going own_facts = not_asked (Loading spot) refl refl own_facts
+  has_asked (OnField object spot) spot_going own_facts = not_asked (OnField object spot) refl refl own_facts
+  has_asked (Resolving address spot next) spot_going own_facts = not_asked (Resolving address spot next) refl refl own_facts
+  has_asked (Recording spot address next) spot_going own_facts = not_asked (Recording spot address next) refl refl own_facts
+  has_asked (OnNumber object refs spot) spot_going own_facts = not_asked (OnNumber object refs spot) refl refl own_facts
+  has_asked (Showing value spot) spot_going own_facts = not_asked (Showing value spot) refl refl own_facts
+  has_asked (StoreRoot value) spot_going own_facts = not_asked (StoreRoot value) refl refl own_facts
+  has_asked (Making spot) spot_going own_facts = not_asked (Making spot) refl refl own_facts
+  has_asked (Pinning value spot) spot_going own_facts = not_asked (Pinning value spot) refl refl own_facts
+  has_asked AskCycle spot_going own_facts = not_asked AskCycle refl refl own_facts
+  has_asked (Leave reply) spot_going own_facts = not_asked (Leave reply) refl refl own_facts
+  has_asked Gone spot_going own_facts = not_asked Gone refl refl own_facts

@@ -51,250 +51,250 @@ use Rattle.cycle_steps.proofs.Parts.{recording_steps}
 use Rattle.step_core.proofs.Mutators.WhileMarking.{covered_stays, marking_relied, copying_relied}
 use Rattle.heap_world.proofs.Keeping.{points_stay, usable_stays, keeps_of}
 
-module _ (config : Config) (world other_world : World) (seat : ℕ) (keeps : Keeps config seat world other_world) where
+module _ (config : Config) (world later_world : World) (seat : ℕ) (world_kept : Keeps config seat world later_world) where
   -- so it does for a root
-  pub root_stays : (word index : ℕ) → Points world.block word (world.graph.root (seat + 1) index) → Points other_world.block word (other_world.graph.root (seat + 1) index)
-  root_stays word index is = rw (keeps.roots index) (points_stay world.block other_world.block keeps.names word _ is)
+  pub root_stays : (word index : ℕ) → Points world.block word (world.graph.root (seat + 1) index) → Points later_world.block word (later_world.graph.root (seat + 1) index)
+  root_stays word index root_points = rw (world_kept.roots index) (points_stay world.block later_world.block world_kept.names word _ root_points)
 
   -- so does the word of a root that was loaded
-  root_word_stays : (word index : ℕ) → IsRootWord config world seat index word → IsRootWord config other_world seat index word
-  root_word_stays word index is = record { stands = root_stays word index is.stands; usable = usable_stays config world other_world keeps.targets word is.usable }
+  root_word_stays : (word index : ℕ) → IsRootWord config world seat index word → IsRootWord config later_world seat index word
+  root_word_stays word index root_loaded = record { stands = root_stays word index root_loaded.stands; usable = usable_stays config world later_world world_kept.targets word root_loaded.usable }
 
   -- also of a command
-  loaded_stays : (command : Command) (i word : ℕ) → HasRoot config world seat command i word → HasRoot config other_world seat command i word
-  loaded_stays command i word has below = root_word_stays word (command_root command i) (has below)
+  loaded_stays : (command : Command) (index word : ℕ) → HasRoot config world seat command index word → HasRoot config later_world seat command index word
+  loaded_stays command index word has_root index_below = root_word_stays word (command_root command index) (has_root index_below)
 
   -- and that of the first one
-  first_stays : (command : Command) (first : ℕ) → HasFirst config world seat command first → HasFirst config other_world seat command first
-  first_stays command first has = record { some = has.some; first_is = loaded_stays command 0 first has.first_is; not_null = has.not_null }
+  first_stays : (command : Command) (first : ℕ) → HasFirst config world seat command first → HasFirst config later_world seat command first
+  first_stays command first has_first = record { some = has_first.some; first_is = loaded_stays command 0 first has_first.first_is; not_null = has_first.not_null }
 
   -- an object in hand stays
-  abbrev object_stays : (root object : ℕ) → HasObject config world seat root object → HasObject config other_world seat root object
-  object_stays root object has = record {
-    name = has.name;
-    refs = has.refs;
-    nums = has.nums;
-    root_is = keeps.roots root ∙ has.root_is;
-    target = keeps.targets object has.refs has.nums has.name has.target;
+  abbrev object_stays : (root object : ℕ) → HasObject config world seat root object → HasObject config later_world seat root object
+  object_stays root object has_object = record {
+    name = has_object.name;
+    refs = has_object.refs;
+    nums = has_object.nums;
+    root_is = world_kept.roots root ∙ has_object.root_is;
+    target = world_kept.targets object has_object.refs has_object.nums has_object.name has_object.target;
   }
 
   -- what a Get counts on stays
-  pub get_stays : (command : Command) (object field dst : ℕ) → IsGet config world seat command object field dst → IsGet config other_world seat command object field dst
-  get_stays command object field dst is = record { src = is.src; is = is.is; small = is.small; of = object_stays is.src object is.of; below = is.below }
+  pub get_stays : (command : Command) (object field dst : ℕ) → IsGet config world seat command object field dst → IsGet config later_world seat command object field dst
+  get_stays command object field dst get_facts = record { src = get_facts.src; is = get_facts.is; small = get_facts.small; of = object_stays get_facts.src object get_facts.of; below = get_facts.below }
 
   -- what a Set counts on stays
-  pub set_stays : (command : Command) (object field value : ℕ) → IsSet config world seat command object field value → IsSet config other_world seat command object field value
-  set_stays command object field value is = record {
-    obj = is.obj;
-    val = is.val;
-    is = is.is;
-    of = object_stays is.obj object is.of;
-    below = is.below;
-    value_is = root_word_stays value is.val is.value_is;
+  pub set_stays : (command : Command) (object field value : ℕ) → IsSet config world seat command object field value → IsSet config later_world seat command object field value
+  set_stays command object field value set_facts = record {
+    obj = set_facts.obj;
+    val = set_facts.val;
+    is = set_facts.is;
+    of = object_stays set_facts.obj object set_facts.of;
+    below = set_facts.below;
+    value_is = root_word_stays value set_facts.val set_facts.value_is;
   }
 
   -- what a Cas counts on stays
-  pub cas_stays : (command : Command) (object field expect value : ℕ) → IsCas config world seat command object field expect value → IsCas config other_world seat command object field expect value
-  cas_stays command object field expect value is = record {
-    obj = is.obj;
-    expected = is.expected;
-    val = is.val;
-    is = is.is;
-    of = object_stays is.obj object is.of;
-    below = is.below;
-    expect_is = root_word_stays expect is.expected is.expect_is;
-    value_is = root_word_stays value is.val is.value_is;
+  pub cas_stays : (command : Command) (object field expect value : ℕ) → IsCas config world seat command object field expect value → IsCas config later_world seat command object field expect value
+  cas_stays command object field expect value cas_facts = record {
+    obj = cas_facts.obj;
+    expected = cas_facts.expected;
+    val = cas_facts.val;
+    is = cas_facts.is;
+    of = object_stays cas_facts.obj object cas_facts.of;
+    below = cas_facts.below;
+    expect_is = root_word_stays expect cas_facts.expected cas_facts.expect_is;
+    value_is = root_word_stays value cas_facts.val cas_facts.value_is;
   }
 
   -- what an Xchg counts on stays
-  pub xchg_stays : (command : Command) (object field value dst : ℕ) → IsXchg config world seat command object field value dst → IsXchg config other_world seat command object field value dst
-  xchg_stays command object field value dst is = record {
-    obj = is.obj;
-    val = is.val;
-    is = is.is;
-    small = is.small;
-    of = object_stays is.obj object is.of;
-    below = is.below;
-    value_is = root_word_stays value is.val is.value_is;
+  pub xchg_stays : (command : Command) (object field value dst : ℕ) → IsXchg config world seat command object field value dst → IsXchg config later_world seat command object field value dst
+  xchg_stays command object field value dst exchange_facts = record {
+    obj = exchange_facts.obj;
+    val = exchange_facts.val;
+    is = exchange_facts.is;
+    small = exchange_facts.small;
+    of = object_stays exchange_facts.obj object exchange_facts.of;
+    below = exchange_facts.below;
+    value_is = root_word_stays value exchange_facts.val exchange_facts.value_is;
   }
 
   -- what an Rd counts on stays
-  rd_stays : (command : Command) (object refs index : ℕ) → IsRd config world seat command object refs index → IsRd config other_world seat command object refs index
-  rd_stays command object refs index is = record { obj = is.obj; is = is.is; of = object_stays is.obj object is.of; refs_are = is.refs_are; below = is.below }
+  rd_stays : (command : Command) (object refs index : ℕ) → IsRd config world seat command object refs index → IsRd config later_world seat command object refs index
+  rd_stays command object refs index read_facts = record { obj = read_facts.obj; is = read_facts.is; of = object_stays read_facts.obj object read_facts.of; refs_are = read_facts.refs_are; below = read_facts.below }
 
   -- what a Wr counts on stays
-  wr_stays : (command : Command) (object refs index value : ℕ) → IsWr config world seat command object refs index value → IsWr config other_world seat command object refs index value
-  wr_stays command object refs index value is = record { obj = is.obj; is = is.is; of = object_stays is.obj object is.of; refs_are = is.refs_are; below = is.below }
+  wr_stays : (command : Command) (object refs index value : ℕ) → IsWr config world seat command object refs index value → IsWr config later_world seat command object refs index value
+  wr_stays command object refs index value write_facts = record { obj = write_facts.obj; is = write_facts.is; of = object_stays write_facts.obj object write_facts.of; refs_are = write_facts.refs_are; below = write_facts.below }
 
   -- a reference that was found stays
-  pub found_stays : (fixed : Option Reply) (value dst : ℕ) → IsFound world fixed value dst → IsFound other_world fixed value dst
-  found_stays fixed value dst is = record { name = is.name; settled = is.settled; is = keeps.names value is.name is.is; small = is.small }
+  pub found_stays : (fixed : Option Reply) (value dst : ℕ) → IsFound world fixed value dst → IsFound later_world fixed value dst
+  found_stays fixed value dst found_facts = record { name = found_facts.name; settled = found_facts.settled; is = world_kept.names value found_facts.name found_facts.is; small = found_facts.small }
 
   -- that two words name the same stays, and that they name others
-  pub same_stays : (address b : ℕ) → NameTheSame world.block address b → NameTheSame other_world.block address b
-  same_stays address b (inl null) = inl null
-  same_stays address b (inr both) = inr (both.0, keeps.names address both.0 both.1, keeps.names b both.0 both.2)
+  pub same_stays : (address second_address : ℕ) → NameTheSame world.block address second_address → NameTheSame later_world.block address second_address
+  same_stays address second_address (inl null) = inl null
+  same_stays address second_address (inr same_named) = inr (same_named.0, world_kept.names address same_named.0 same_named.1, world_kept.names second_address same_named.0 same_named.2)
 
-  others_stay : (address b : ℕ) → NameOthers world.block address b → NameOthers other_world.block address b
-  others_stay address b others = record {
+  others_stay : (address second_address : ℕ) → NameOthers world.block address second_address → NameOthers later_world.block address second_address
+  others_stay address second_address others = record {
     name = others.name;
-    is = keeps.names address others.name others.is;
-    other = ⊎_elim (λ null. inl null) (λ more. inr (more.0, keeps.names b more.0 more.1, more.2)) others.other;
+    is = world_kept.names address others.name others.is;
+    other = ⊎_elim (λ null. inl null) (λ named_other. inr (named_other.0, world_kept.names second_address named_other.0 named_other.1, named_other.2)) others.other;
   }
 
-  pub compared_stays : (fixed : Option Reply) (found expect : ℕ) → IsCompared world.block fixed found expect → IsCompared other_world.block fixed found expect
-  compared_stays fixed found expect (inl settled) = inl (settled.0, others_stay found expect settled.1)
-  compared_stays fixed found expect (inr same) = inr (same.0, same_stays found expect same.1)
+  pub compared_stays : (fixed : Option Reply) (found expect : ℕ) → IsCompared world.block fixed found expect → IsCompared later_world.block fixed found expect
+  compared_stays fixed found expect (inl reply_settled) = inl (reply_settled.0, others_stay found expect reply_settled.1)
+  compared_stays fixed found expect (inr same_named) = inr (same_named.0, same_stays found expect same_named.1)
 
   -- what holds while a reference is resolved stays
-  pub resolved_stays : (other_command command : Command) (fixed : Option Reply) (found : ℕ) (next : Loaded) → LoadedFacts config world seat other_command command fixed found next → LoadedFacts config other_world seat other_command command fixed found next
-  resolved_stays other_command command fixed found ForRoot facts = found_stays fixed found (dst_of other_command) facts
-  resolved_stays other_command command fixed found (ToCompare object expect value) facts = record {
+  pub resolved_stays : (begun_command command : Command) (fixed : Option Reply) (found : ℕ) (next : Loaded) → LoadedFacts config world seat begun_command command fixed found next → LoadedFacts config later_world seat begun_command command fixed found next
+  resolved_stays begun_command command fixed found ForRoot facts = found_stays fixed found (dst_of begun_command) facts
+  resolved_stays begun_command command fixed found (ToCompare object expect value) facts = record {
     some = facts.some;
-    is_cas = cas_stays command object (index_of other_command) expect value facts.is_cas;
+    is_cas = cas_stays command object (index_of begun_command) expect value facts.is_cas;
     settled = compared_stays fixed found expect facts.settled;
   }
 
   -- what a Copy counts on stays
-  copy_stays : (command : Command) (dst value : ℕ) → IsCopy config world seat command dst value → IsCopy config other_world seat command dst value
-  copy_stays command dst value is = record { src = is.src; is = is.is; value_is = root_word_stays value is.src is.value_is }
+  copy_stays : (command : Command) (dst value : ℕ) → IsCopy config world seat command dst value → IsCopy config later_world seat command dst value
+  copy_stays command dst value copy_facts = record { src = copy_facts.src; is = copy_facts.is; value_is = root_word_stays value copy_facts.src copy_facts.value_is }
 
   -- that nothing is promised to it stays
-  pub unpromised_stays : HasNoPromise world.block seat → HasNoPromise other_world.block seat
-  unpromised_stays none a words is = none a words (keeps.no_promises a words is)
+  pub unpromised_stays : HasNoPromise world.block seat → HasNoPromise later_world.block seat
+  unpromised_stays no_promise address words has_promise = no_promise address words (world_kept.no_promises address words has_promise)
 
   -- what it has asked for stays asked
-  pub asked_stays : (what : Asking) → IsAsked world.memory world.block world.graph.count seat what → IsAsked other_world.memory other_world.block other_world.graph.count seat what
-  asked_stays asking.nothing is = (keeps.wait ∙ is.0, keeps.answer ∙ is.1, unpromised_stays is.2)
-  asked_stays (asking.asks refs nums) is = (
+  pub asked_stays : (asked_for : Asking) → IsAsked world.memory world.block world.graph.count seat asked_for → IsAsked later_world.memory later_world.block later_world.graph.count seat asked_for
+  asked_stays asking.nothing seat_asked = (world_kept.wait ∙ seat_asked.0, world_kept.answer ∙ seat_asked.1, unpromised_stays seat_asked.2)
+  asked_stays (asking.asks refs nums) seat_asked = (
     record {
-      wait_is = keeps.wait ∙ rw keeps.count is.0.wait_is;
-      few_refs = is.0.few_refs;
-      few_nums = is.0.few_nums;
-      few = rw keeps.count is.0.few;
+      wait_is = world_kept.wait ∙ rw world_kept.count seat_asked.0.wait_is;
+      few_refs = seat_asked.0.few_refs;
+      few_nums = seat_asked.0.few_nums;
+      few = rw world_kept.count seat_asked.0.few;
     },
-    keeps.answer ∙ is.1,
-    unpromised_stays is.2,
+    world_kept.answer ∙ seat_asked.1,
+    unpromised_stays seat_asked.2,
   )
-  asked_stays asking.refused is = (keeps.wait ∙ is.0, keeps.answer ∙ is.1, unpromised_stays is.2)
-  asked_stays (asking.given refs nums) is = (
-    keeps.wait ∙ is.0,
-    rw keeps.answer is.1,
-    rw keeps.answer (record {
-      here = keeps.promises _ (3 + refs + nums) is.2.here;
-      words = λ k below. keeps.promise_words _ (3 + refs + nums) k is.2.here below ∙ rw keeps.count (is.2.words k below);
-      only = λ address more there. is.2.only address more (keeps.no_promises address more there);
-      few_refs = is.2.few_refs;
-      few_nums = is.2.few_nums;
-      few = rw keeps.count is.2.few;
+  asked_stays asking.refused seat_asked = (world_kept.wait ∙ seat_asked.0, world_kept.answer ∙ seat_asked.1, unpromised_stays seat_asked.2)
+  asked_stays (asking.given refs nums) seat_asked = (
+    world_kept.wait ∙ seat_asked.0,
+    rw world_kept.answer seat_asked.1,
+    rw world_kept.answer (record {
+      here = world_kept.promises _ (3 + refs + nums) seat_asked.2.here;
+      words = λ offset offset_below. world_kept.promise_words _ (3 + refs + nums) offset seat_asked.2.here offset_below ∙ rw world_kept.count (seat_asked.2.words offset offset_below);
+      only = λ address more_words has_promise. seat_asked.2.only address more_words (world_kept.no_promises address more_words has_promise);
+      few_refs = seat_asked.2.few_refs;
+      few_nums = seat_asked.2.few_nums;
+      few = rw world_kept.count seat_asked.2.few;
     }),
   )
 
   -- so does the asking of a call
-  pub asking_stays : (made : ℕ) (other_command command : Command) (fixed : Option Reply) (what : Asking) → IsAsking world seat made other_command command fixed what → IsAsking other_world seat made other_command command fixed what
-  asking_stays made other_command command fixed what is = (is.0, asked_stays what is.1)
+  pub asking_stays : (made : ℕ) (begun_command command : Command) (fixed : Option Reply) (asked_for : Asking) → IsAsking world seat made begun_command command fixed asked_for → IsAsking later_world seat made begun_command command fixed asked_for
+  asking_stays made begun_command command fixed asked_for asks = (asks.0, asked_stays asked_for asks.1)
 
   -- with the bit that a mutator waits, where that stays
-  pub heard_stays : (bit_at (world.memory Ask) 1 ≡ 1 → bit_at (other_world.memory Ask) 1 ≡ 1) → (made : ℕ) (other_command command : Command) (fixed : Option Reply) → IsHeard world seat made other_command command fixed → IsHeard other_world seat made other_command command fixed
-  heard_stays bit made other_command command fixed is = (asking_stays made other_command command fixed (asking.asks (refs_of other_command) (nums_of other_command)) is.0, bit is.1)
+  pub heard_stays : (bit_at (world.memory Ask) 1 ≡ 1 → bit_at (later_world.memory Ask) 1 ≡ 1) → (made : ℕ) (begun_command command : Command) (fixed : Option Reply) → IsHeard world seat made begun_command command fixed → IsHeard later_world seat made begun_command command fixed
+  heard_stays bit made begun_command command fixed heard = (asking_stays made begun_command command fixed (asking.asks (refs_of begun_command) (nums_of begun_command)) heard.0, bit heard.1)
 
   -- and what is known while it polls, and once it is answered
-  pub polling_stays : (bit_at (world.memory Ask) 1 ≡ 1 → bit_at (other_world.memory Ask) 1 ≡ 1) → (made : ℕ) (other_command command : Command) (fixed : Option Reply) → IsPolling world seat made other_command command fixed
-      → IsPolling other_world seat made other_command command fixed
-  polling_stays bit made other_command command fixed is = ⊎_elim
-      (λ waits. inl (heard_stays bit made other_command command fixed waits))
+  pub polling_stays : (bit_at (world.memory Ask) 1 ≡ 1 → bit_at (later_world.memory Ask) 1 ≡ 1) → (made : ℕ) (begun_command command : Command) (fixed : Option Reply) → IsPolling world seat made begun_command command fixed
+      → IsPolling later_world seat made begun_command command fixed
+  polling_stays bit made begun_command command fixed polling = ⊎_elim
+      (λ waits. inl (heard_stays bit made begun_command command fixed waits))
       (λ rest. inr (⊎_elim
-      (λ given. inl (asking_stays made other_command command fixed (asking.given (refs_of other_command) (nums_of other_command)) given))
-      (λ no. inr (no.0, asked_stays asking.refused no.1))
+      (λ was_given. inl (asking_stays made begun_command command fixed (asking.given (refs_of begun_command) (nums_of begun_command)) was_given))
+      (λ heap_full. inr (heap_full.0, asked_stays asking.refused heap_full.1))
       rest))
-      is
+      polling
 
-  pub answered_stays : (made : ℕ) (other_command command : Command) (fixed : Option Reply) → IsAnswered world seat made other_command command fixed → IsAnswered other_world seat made other_command command fixed
-  answered_stays made other_command command fixed is = ⊎_elim
-      (λ given. inl (asking_stays made other_command command fixed (asking.given (refs_of other_command) (nums_of other_command)) given))
-      (λ full. inr (full.0, asked_stays asking.refused full.1))
-      is
+  pub answered_stays : (made : ℕ) (begun_command command : Command) (fixed : Option Reply) → IsAnswered world seat made begun_command command fixed → IsAnswered later_world seat made begun_command command fixed
+  answered_stays made begun_command command fixed seat_answered = ⊎_elim
+      (λ was_given. inl (asking_stays made begun_command command fixed (asking.given (refs_of begun_command) (nums_of begun_command)) was_given))
+      (λ heap_full. inr (heap_full.0, asked_stays asking.refused heap_full.1))
+      seat_answered
 
   -- what a mutator counts on in each part of a call stays
-  load_stays : (made : ℕ) (other_command command : Command) (fixed : Option Reply) (spot : LoadSpot) → LoadFacts config world seat made other_command command fixed spot → LoadFacts config other_world seat made other_command command fixed spot
-  load_stays made other_command command fixed load.First facts = facts
-  load_stays made other_command command fixed (load.Second first) facts = (facts.0, facts.1, first_stays other_command first facts.2)
-  load_stays made other_command command fixed (load.Third first second) facts = (facts.0, facts.1, first_stays other_command first facts.2, loaded_stays other_command 1 second facts.3)
-  load_stays made other_command command fixed (load.Shape object second third) facts = (
+  load_stays : (made : ℕ) (begun_command command : Command) (fixed : Option Reply) (spot : LoadSpot) → LoadFacts config world seat made begun_command command fixed spot → LoadFacts config later_world seat made begun_command command fixed spot
+  load_stays made begun_command command fixed load.First facts = facts
+  load_stays made begun_command command fixed (load.Second first) facts = (facts.0, facts.1, first_stays begun_command first facts.2)
+  load_stays made begun_command command fixed (load.Third first second) facts = (facts.0, facts.1, first_stays begun_command first facts.2, loaded_stays begun_command 1 second facts.3)
+  load_stays made begun_command command fixed (load.Shape object second third) facts = (
     facts.0,
     facts.1,
-    record { first_is = first_stays other_command object facts.2.first_is; second_is = loaded_stays other_command 1 second facts.2.second_is; third_is = loaded_stays other_command 2 third facts.2.third_is },
+    record { first_is = first_stays begun_command object facts.2.first_is; second_is = loaded_stays begun_command 1 second facts.2.second_is; third_is = loaded_stays begun_command 2 third facts.2.third_is },
     facts.3,
   )
 
-  pub field_stays : (other_command command : Command) (fixed : Option Reply) (object : ℕ) (spot : FieldSpot) → FieldFacts config world seat other_command command fixed object spot → FieldFacts config other_world seat other_command command fixed object spot
-  field_stays other_command command fixed object fields.Load facts = (facts.0, get_stays command object (index_of other_command) (dst_of other_command) facts.1)
-  field_stays other_command command fixed object (fields.LoadExpected expect value) facts = (facts.0, cas_stays command object (index_of other_command) expect value facts.1)
-  field_stays other_command command fixed object (fields.LoadOld value) facts = (facts.0, set_stays command object (index_of other_command) value facts.1)
-  field_stays other_command command fixed object (fields.Store value) facts = (facts.0, set_stays command object (index_of other_command) value facts.1, covered_stays config world other_world object (index_of other_command) keeps.marks facts.2)
-  field_stays other_command command fixed object (fields.Swap value) facts = (facts.0, xchg_stays command object (index_of other_command) value (dst_of other_command) facts.1)
-  field_stays other_command command fixed object (fields.Exchange found expect value) facts = (facts.0, cas_stays command object (index_of other_command) expect value facts.1, same_stays found expect facts.2)
+  pub field_stays : (begun_command command : Command) (fixed : Option Reply) (object : ℕ) (spot : FieldSpot) → FieldFacts config world seat begun_command command fixed object spot → FieldFacts config later_world seat begun_command command fixed object spot
+  field_stays begun_command command fixed object fields.Load facts = (facts.0, get_stays command object (index_of begun_command) (dst_of begun_command) facts.1)
+  field_stays begun_command command fixed object (fields.LoadExpected expect value) facts = (facts.0, cas_stays command object (index_of begun_command) expect value facts.1)
+  field_stays begun_command command fixed object (fields.LoadOld value) facts = (facts.0, set_stays command object (index_of begun_command) value facts.1)
+  field_stays begun_command command fixed object (fields.Store value) facts = (facts.0, set_stays command object (index_of begun_command) value facts.1, covered_stays config world later_world object (index_of begun_command) world_kept.marks facts.2)
+  field_stays begun_command command fixed object (fields.Swap value) facts = (facts.0, xchg_stays command object (index_of begun_command) value (dst_of begun_command) facts.1)
+  field_stays begun_command command fixed object (fields.Exchange found expect value) facts = (facts.0, cas_stays command object (index_of begun_command) expect value facts.1, same_stays found expect facts.2)
 
-  pub record_stays : (other_command command : Command) (fixed : Option Reply) (address : ℕ) (next : Overwritten) → RecordFacts config world seat other_command command fixed address next → RecordFacts config other_world seat other_command command fixed address next
-  record_stays other_command command fixed address (overwrites.Set object value) facts = field_stays other_command command fixed object (fields.Store value) facts
-  record_stays other_command command fixed address overwrites.Xchg facts = found_stays fixed address (dst_of other_command) facts
-  record_stays other_command command fixed address overwrites.Cas facts = facts
+  pub record_stays : (begun_command command : Command) (fixed : Option Reply) (address : ℕ) (next : Overwritten) → RecordFacts config world seat begun_command command fixed address next → RecordFacts config later_world seat begun_command command fixed address next
+  record_stays begun_command command fixed address (overwrites.Set object value) facts = field_stays begun_command command fixed object (fields.Store value) facts
+  record_stays begun_command command fixed address overwrites.Xchg facts = found_stays fixed address (dst_of begun_command) facts
+  record_stays begun_command command fixed address overwrites.Cas facts = facts
 
-  number_stays : (other_command command : Command) (fixed : Option Reply) (object refs : ℕ) (spot : NumberSpot) → NumberFacts config world seat other_command command fixed object refs spot → NumberFacts config other_world seat other_command command fixed object refs spot
-  number_stays other_command command fixed object refs numbers.Load facts = (facts.0, rd_stays command object refs (index_of other_command) facts.1)
-  number_stays other_command command fixed object refs numbers.Store facts = (facts.0, wr_stays command object refs (index_of other_command) (stored_number other_command) facts.1)
+  number_stays : (begun_command command : Command) (fixed : Option Reply) (object refs : ℕ) (spot : NumberSpot) → NumberFacts config world seat begun_command command fixed object refs spot → NumberFacts config later_world seat begun_command command fixed object refs spot
+  number_stays begun_command command fixed object refs numbers.Load facts = (facts.0, rd_stays command object refs (index_of begun_command) facts.1)
+  number_stays begun_command command fixed object refs numbers.Store facts = (facts.0, wr_stays command object refs (index_of begun_command) (stored_number begun_command) facts.1)
 
-  show_stays : (command : Command) (fixed : Option Reply) (value : ℕ) (spot : ShowSpot) → ShowFacts config world command fixed value spot → ShowFacts config other_world command fixed value spot
-  show_stays command fixed value show.LoadName facts = (found_stays fixed value (dst_of command) facts.0, usable_stays config world other_world keeps.targets value facts.1)
-  show_stays command fixed value (show.StoreRoot reply) facts = (facts.0, facts.1, usable_stays config world other_world keeps.targets value facts.2)
+  show_stays : (command : Command) (fixed : Option Reply) (value : ℕ) (spot : ShowSpot) → ShowFacts config world command fixed value spot → ShowFacts config later_world command fixed value spot
+  show_stays command fixed value show.LoadName facts = (found_stays fixed value (dst_of command) facts.0, usable_stays config world later_world world_kept.targets value facts.1)
+  show_stays command fixed value (show.StoreRoot reply) facts = (facts.0, facts.1, usable_stays config world later_world world_kept.targets value facts.2)
 
   -- so does what the call counts on that is about a pin slot
-  of_slot_stays : (command : Command) (value : ℕ) → IsOfSlot config world seat command value → IsOfSlot config other_world seat command value
+  of_slot_stays : (command : Command) (value : ℕ) → IsOfSlot config world seat command value → IsOfSlot config later_world seat command value
   of_slot_stays (Pin slot obj) value of_slot = (of_slot.0, object_stays obj value of_slot.1)
   of_slot_stays (Unpin slot) value of_slot = of_slot
   of_slot_stays _ value of_slot = absurd of_slot
 
-  fits_stays : (command : Command) → SlotFits world seat command → SlotFits other_world seat command
-  fits_stays (Pin slot obj) fits = keeps.pins slot ∙ fits
-  fits_stays command fits = λ none. fits (sym (keeps.pins (slot_of command)) ∙ none)
+  fits_stays : (command : Command) → SlotFits world seat command → SlotFits later_world seat command
+  fits_stays (Pin slot obj) fits = world_kept.pins slot ∙ fits
+  fits_stays command fits = λ no_pin. fits (sym (world_kept.pins (slot_of command)) ∙ no_pin)
 
-  pin_facts_stay : (other_command command : Command) (fixed : Option Reply) (value : ℕ) (spot : PinSpot) → PinFacts config world seat other_command command fixed value spot → PinFacts config other_world seat other_command command fixed value spot
-  pin_facts_stay other_command command fixed value pins.Look facts = (facts.0, facts.1, of_slot_stays other_command value facts.2)
-  pin_facts_stay other_command command fixed value pins.Store facts = (facts.0, facts.1, of_slot_stays other_command value facts.2, fits_stays other_command facts.3)
+  pin_facts_stay : (begun_command command : Command) (fixed : Option Reply) (value : ℕ) (spot : PinSpot) → PinFacts config world seat begun_command command fixed value spot → PinFacts config later_world seat begun_command command fixed value spot
+  pin_facts_stay begun_command command fixed value pins.Look facts = (facts.0, facts.1, of_slot_stays begun_command value facts.2)
+  pin_facts_stay begun_command command fixed value pins.Store facts = (facts.0, facts.1, of_slot_stays begun_command value facts.2, fits_stays begun_command facts.3)
 
-  make_stays : (made : ℕ) (other_command command : Command) (fixed : Option Reply) → ((words : ℕ) (take : TakeSpot) → TakeFacts config world seat words take → TakeFacts config other_world seat words take)
-      → ((refs nums address done : ℕ) → IsFilling world seat made refs nums address done → IsFilling other_world seat made refs nums address done) → (spot : MakeSpot)
-      → MakeFacts config world seat made other_command command fixed spot → MakeFacts config other_world seat made other_command command fixed spot
-  make_stays made other_command command fixed taking filling (make.Taking take) facts = (facts.0, taking (words_made other_command) take facts.1)
-  make_stays made other_command command fixed taking filling (make.StoreWord address done) facts = (facts.0, filling (refs_of other_command) (nums_of other_command) address done facts.1, facts.2)
-  make_stays made other_command command fixed taking filling (make.StoreRoot address) facts = (facts.0, filling (refs_of other_command) (nums_of other_command) address (words_made other_command) facts.1)
+  make_stays : (made : ℕ) (begun_command command : Command) (fixed : Option Reply) → ((words : ℕ) (take : TakeSpot) → TakeFacts config world seat words take → TakeFacts config later_world seat words take)
+      → ((refs nums address stored_count : ℕ) → IsFilling world seat made refs nums address stored_count → IsFilling later_world seat made refs nums address stored_count) → (spot : MakeSpot)
+      → MakeFacts config world seat made begun_command command fixed spot → MakeFacts config later_world seat made begun_command command fixed spot
+  make_stays made begun_command command fixed taking filling (make.Taking take) facts = (facts.0, taking (words_made begun_command) take facts.1)
+  make_stays made begun_command command fixed taking filling (make.StoreWord address stored_count) facts = (facts.0, filling (refs_of begun_command) (nums_of begun_command) address stored_count facts.1, facts.2)
+  make_stays made begun_command command fixed taking filling (make.StoreRoot address) facts = (facts.0, filling (refs_of begun_command) (nums_of begun_command) address (words_made begun_command) facts.1)
 
-  pub enter_stays : (made : ℕ) (other_command command : Command) (fixed : Option Reply) (next : Entered) → EnterFacts world seat made other_command command fixed next → EnterFacts other_world seat made other_command command fixed next
-  enter_stays made other_command command fixed Call facts = facts
-  enter_stays made other_command command fixed Waited facts = answered_stays made other_command command fixed facts
+  pub enter_stays : (made : ℕ) (begun_command command : Command) (fixed : Option Reply) (next : Entered) → EnterFacts world seat made begun_command command fixed next → EnterFacts later_world seat made begun_command command fixed next
+  enter_stays made begun_command command fixed Call facts = facts
+  enter_stays made begun_command command fixed Waited facts = answered_stays made begun_command command fixed facts
 
   -- what was answered and taken stays so
-  taken_stays : (reply : Reply) → HasTaken config world seat reply → HasTaken config other_world seat reply
-  taken_stays (Ref name) taken = (taken.0, taken.1, subst (λ address. TargetIn config other_world address taken.0 taken.1 name) (sym keeps.answer) (keeps.targets (world.memory (Answer seat)) taken.0 taken.1 name taken.2))
-  taken_stays Full full = keeps.answer ∙ full
-  taken_stays _ other = absurd other
+  taken_stays : (reply : Reply) → HasTaken config world seat reply → HasTaken config later_world seat reply
+  taken_stays (Ref name) reply_taken = (reply_taken.0, reply_taken.1, subst (λ address. TargetIn config later_world address reply_taken.0 reply_taken.1 name) (sym world_kept.answer) (world_kept.targets (world.memory (Answer seat)) reply_taken.0 reply_taken.1 name reply_taken.2))
+  taken_stays Full taken_full = world_kept.answer ∙ taken_full
+  taken_stays _ taken_other = absurd taken_other
 
-  pub wait_stays : (bit_at (world.memory Ask) 1 ≡ 1 → bit_at (other_world.memory Ask) 1 ≡ 1) → (made : ℕ) (other_command command : Command) (fixed : Option Reply) (spot : WaitSpot) → WaitFacts config world seat made other_command command fixed spot → WaitFacts config other_world seat made other_command command fixed spot
-  wait_stays bit made other_command command fixed wait.StoreRequest facts = asking_stays made other_command command fixed asking.nothing facts
-  wait_stays bit made other_command command fixed wait.AskRoom facts = asking_stays made other_command command fixed (asking.asks (refs_of other_command) (nums_of other_command)) facts
-  wait_stays bit made other_command command fixed wait.StepOut facts = heard_stays bit made other_command command fixed facts
-  wait_stays bit made other_command command fixed wait.Poll facts = polling_stays bit made other_command command fixed facts
-  wait_stays bit made other_command command fixed wait.LoadAnswer facts = answered_stays made other_command command fixed facts
-  wait_stays bit made other_command command fixed (wait.StoreRoot address) facts = (asking_stays made other_command command fixed (asking.given (refs_of other_command) (nums_of other_command)) facts.0, keeps.answer ∙ facts.1)
-  wait_stays bit made other_command command fixed (wait.ClearAnswer reply) facts = (facts.0, keeps.wait ∙ facts.1, unpromised_stays facts.2, taken_stays reply facts.3, facts.4)
+  pub wait_stays : (bit_at (world.memory Ask) 1 ≡ 1 → bit_at (later_world.memory Ask) 1 ≡ 1) → (made : ℕ) (begun_command command : Command) (fixed : Option Reply) (spot : WaitSpot) → WaitFacts config world seat made begun_command command fixed spot → WaitFacts config later_world seat made begun_command command fixed spot
+  wait_stays bit made begun_command command fixed wait.StoreRequest facts = asking_stays made begun_command command fixed asking.nothing facts
+  wait_stays bit made begun_command command fixed wait.AskRoom facts = asking_stays made begun_command command fixed (asking.asks (refs_of begun_command) (nums_of begun_command)) facts
+  wait_stays bit made begun_command command fixed wait.StepOut facts = heard_stays bit made begun_command command fixed facts
+  wait_stays bit made begun_command command fixed wait.Poll facts = polling_stays bit made begun_command command fixed facts
+  wait_stays bit made begun_command command fixed wait.LoadAnswer facts = answered_stays made begun_command command fixed facts
+  wait_stays bit made begun_command command fixed (wait.StoreRoot address) facts = (asking_stays made begun_command command fixed (asking.given (refs_of begun_command) (nums_of begun_command)) facts.0, world_kept.answer ∙ facts.1)
+  wait_stays bit made begun_command command fixed (wait.ClearAnswer reply) facts = (facts.0, world_kept.wait ∙ facts.1, unpromised_stays facts.2, taken_stays reply facts.3, facts.4)
 
   -- and at its spot, if that of a taking does, that of the words of a new object, of a resolving and of a recording, and the bit that a
   -- mutator waits
-  facts_stay : (made : ℕ) (kept : Kept) (command : Command) (fixed : Option Reply) → ((words : ℕ) (take : TakeSpot) → TakeFacts config world seat words take → TakeFacts config other_world seat words take)
-      → ((refs nums address done : ℕ) → IsFilling world seat made refs nums address done → IsFilling other_world seat made refs nums address done)
-      → ((address : ℕ) (at : ResolveSpot) → IsResolving config world seat address at → IsResolving config other_world seat address at)
-      → ((address : ℕ) (at : RememberSpot) → CanRecord config world seat address at → CanRecord config other_world seat address at) → (bit_at (world.memory Ask) 1 ≡ 1 → bit_at (other_world.memory Ask) 1 ≡ 1) → (spot : Spot)
-      → SpotFacts config world seat made kept command fixed spot → SpotFacts config other_world seat made kept command fixed spot
+  facts_stay : (made : ℕ) (kept : Kept) (command : Command) (fixed : Option Reply) → ((words : ℕ) (take : TakeSpot) → TakeFacts config world seat words take → TakeFacts config later_world seat words take)
+      → ((refs nums address stored_count : ℕ) → IsFilling world seat made refs nums address stored_count → IsFilling later_world seat made refs nums address stored_count)
+      → ((address : ℕ) (inner_spot : ResolveSpot) → IsResolving config world seat address inner_spot → IsResolving config later_world seat address inner_spot)
+      → ((address : ℕ) (inner_spot : RememberSpot) → CanRecord config world seat address inner_spot → CanRecord config later_world seat address inner_spot) → (bit_at (world.memory Ask) 1 ≡ 1 → bit_at (later_world.memory Ask) 1 ≡ 1) → (spot : Spot)
+      → SpotFacts config world seat made kept command fixed spot → SpotFacts config later_world seat made kept command fixed spot
   facts_stay made kept command fixed taking filling resolving recording bit Rest facts = facts
   facts_stay made kept command fixed taking filling resolving recording bit (Ended reply) facts = facts
   facts_stay made kept command fixed taking filling resolving recording bit (Entering spot next) facts = enter_stays made kept.command command fixed next facts
@@ -306,7 +306,7 @@ module _ (config : Config) (world other_world : World) (seat : ℕ) (keeps : Kee
   facts_stay made kept command fixed taking filling resolving recording bit (Recording spot address next) facts = (recording address spot facts.0, record_stays kept.command command fixed address next facts.1)
   facts_stay made kept command fixed taking filling resolving recording bit (OnNumber object refs spot) facts = number_stays kept.command command fixed object refs spot facts
   facts_stay made kept command fixed taking filling resolving recording bit (Showing value spot) facts = show_stays kept.command fixed value spot facts
-  facts_stay made kept command fixed taking filling resolving recording bit (StoreRoot value) facts = (facts.0, facts.1, ⊎_elim (λ is. inl (copy_stays command (dst_of kept.command) value is)) (λ is. inr is) facts.2)
+  facts_stay made kept command fixed taking filling resolving recording bit (StoreRoot value) facts = (facts.0, facts.1, ⊎_elim (λ value_is. inl (copy_stays command (dst_of kept.command) value value_is)) (λ value_is. inr value_is) facts.2)
   facts_stay made kept command fixed taking filling resolving recording bit (Making spot) facts = make_stays made kept.command command fixed taking filling spot facts
   facts_stay made kept command fixed taking filling resolving recording bit AskCycle facts = facts
   facts_stay made kept command fixed taking filling resolving recording bit (Pinning value spot) facts = pin_facts_stay kept.command command fixed value spot facts
@@ -315,48 +315,48 @@ module _ (config : Config) (world other_world : World) (seat : ℕ) (keeps : Kee
   facts_stay made kept command fixed taking filling resolving recording bit Gone facts = facts
 
   -- what a mutator knows of its seat stays
-  pub seated_stays : (made : ℕ) (waiting : Bool) → IsSeatedIn config world seat made waiting → IsSeatedIn config other_world seat made waiting
+  pub seated_stays : (made : ℕ) (waiting : Bool) → IsSeatedIn config world seat made waiting → IsSeatedIn config later_world seat made waiting
   seated_stays made waiting seated = record {
     below = seated.below;
-    counted = keeps.count ∙ seated.counted;
-    usable = λ i below. subst (λ word. UsableIn config other_world word) (sym (keeps.root_words i)) (usable_stays config world other_world keeps.targets _ (seated.usable i below));
-    unasked = λ calm. let was = seated.unasked calm in (keeps.wait ∙ was.0, keeps.answer ∙ was.1, unpromised_stays was.2);
+    counted = world_kept.count ∙ seated.counted;
+    usable = λ index index_below. subst (λ word. UsableIn config later_world word) (sym (world_kept.root_words index)) (usable_stays config world later_world world_kept.targets _ (seated.usable index index_below));
+    unasked = λ calm. let unasked_before = seated.unasked calm in (world_kept.wait ∙ unasked_before.0, world_kept.answer ∙ unasked_before.1, unpromised_stays unasked_before.2);
   }
 
   -- a root that counts stays
-  recording_stays : (dst value : ℕ) (next : Overwritten) (index : ℕ) → root_recording other_world seat dst value next index ≡ root_recording world seat dst value next index
-  recording_stays dst value overwrites.Xchg index = rw (keeps.root_words index) refl
-  recording_stays dst value _ index = keeps.root_words index
+  recording_stays : (dst value : ℕ) (next : Overwritten) (index : ℕ) → root_recording later_world seat dst value next index ≡ root_recording world seat dst value next index
+  recording_stays dst value overwrites.Xchg index = rw (world_kept.root_words index) refl
+  recording_stays dst value _ index = world_kept.root_words index
 
-  resolving_stays : (dst value : ℕ) (next : Loaded) (index : ℕ) → root_resolving other_world seat dst value next index ≡ root_resolving world seat dst value next index
-  resolving_stays dst value ForRoot index = rw (keeps.root_words index) refl
-  resolving_stays dst value (ToCompare object expect more) index = keeps.root_words index
+  resolving_stays : (dst value : ℕ) (next : Loaded) (index : ℕ) → root_resolving later_world seat dst value next index ≡ root_resolving world seat dst value next index
+  resolving_stays dst value ForRoot index = rw (world_kept.root_words index) refl
+  resolving_stays dst value (ToCompare object expect more) index = world_kept.root_words index
 
-  pub now_stays : (kept : Kept) (spot : Spot) (index : ℕ) → root_now other_world seat kept spot index ≡ root_now world seat kept spot index
-  now_stays kept (Showing value spot) index = rw (keeps.root_words index) refl
+  pub now_stays : (kept : Kept) (spot : Spot) (index : ℕ) → root_now later_world seat kept spot index ≡ root_now world seat kept spot index
+  now_stays kept (Showing value spot) index = rw (world_kept.root_words index) refl
   now_stays kept (Resolving address spot next) index = resolving_stays (dst_of kept.command) address next index
   now_stays kept (Recording spot address next) index = recording_stays (dst_of kept.command) address next index
-  now_stays kept _ index = keeps.root_words index
+  now_stays kept _ index = world_kept.root_words index
 
 -- the words of a new object stay
-filling_stays : (config : Config) (world next_world : World) (seat : ℕ) → Rely config seat world next_world → (made refs nums address done : ℕ) → IsFilling world seat made refs nums address done → IsFilling next_world seat made refs nums address done
-filling_stays config world next_world seat rely made refs nums address done facts = record {
+filling_stays : (config : Config) (world next_world : World) (seat : ℕ) → Rely config seat world next_world → (made refs nums address stored_count : ℕ) → IsFilling world seat made refs nums address stored_count → IsFilling next_world seat made refs nums address stored_count
+filling_stays config world next_world seat rely made refs nums address stored_count facts = record {
   room = rely.rooms address _ facts.room refl;
   within = facts.within;
-  stored = λ k below. rely.room_words address k _ facts.room refl (let within = facts.within in omega arith) ∙ facts.stored k below;
+  stored = λ offset offset_below. rely.room_words address offset _ facts.room refl (let object_within = facts.within in omega arith) ∙ facts.stored offset offset_below;
 }
 
 -- all that it knows stays
 pub mine_stays : (config : Config) (world next_world : World) (mutator : Mutating) (command : Command) (fixed : Option Reply) → Shared config world → Rely config mutator.seat world next_world → Mine config world mutator command fixed → Mine config next_world mutator command fixed
-mine_stays config world next_world mutator command fixed shared rely mine = let keeps : Keeps config mutator.seat world next_world = keeps_of config mutator.seat world next_world rely in record {
-  seated = seated_stays config world next_world mutator.seat keeps mutator.made (is_waiting mutator.spot) mine.seated;
-  ready = mine.ready;
-  marking = marking_relied config world next_world mutator.seat (recording_of mutator.spot) mutator.kept.phase (has_phase mutator.spot) rely.marks mine.marking;
-  copying = copying_relied config world next_world mutator.seat (copies_at mutator.spot) mutator.kept.cset (has_set mutator.spot) rely.copies mine.copying;
-  roots = λ i below. rw (now_stays config world next_world mutator.seat keeps mutator.kept mutator.spot i) (root_stays config world next_world mutator.seat keeps _ i (mine.roots i below));
-  rooms = λ a x is room. mine.rooms a x (rely.no_rooms a x is room) room;
-  facts = facts_stay config world next_world mutator.seat keeps mutator.made mutator.kept command fixed (take_stays config world next_world mutator.seat rely)
+mine_stays config world next_world mutator command fixed shared rely own_facts = let world_kept : Keeps config mutator.seat world next_world = keeps_of config mutator.seat world next_world rely in record {
+  seated = seated_stays config world next_world mutator.seat world_kept mutator.made (is_waiting mutator.spot) own_facts.seated;
+  ready = own_facts.ready;
+  marking = marking_relied config world next_world mutator.seat (recording_of mutator.spot) mutator.kept.phase (has_phase mutator.spot) rely.marks own_facts.marking;
+  copying = copying_relied config world next_world mutator.seat (copies_at mutator.spot) mutator.kept.cset (has_set mutator.spot) rely.copies own_facts.copying;
+  roots = λ index index_below. rw (now_stays config world next_world mutator.seat world_kept mutator.kept mutator.spot index) (root_stays config world next_world mutator.seat world_kept _ index (own_facts.roots index index_below));
+  rooms = λ room_address piece has_piece room. own_facts.rooms room_address piece (rely.no_rooms room_address piece has_piece room) room;
+  facts = facts_stay config world next_world mutator.seat world_kept mutator.made mutator.kept command fixed (take_stays config world next_world mutator.seat rely)
       (filling_stays config world next_world mutator.seat rely mutator.made)
-      (λ address at can. still_resolving config world next_world mutator.seat address at shared rely can)
-      (λ address at can. ((recording_steps.steps config mutator.seat address).stands world at tt can).stays next_world rely) rely.asked mutator.spot mine.facts;
+      (λ address inner_spot can_step. still_resolving config world next_world mutator.seat address inner_spot shared rely can_step)
+      (λ address inner_spot can_step. ((recording_steps.steps config mutator.seat address).stands world inner_spot tt can_step).stays next_world rely) rely.asked mutator.spot own_facts.facts;
 }

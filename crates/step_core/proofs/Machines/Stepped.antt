@@ -61,7 +61,7 @@ pub record IsRootWord (config : Config) (world : World) (seat index word : ℕ) 
 
 -- A word is that of a root which the command loads. Of a root that the command does not load nothing is known.
 abbrev pub HasRoot : Config → World → ℕ → Command → ℕ → ℕ → Type 0
-HasRoot config world seat command k word = k < length (command_roots command) → IsRootWord config world seat (command_root command k) word
+HasRoot config world seat command index word = index < length (command_roots command) → IsRootWord config world seat (command_root command index) word
 
 -- the call has begun and nothing is settled
 pub record IsBegun (made : ℕ) (command : Command) (fixed : Option Reply) (other_command : Command) : Type 0 where
@@ -167,8 +167,8 @@ pub record IsComparing (config : Config) (world : World) (seat : ℕ) (other_com
 
 -- what holds while a reference that was found in a field is resolved
 abbrev pub LoadedFacts : Config → World → ℕ → Command → Command → Option Reply → (found : ℕ) → Loaded → Type 0
-LoadedFacts config world seat other_command command fixed found ForRoot = IsFound world fixed found (dst_of other_command)
-LoadedFacts config world seat other_command command fixed found (ToCompare object expect value) = IsComparing config world seat other_command command fixed object found expect value
+LoadedFacts config world seat begun_command command fixed found ForRoot = IsFound world fixed found (dst_of begun_command)
+LoadedFacts config world seat begun_command command fixed found (ToCompare object expect value) = IsComparing config world seat begun_command command fixed object found expect value
 
 -- the command makes one root another, or null
 pub record IsCopy (config : Config) (world : World) (seat : ℕ) (command : Command) (dst value : ℕ) : Type 0 where
@@ -213,51 +213,51 @@ pub record IsFull (command : Command) (fixed : Option Reply) : Type 0 where
 
 -- the command makes an object, and the mutator has asked so for it
 abbrev pub IsAsking : World → ℕ → ℕ → Command → Command → Option Reply → Asking → Type 0
-IsAsking world seat made other_command command fixed what = IsMaking made command fixed (dst_of other_command) (refs_of other_command) (nums_of other_command) × IsAsked world.memory world.block world.graph.count seat what
+IsAsking world seat made begun_command command fixed asked_for = IsMaking made command fixed (dst_of begun_command) (refs_of begun_command) (nums_of begun_command) × IsAsked world.memory world.block world.graph.count seat asked_for
 
 -- it asks for its object, and the word of what is asked has the bit that a mutator waits
 abbrev pub IsHeard : World → ℕ → ℕ → Command → Command → Option Reply → Type 0
-IsHeard world seat made other_command command fixed = IsAsking world seat made other_command command fixed (asking.asks (refs_of other_command) (nums_of other_command)) × (bit_at (world.memory Ask) 1 ≡ 1)
+IsHeard world seat made begun_command command fixed = IsAsking world seat made begun_command command fixed (asking.asks (refs_of begun_command) (nums_of begun_command)) × (bit_at (world.memory Ask) 1 ≡ 1)
 
 -- Where a mutator polls, it asks for its object, was given it, or was refused it. The words that count may say so before the
 -- word of the table does that it polls: then the history does not have yet that the heap is full.
 abbrev pub IsPolling : World → ℕ → ℕ → Command → Command → Option Reply → Type 0
-IsPolling world seat made other_command command fixed =
-    IsHeard world seat made other_command command fixed
-    ⊎ (IsAsking world seat made other_command command fixed (asking.given (refs_of other_command) (nums_of other_command)) ⊎ (IsRefused command fixed × IsAsked world.memory world.block world.graph.count seat asking.refused))
+IsPolling world seat made begun_command command fixed =
+    IsHeard world seat made begun_command command fixed
+    ⊎ (IsAsking world seat made begun_command command fixed (asking.given (refs_of begun_command) (nums_of begun_command)) ⊎ (IsRefused command fixed × IsAsked world.memory world.block world.graph.count seat asking.refused))
 
 -- and once it has found that it is answered, it was given its object, or the heap is full
 abbrev pub IsAnswered : World → ℕ → ℕ → Command → Command → Option Reply → Type 0
-IsAnswered world seat made other_command command fixed =
-    IsAsking world seat made other_command command fixed (asking.given (refs_of other_command) (nums_of other_command)) ⊎ (IsFull command fixed × IsAsked world.memory world.block world.graph.count seat asking.refused)
+IsAnswered world seat made begun_command command fixed =
+    IsAsking world seat made begun_command command fixed (asking.given (refs_of begun_command) (nums_of begun_command)) ⊎ (IsFull command fixed × IsAsked world.memory world.block world.graph.count seat asking.refused)
 
 -- What holds in each part of a call of this command, of which the mutator keeps k. `fixed` is the reply that the history has
 -- for the call, once it is settled.
 abbrev pub LoadFacts : Config → World → ℕ → ℕ → Command → Command → Option Reply → LoadSpot → Type 0
-LoadFacts config world seat made other_command command fixed load.First = IsBegun made command fixed other_command × (0 < length (command_roots other_command))
-LoadFacts config world seat made other_command command fixed (load.Second first) = IsBegun made command fixed other_command × (1 < length (command_roots other_command)) × HasFirst config world seat other_command first
-LoadFacts config world seat made other_command command fixed (load.Third first second) = IsBegun made command fixed other_command × (2 < length (command_roots other_command)) × HasFirst config world seat other_command first × HasRoot config world seat other_command 1 second
-LoadFacts config world seat made other_command command fixed (load.Shape object second third) =
-    IsBegun made command fixed other_command × (is_on_object other_command ≡ true) × HasRoots config world seat other_command object second third × (IsPin other_command → ⊥)
+LoadFacts config world seat made begun_command command fixed load.First = IsBegun made command fixed begun_command × (0 < length (command_roots begun_command))
+LoadFacts config world seat made begun_command command fixed (load.Second first) = IsBegun made command fixed begun_command × (1 < length (command_roots begun_command)) × HasFirst config world seat begun_command first
+LoadFacts config world seat made begun_command command fixed (load.Third first second) = IsBegun made command fixed begun_command × (2 < length (command_roots begun_command)) × HasFirst config world seat begun_command first × HasRoot config world seat begun_command 1 second
+LoadFacts config world seat made begun_command command fixed (load.Shape object second third) =
+    IsBegun made command fixed begun_command × (is_on_object begun_command ≡ true) × HasRoots config world seat begun_command object second third × (IsPin begun_command → ⊥)
 
 abbrev pub FieldFacts : Config → World → ℕ → Command → Command → Option Reply → ℕ → FieldSpot → Type 0
-FieldFacts config world seat other_command command fixed object fields.Load = (fixed ≡ None) × IsGet config world seat command object (index_of other_command) (dst_of other_command)
-FieldFacts config world seat other_command command fixed object (fields.LoadExpected expect value) = (fixed ≡ None) × IsCas config world seat command object (index_of other_command) expect value
-FieldFacts config world seat other_command command fixed object (fields.LoadOld value) = (fixed ≡ None) × IsSet config world seat command object (index_of other_command) value
-FieldFacts config world seat other_command command fixed object (fields.Store value) = (fixed ≡ None) × IsSet config world seat command object (index_of other_command) value × IsCovered config world object (index_of other_command)
-FieldFacts config world seat other_command command fixed object (fields.Swap value) = (fixed ≡ None) × IsXchg config world seat command object (index_of other_command) value (dst_of other_command)
-FieldFacts config world seat other_command command fixed object (fields.Exchange found expect value) = (fixed ≡ None) × IsCas config world seat command object (index_of other_command) expect value × NameTheSame world.block found expect
+FieldFacts config world seat begun_command command fixed object fields.Load = (fixed ≡ None) × IsGet config world seat command object (index_of begun_command) (dst_of begun_command)
+FieldFacts config world seat begun_command command fixed object (fields.LoadExpected expect value) = (fixed ≡ None) × IsCas config world seat command object (index_of begun_command) expect value
+FieldFacts config world seat begun_command command fixed object (fields.LoadOld value) = (fixed ≡ None) × IsSet config world seat command object (index_of begun_command) value
+FieldFacts config world seat begun_command command fixed object (fields.Store value) = (fixed ≡ None) × IsSet config world seat command object (index_of begun_command) value × IsCovered config world object (index_of begun_command)
+FieldFacts config world seat begun_command command fixed object (fields.Swap value) = (fixed ≡ None) × IsXchg config world seat command object (index_of begun_command) value (dst_of begun_command)
+FieldFacts config world seat begun_command command fixed object (fields.Exchange found expect value) = (fixed ≡ None) × IsCas config world seat command object (index_of begun_command) expect value × NameTheSame world.block found expect
 
 -- what follows once an overwritten reference is recorded: a Set covers what its field had in the snapshot, and of an Xchg and a Cas the
 -- reply is settled
 abbrev pub RecordFacts : Config → World → ℕ → Command → Command → Option Reply → ℕ → Overwritten → Type 0
-RecordFacts config world seat other_command command fixed address (overwrites.Set object value) = FieldFacts config world seat other_command command fixed object (fields.Store value)
-RecordFacts config world seat other_command command fixed address overwrites.Xchg = IsFound world fixed address (dst_of other_command)
-RecordFacts config world seat other_command command fixed address overwrites.Cas = fixed ≡ Some reply.Yes
+RecordFacts config world seat begun_command command fixed address (overwrites.Set object value) = FieldFacts config world seat begun_command command fixed object (fields.Store value)
+RecordFacts config world seat begun_command command fixed address overwrites.Xchg = IsFound world fixed address (dst_of begun_command)
+RecordFacts config world seat begun_command command fixed address overwrites.Cas = fixed ≡ Some reply.Yes
 
 abbrev pub NumberFacts : Config → World → ℕ → Command → Command → Option Reply → ℕ → ℕ → NumberSpot → Type 0
-NumberFacts config world seat other_command command fixed object refs numbers.Load = (fixed ≡ None) × IsRd config world seat command object refs (index_of other_command)
-NumberFacts config world seat other_command command fixed object refs numbers.Store = (fixed ≡ None) × IsWr config world seat command object refs (index_of other_command) (stored_number other_command)
+NumberFacts config world seat begun_command command fixed object refs numbers.Load = (fixed ≡ None) × IsRd config world seat command object refs (index_of begun_command)
+NumberFacts config world seat begun_command command fixed object refs numbers.Store = (fixed ≡ None) × IsWr config world seat command object refs (index_of begun_command) (stored_number begun_command)
 
 -- what a command counts on that is about a pin slot: it puts the object of a root into the slot, or it empties the slot
 abbrev pub IsOfSlot : Config → World → ℕ → Command → ℕ → Type 0
@@ -271,33 +271,33 @@ SlotFits world seat (Pin slot obj) = world.graph.pin (seat + 1) slot ≡ None
 SlotFits world seat command = world.graph.pin (seat + 1) (slot_of command) ≡ None → ⊥
 
 abbrev pub PinFacts : Config → World → ℕ → Command → Command → Option Reply → ℕ → PinSpot → Type 0
-PinFacts config world seat other_command command fixed value pins.Look = (fixed ≡ None) × (command ≡ other_command) × IsOfSlot config world seat other_command value
-PinFacts config world seat other_command command fixed value pins.Store = (fixed ≡ None) × (command ≡ other_command) × IsOfSlot config world seat other_command value × SlotFits world seat other_command
+PinFacts config world seat begun_command command fixed value pins.Look = (fixed ≡ None) × (command ≡ begun_command) × IsOfSlot config world seat begun_command value
+PinFacts config world seat begun_command command fixed value pins.Store = (fixed ≡ None) × (command ≡ begun_command) × IsOfSlot config world seat begun_command value × SlotFits world seat begun_command
 
 abbrev pub ShowFacts : Config → World → Command → Option Reply → ℕ → ShowSpot → Type 0
 ShowFacts config world command fixed value show.LoadName = IsFound world fixed value (dst_of command) × UsableIn config world value
 ShowFacts config world command fixed value (show.StoreRoot reply) = (fixed ≡ Some reply) × (dst_of command < 16) × UsableIn config world value
 
 abbrev pub MakeFacts : Config → World → ℕ → ℕ → Command → Command → Option Reply → MakeSpot → Type 0
-MakeFacts config world seat made other_command command fixed (make.Taking take) = IsMaking made command fixed (dst_of other_command) (refs_of other_command) (nums_of other_command) × TakeFacts config world seat (words_made other_command) take
-MakeFacts config world seat made other_command command fixed (make.StoreWord address done) =
-    IsMaking made command fixed (dst_of other_command) (refs_of other_command) (nums_of other_command) × IsFilling world seat made (refs_of other_command) (nums_of other_command) address done × (done < words_made other_command)
-MakeFacts config world seat made other_command command fixed (make.StoreRoot address) =
-    IsMaking made command fixed (dst_of other_command) (refs_of other_command) (nums_of other_command) × IsFilling world seat made (refs_of other_command) (nums_of other_command) address (words_made other_command)
+MakeFacts config world seat made begun_command command fixed (make.Taking taking) = IsMaking made command fixed (dst_of begun_command) (refs_of begun_command) (nums_of begun_command) × TakeFacts config world seat (words_made begun_command) taking
+MakeFacts config world seat made begun_command command fixed (make.StoreWord address stored_count) =
+    IsMaking made command fixed (dst_of begun_command) (refs_of begun_command) (nums_of begun_command) × IsFilling world seat made (refs_of begun_command) (nums_of begun_command) address stored_count × (stored_count < words_made begun_command)
+MakeFacts config world seat made begun_command command fixed (make.StoreRoot address) =
+    IsMaking made command fixed (dst_of begun_command) (refs_of begun_command) (nums_of begun_command) × IsFilling world seat made (refs_of begun_command) (nums_of begun_command) address (words_made begun_command)
 
 abbrev pub EnterFacts : World → ℕ → ℕ → Command → Command → Option Reply → Entered → Type 0
-EnterFacts world seat made other_command command fixed Call = IsBegun made command fixed other_command
-EnterFacts world seat made other_command command fixed Waited = IsAnswered world seat made other_command command fixed
+EnterFacts world seat made begun_command command fixed Call = IsBegun made command fixed begun_command
+EnterFacts world seat made begun_command command fixed Waited = IsAnswered world seat made begun_command command fixed
 
 abbrev pub WaitFacts : Config → World → ℕ → ℕ → Command → Command → Option Reply → WaitSpot → Type 0
-WaitFacts config world seat made other_command command fixed wait.StoreRequest = IsAsking world seat made other_command command fixed asking.nothing
-WaitFacts config world seat made other_command command fixed wait.AskRoom = IsAsking world seat made other_command command fixed (asking.asks (refs_of other_command) (nums_of other_command))
-WaitFacts config world seat made other_command command fixed wait.StepOut = IsHeard world seat made other_command command fixed
-WaitFacts config world seat made other_command command fixed wait.Poll = IsPolling world seat made other_command command fixed
-WaitFacts config world seat made other_command command fixed wait.LoadAnswer = IsAnswered world seat made other_command command fixed
-WaitFacts config world seat made other_command command fixed (wait.StoreRoot address) =
-    IsAsking world seat made other_command command fixed (asking.given (refs_of other_command) (nums_of other_command)) × (world.memory (Answer seat) ≡ address)
-WaitFacts config world seat made other_command command fixed (wait.ClearAnswer reply) =
+WaitFacts config world seat made begun_command command fixed wait.StoreRequest = IsAsking world seat made begun_command command fixed asking.nothing
+WaitFacts config world seat made begun_command command fixed wait.AskRoom = IsAsking world seat made begun_command command fixed (asking.asks (refs_of begun_command) (nums_of begun_command))
+WaitFacts config world seat made begun_command command fixed wait.StepOut = IsHeard world seat made begun_command command fixed
+WaitFacts config world seat made begun_command command fixed wait.Poll = IsPolling world seat made begun_command command fixed
+WaitFacts config world seat made begun_command command fixed wait.LoadAnswer = IsAnswered world seat made begun_command command fixed
+WaitFacts config world seat made begun_command command fixed (wait.StoreRoot address) =
+    IsAsking world seat made begun_command command fixed (asking.given (refs_of begun_command) (nums_of begun_command)) × (world.memory (Answer seat) ≡ address)
+WaitFacts config world seat made begun_command command fixed (wait.ClearAnswer reply) =
     (fixed ≡ Some reply) × (world.memory (Wait seat) ≡ 0) × HasNoPromise world.block seat × HasTaken config world seat reply × MakesObject command
 
 -- and at each spot
@@ -389,8 +389,8 @@ LegalBy config graph seat command (Some reply) = IsLegal config.regions config.r
 
 -- the settled reply after a step that settles one, gives it, or does neither
 abbrev pub fixed_by : Option Reply → Option Reply → Option Reply → Option Reply
-fixed_by fixed (Some told) given = Some told
-fixed_by fixed None (Some given) = None
+fixed_by fixed (Some told_reply) given_reply = Some told_reply
+fixed_by fixed None (Some given_reply) = None
 fixed_by fixed None None = fixed
 
 -- What a step of a mutator owes: the world after it, whose memory is that after the access and whose graph is that after

@@ -42,38 +42,38 @@ use Rattle.step_core.proofs.Machines.Roles.{machine_stays, short_stays, seen_sta
 -- under an order no reply is settled, and it does not wait
 orders_unsettled : (config : Config) (world : World) (seat : ℕ) (kept : Kept) (command : Command) (fixed : Option Reply) (spot : Spot) (made : ℕ) (order : Order) → (order ≡ Nothing → ⊥) → takes_at spot made order ≡ true
     → SpotFacts config world seat made kept command fixed spot → (fixed ≡ None) × (is_waiting spot ≡ false)
-orders_unsettled config world seat kept command fixed Rest made order given takes facts = (facts, refl)
-orders_unsettled config world seat kept command fixed (Ended reply) made order given takes facts = (facts, refl)
-orders_unsettled config world seat kept command fixed Gone made order given takes facts = absurd (cc (takes))
-orders_unsettled config world seat kept command fixed spot made order given takes facts = absurd (given (in_call spot made order refl takes))
+orders_unsettled config world seat kept command fixed Rest made order has_order takes facts = (facts, refl)
+orders_unsettled config world seat kept command fixed (Ended reply) made order has_order takes facts = (facts, refl)
+orders_unsettled config world seat kept command fixed Gone made order has_order takes facts = absurd (cc (takes))
+orders_unsettled config world seat kept command fixed spot made order has_order takes facts = absurd (has_order (in_call spot made order refl takes))
 
 -- a reply that is given is the settled one, of a call that goes on
 pub gives_settled : (config : Config) (world : World) (seat : ℕ) (kept : Kept) (command : Command) (fixed : Option Reply) (spot : Spot) (made : ℕ) (reply : Reply) → SpotFacts config world seat made kept command fixed spot → given_at spot ≡ Some reply → fixed ≡ Some reply
-gives_settled config world seat kept command fixed (Leave other_reply) made reply facts is = facts ∙ is
-gives_settled config world seat kept command fixed _ made reply facts is = cc
+gives_settled config world seat kept command fixed (Leave left_reply) made reply facts gives_reply = facts ∙ gives_reply
+gives_settled config world seat kept command fixed _ made reply facts gives_reply = cc
 
 -- the command stays, or no reply is settled
 command_stays : (config : Config) (world : World) (seat : ℕ) (kept : Kept) (command : Command) (fixed : Option Reply) (spot : Spot) (made : ℕ) (order : Order) → takes_at spot made order ≡ true → SpotFacts config world seat made kept command fixed spot
     → ((fixed ≡ None) × (is_waiting spot ≡ false)) ⊎ (command_by order command ≡ command)
 command_stays config world seat kept command fixed spot made Nothing takes facts = inr refl
-command_stays config world seat kept command fixed spot made (Begin other_command) takes facts = inl (orders_unsettled config world seat kept command fixed spot made (Begin other_command) (λ e. cc) takes facts)
+command_stays config world seat kept command fixed spot made (Begin begun_command) takes facts = inl (orders_unsettled config world seat kept command fixed spot made (Begin begun_command) (λ e. cc) takes facts)
 command_stays config world seat kept command fixed spot made End takes facts = inr refl
 command_stays config world seat kept command fixed spot made (Hint address) takes facts = inr refl
 
 -- the entries of a mutator after a step that settles a reply, gives one, or does neither
-entries_step : (calls : List Entry) (seat : ℕ) (command after : Command) (fixed told given : Option Reply)
-    → ((reply : Reply) → given ≡ Some reply → fixed ≡ Some reply)
-    → ((reply : Reply) → told ≡ Some reply → (fixed ≡ None) × (given ≡ None))
+entries_step : (calls : List Entry) (seat : ℕ) (command after : Command) (fixed told_reply given_reply : Option Reply)
+    → ((reply : Reply) → given_reply ≡ Some reply → fixed ≡ Some reply)
+    → ((reply : Reply) → told_reply ≡ Some reply → (fixed ≡ None) × (given_reply ≡ None))
     → (fixed ≡ None) ⊎ (after ≡ command)
-    → (calls ++ entries_of seat command fixed) ++ entries_of seat after told
-    ≡ (calls ++ entries_of seat command given) ++ entries_of seat after (fixed_by fixed told given)
-entries_step calls seat command after fixed (Some reply) given gives settles stays = rw ((settles reply refl).0, (settles reply refl).1) refl
-entries_step calls seat command after fixed None (Some reply) gives settles stays = rw (gives reply refl) refl
-entries_step calls seat command after fixed None None gives settles stays =
+    → (calls ++ entries_of seat command fixed) ++ entries_of seat after told_reply
+    ≡ (calls ++ entries_of seat command given_reply) ++ entries_of seat after (fixed_by fixed told_reply given_reply)
+entries_step calls seat command after fixed (Some reply) given_reply gives settles command_stays = rw ((settles reply refl).0, (settles reply refl).1) refl
+entries_step calls seat command after fixed None (Some reply) gives settles command_stays = rw (gives reply refl) refl
+entries_step calls seat command after fixed None None gives settles command_stays =
     append-nil _ ∙ ⊎_elim
-    (λ (no : fixed ≡ None). rw no (sym (append-nil _)))
-    (λ (same : after ≡ command). rw (same, append-nil calls) refl)
-    stays
+    (λ (not_fixed : fixed ≡ None). rw not_fixed (sym (append-nil _)))
+    (λ (same_command : after ≡ command). rw (same_command, append-nil calls) refl)
+    command_stays
 
 -- a mutator keeps its seat
 next_seat : (config : Config) (mutator : Mutating) (order : Order) (got : ℕ) (spot : Spot) → (next_at config mutator order got spot).seat ≡ mutator.seat
@@ -88,9 +88,9 @@ next_seat config mutator (Hint address) got (Ended reply) = refl
 next_seat config mutator order got _ = refl
 
 -- The adapter. While an image counts, the mutator is outside, and its access is of no word of the image.
-module _ (change : Change) (config : Config) (words : List ℕ) (found : Option Counting) (block : Plot) (ghost : Ghost) (graph : Graph) (past : List Entry) (number : ℕ) (machines : List Actor) (order : Order) (mutator : Mutating)
-    (command : Command) (calls : List Entry) (long : length words ≡ table_words config) (is : is_word config (touch_of config mutator order).word ≡ true)
-    (held : (image : Counting) → found ≡ Some image → (is_within (standing_at mutator.spot) ≡ false) × (is_image (touch_of config mutator order).word ≡ false)) where
+module _ (change : Change) (config : Config) (words : List ℕ) (found : Option Counting) (block : Plot) (ghost : Ghost) (graph : Graph) (past_entries : List Entry) (number : ℕ) (machines : List Actor) (order : Order) (mutator : Mutating)
+    (command : Command) (calls : List Entry) (table_length : length words ≡ table_words config) (within_table : is_word config (touch_of config mutator order).word ≡ true)
+    (image_held : (image : Counting) → found ≡ Some image → (is_within (standing_at mutator.spot) ≡ false) × (is_image (touch_of config mutator order).word ≡ false)) where
   abbrev touch : Touch
   touch = touch_of config mutator order
 
@@ -117,105 +117,105 @@ module _ (change : Change) (config : Config) (words : List ℕ) (found : Option 
   abbrev the_new : Actor
   the_new = took_of change config the_actor order (world_then.memory touch.word) (mutating mutator)
 
-  module _ (promised_to : PromisedToMutators config block) (shared : Shared config world_then) (thread : IsThread config words world_then (of_thread past (number + 1)) number the_actor mutator) (step : Stepped config world_then mutator command order thread.fixed)
+  module _ (promised_to : PromisedToMutators config block) (shared : Shared config world_then) (thread_facts : IsThread config words world_then (of_thread past_entries (number + 1)) number the_actor mutator) (step : Stepped config world_then mutator command order thread_facts.fixed)
       (takes : takes_at mutator.spot mutator.made order ≡ true) where
     abbrev fixed_then : Option Reply
-    fixed_then = fixed_by thread.fixed the_told (given_at mutator.spot)
+    fixed_then = fixed_by thread_facts.fixed the_told (given_at mutator.spot)
 
     -- while an image counts, nothing changes by which crowding is measured
     same_graph : (image : Counting) → found ≡ Some image → step.world.graph ≡ graph
-    same_graph image is_held = step.graph ∙ ap (λ r. graph_by graph mutator.seat (command_by order command) r) (outside_told world_then.memory mutator.seat mutator.made mutator.kept mutator.spot (held image is_held).0)
+    same_graph image is_held = step.graph ∙ ap (λ reply. graph_by graph mutator.seat (command_by order command) reply) (outside_told world_then.memory mutator.seat mutator.made mutator.kept mutator.spot (image_held image is_held).0)
 
     left_image : (image : Counting) → found ≡ Some image → is_image touch.word ≡ false
-    left_image image is_held = (held image is_held).1
+    left_image image is_held = (image_held image is_held).1
 
     -- and its own reply stays as it is
-    fixed_stays : (image : Counting) → found ≡ Some image → fixed_then ≡ thread.fixed
+    fixed_stays : (image : Counting) → found ≡ Some image → fixed_then ≡ thread_facts.fixed
     fixed_stays image is_held =
-        ap (λ r. fixed_by thread.fixed r (given_at mutator.spot)) (outside_told world_then.memory mutator.seat mutator.made mutator.kept mutator.spot (held image is_held).0)
-        ∙ ap (λ r. fixed_by thread.fixed None r) (outside_given mutator.spot (held image is_held).0)
+        ap (λ reply. fixed_by thread_facts.fixed reply (given_at mutator.spot)) (outside_told world_then.memory mutator.seat mutator.made mutator.kept mutator.spot (image_held image is_held).0)
+        ∙ ap (λ reply. fixed_by thread_facts.fixed None reply) (outside_given mutator.spot (image_held image is_held).0)
 
     -- where the table counts, an answer that the heap is full is settled
     full_open : found ≡ None → step.world.memory (Answer number) ≡ 1 → fixed_then ≡ Some Full
-    full_open none now =
-        let now_own : touched world_then.memory touch (Answer mutator.seat) ≡ 1 = ap (λ memory. memory (Answer mutator.seat)) (sym step.memory) ∙ ap (λ mutator. step.world.memory (Answer mutator)) thread.number_is ∙ now in
-        let before : world_then.memory (Answer mutator.seat) ≡ 1 = answer_before config world_then.memory mutator.seat mutator.made mutator.kept order mutator.spot now_own in
-        let before_here : world_then.memory (Answer number) ≡ 1 = ap (λ mutator. world_then.memory (Answer mutator)) (sym thread.number_is) ∙ before in
-        let quiet = refused_quiet config world_then mutator.seat mutator.made mutator.kept command thread.fixed mutator.spot before thread.mine in
-        let settled_full : thread.fixed ≡ Some Full = ⊎_elim
-        (λ (both : (view config words (Answer number) ≡ 1) × (thread.fixed ≡ Some Full)). both.1)
-        (λ (none_yet : (view config words (Answer number) ≡ 0) × (thread.fixed ≡ None)). absurd (let whole = whole_before config words found touch world_then step.world refl step.memory long is none number in let raw = none_yet.0 in omega (arith, whole, raw, before_here)))
-        (thread.seen.full before_here) in
-        ap (λ r. fixed_by thread.fixed r (given_at mutator.spot)) quiet.0 ∙ ap (λ r. fixed_by thread.fixed None r) quiet.1 ∙ settled_full
+    full_open none_counts now_full =
+        let now_own : touched world_then.memory touch (Answer mutator.seat) ≡ 1 = ap (λ memory. memory (Answer mutator.seat)) (sym step.memory) ∙ ap (λ mutator. step.world.memory (Answer mutator)) thread_facts.number_is ∙ now_full in
+        let answer_one : world_then.memory (Answer mutator.seat) ≡ 1 = answer_before config world_then.memory mutator.seat mutator.made mutator.kept order mutator.spot now_own in
+        let before_here : world_then.memory (Answer number) ≡ 1 = ap (λ mutator. world_then.memory (Answer mutator)) (sym thread_facts.number_is) ∙ answer_one in
+        let quiet = refused_quiet config world_then mutator.seat mutator.made mutator.kept command thread_facts.fixed mutator.spot answer_one thread_facts.mine in
+        let settled_full : thread_facts.fixed ≡ Some Full = ⊎_elim
+        (λ (both_full : (view config words (Answer number) ≡ 1) × (thread_facts.fixed ≡ Some Full)). both_full.1)
+        (λ (none_yet : (view config words (Answer number) ≡ 0) × (thread_facts.fixed ≡ None)). absurd (let same_before = whole_before config words found touch world_then step.world refl step.memory table_length within_table none_counts number in let seen_answer = none_yet.0 in omega (arith, same_before, seen_answer, before_here)))
+        (thread_facts.seen.full before_here) in
+        ap (λ reply. fixed_by thread_facts.fixed reply (given_at mutator.spot)) quiet.0 ∙ ap (λ reply. fixed_by thread_facts.fixed None reply) quiet.1 ∙ settled_full
 
     -- its answer
-    own_seen : (x : Option Counting) → found ≡ x → IsSeen (view config words_then (Answer number)) (step.world.memory (Answer number)) fixed_then
-    own_seen None none = record {
-      null = λ now. whole_then config words found touch world_then step.world refl step.memory long is none number ∙ now;
-      full = λ now. inl (whole_then config words found touch world_then step.world refl step.memory long is none number ∙ now, full_open none now);
-      given = λ more is_1. (let same = whole_then config words found touch world_then step.world refl step.memory long is none number in omega (arith, same, more, is_1));
+    own_seen : (counting : Option Counting) → found ≡ counting → IsSeen (view config words_then (Answer number)) (step.world.memory (Answer number)) fixed_then
+    own_seen None found_is = record {
+      null = λ answer_now. whole_then config words found touch world_then step.world refl step.memory table_length within_table found_is number ∙ answer_now;
+      full = λ answer_now. inl (whole_then config words found touch world_then step.world refl step.memory table_length within_table found_is number ∙ answer_now, full_open found_is answer_now);
+      given = λ is_address is_1. (let same_answer = whole_then config words found touch world_then step.world refl step.memory table_length within_table found_is number in omega (arith, same_answer, is_address, is_1));
     }
     own_seen (Some image) is_held =
         subst (λ fixed. IsSeen (view config words_then (Answer number)) (step.world.memory (Answer number)) fixed) (sym (fixed_stays image is_held))
-        (seen_stays _ _ _ _ thread.fixed (raw_stays config words found touch world_then step.world refl step.memory long is (left_image image is_held) number) (now_stays config words found touch world_then step.world refl step.memory long is (left_image image is_held) number) thread.seen)
+        (seen_stays _ _ _ _ thread_facts.fixed (raw_stays config words found touch world_then step.world refl step.memory table_length within_table (left_image image is_held) number) (now_stays config words found touch world_then step.world refl step.memory table_length within_table (left_image image is_held) number) thread_facts.seen)
 
     -- crowding
-    own_short : (x : Option Counting) → found ≡ x → step.world.memory (Answer number) ≡ 1 → fixed_then ≡ None → IsShort config step.world.memory step.world.graph number (words_asked (Some the_new.command))
-    own_short None none now unsettled = absurd (let it = sym unsettled ∙ full_open none now in cc)
-    own_short (Some image) is_held now unsettled =
-        let before : world_then.memory (Answer number) ≡ 1 = sym (now_stays config words found touch world_then step.world refl step.memory long is (left_image image is_held) number) ∙ now in
+    own_short : (counting : Option Counting) → found ≡ counting → step.world.memory (Answer number) ≡ 1 → fixed_then ≡ None → IsShort config step.world.memory step.world.graph number (words_asked (Some the_new.command))
+    own_short None found_is now_full unsettled = absurd (let full_settled = sym unsettled ∙ full_open found_is now_full in cc)
+    own_short (Some image) is_held now_full unsettled =
+        let answer_one : world_then.memory (Answer number) ≡ 1 = sym (now_stays config words found touch world_then step.world refl step.memory table_length within_table (left_image image is_held) number) ∙ now_full in
         let same_command : command_by order command ≡ command = ⊎_elim
-        (λ (rests : (thread.fixed ≡ None) × (is_waiting mutator.spot ≡ false)).
-        absurd (let answer = (thread.mine.seated.unasked rests.1).1 in let here = ap (λ mutator. world_then.memory (Answer mutator)) thread.number_is in omega (arith, answer, here, before)))
-        (λ (same : command_by order command ≡ command). same)
-        (command_stays config world_then mutator.seat mutator.kept command thread.fixed mutator.spot mutator.made order takes thread.mine.facts) in
-        subst (λ k. IsShort config step.world.memory step.world.graph number (words_asked (Some k))) (sym same_command)
-        (short_stays config world_then step.world number (words_asked (Some command)) (counts_same config words found touch world_then step.world refl step.memory long is (same_graph image is_held) (left_image image is_held)) (thread.short before (sym (fixed_stays image is_held) ∙ unsettled)))
+        (λ (rests : (thread_facts.fixed ≡ None) × (is_waiting mutator.spot ≡ false)).
+        absurd (let answer = (thread_facts.mine.seated.unasked rests.1).1 in let same_number = ap (λ mutator. world_then.memory (Answer mutator)) thread_facts.number_is in omega (arith, answer, same_number, answer_one)))
+        (λ (command_stands : command_by order command ≡ command). command_stands)
+        (command_stays config world_then mutator.seat mutator.kept command thread_facts.fixed mutator.spot mutator.made order takes thread_facts.mine.facts) in
+        subst (λ given_command. IsShort config step.world.memory step.world.graph number (words_asked (Some given_command))) (sym same_command)
+        (short_stays config world_then step.world number (words_asked (Some command)) (counts_same config words found touch world_then step.world refl step.memory table_length within_table (same_graph image is_held) (left_image image is_held)) (thread_facts.short answer_one (sym (fixed_stays image is_held) ∙ unsettled)))
 
     -- its own machine
-    own_machine : IsMachine config words_then step.world (of_thread (past ++ the_entries) (number + 1)) number the_new the_new.machine
+    own_machine : IsMachine config words_then step.world (of_thread (past_entries ++ the_entries) (number + 1)) number the_new the_new.machine
     own_machine = record {
       fixed = fixed_then;
-      number_is = next_seat config mutator order _ mutator.spot ∙ thread.number_is;
-      valid = command_valid mutator.spot mutator.made order command takes thread.valid;
+      number_is = next_seat config mutator order _ mutator.spot ∙ thread_facts.number_is;
+      valid = command_valid mutator.spot mutator.made order command takes thread_facts.valid;
       mine = step.mine;
       seen = own_seen found refl;
       short = own_short found refl;
       entries_are =
-          subst (λ n. of_thread (past ++ the_entries) (n + 1) ≡ (calls ++ entries_of mutator.seat command (given_at mutator.spot)) ++ entries_of n (command_by order command) fixed_then) thread.number_is
-          (own_more past mutator.seat (command_by order command) the_told
-          ∙ ap (λ es. es ++ the_entries)
-          (subst (λ n. of_thread past (n + 1) ≡ calls ++ entries_of n command thread.fixed) (sym thread.number_is) thread.entries_are)
-          ∙ entries_step calls mutator.seat command (command_by order command) thread.fixed the_told (given_at mutator.spot)
-          (λ reply given. gives_settled config world_then mutator.seat mutator.kept command thread.fixed mutator.spot mutator.made reply thread.mine.facts given)
+          subst (λ seat. of_thread (past_entries ++ the_entries) (seat + 1) ≡ (calls ++ entries_of mutator.seat command (given_at mutator.spot)) ++ entries_of seat (command_by order command) fixed_then) thread_facts.number_is
+          (own_more past_entries mutator.seat (command_by order command) the_told
+          ∙ ap (λ listed. listed ++ the_entries)
+          (subst (λ seat. of_thread past_entries (seat + 1) ≡ calls ++ entries_of seat command thread_facts.fixed) (sym thread_facts.number_is) thread_facts.entries_are)
+          ∙ entries_step calls mutator.seat command (command_by order command) thread_facts.fixed the_told (given_at mutator.spot)
+          (λ reply given_now. gives_settled config world_then mutator.seat mutator.kept command thread_facts.fixed mutator.spot mutator.made reply thread_facts.mine.facts given_now)
           step.settles
-          (⊎_elim (λ rests. inl rests.0) (λ same. inr same) (command_stays config world_then mutator.seat mutator.kept command thread.fixed mutator.spot mutator.made order takes thread.mine.facts)));
+          (⊎_elim (λ rests. inl rests.0) (λ same_command. inr same_command) (command_stays config world_then mutator.seat mutator.kept command thread_facts.fixed mutator.spot mutator.made order takes thread_facts.mine.facts)));
     }
 
     -- what the control has read or written of the image stays while one counts; while none does, it is in no pause
-    module _ (aims : (k : ℕ) (b : Actor) → k ≢ number → slice_get machines k ≡ Some b → (control : Controlling) → b.machine ≡ controlling control → IsAim config words control.spot control.image → IsAim config words_then control.spot control.image) where
+    module _ (aims : (other_number : ℕ) (actor : Actor) → other_number ≢ number → slice_get machines other_number ≡ Some actor → (control : Controlling) → actor.machine ≡ controlling control → IsAim config words control.spot control.image → IsAim config words_then control.spot control.image) where
       -- what its place owes, as an event
-      pub owes_stepped : Owes config words words_then world_then past number machines (touched world_then.memory touch) the_entries the_new
+      pub owes_stepped : Owes config words words_then world_then past_entries number machines (touched world_then.memory touch) the_entries the_new
       owes_stepped = record {
         world = step.world;
         memory_is = step.memory;
         graph_is = step.graph ∙ graph_settled graph mutator.seat (command_by order command) the_told;
         legal = legal_settled config graph mutator.seat (command_by order command) the_told step.legal;
-        entries = entries_settled config.mutators mutator.seat (command_by order command) the_told thread.mine.seated.below (command_valid mutator.spot mutator.made order command takes thread.valid);
+        entries = entries_settled config.mutators mutator.seat (command_by order command) the_told thread_facts.mine.seated.below (command_valid mutator.spot mutator.made order command takes thread_facts.valid);
         shared = step.shared;
-        promised_to = λ address seat more there. ⊎_elim
-            (λ (same : seat ≡ mutator.seat). subst (λ j. j < config.mutators) (sym same) thread.mine.seated.below)
-            (λ (differs : seat ≢ mutator.seat). promised_to address seat more ((step.others seat differs).no_promises address more there))
+        promised_to = λ address seat promised_words has_promise. ⊎_elim
+            (λ (same_seat : seat ≡ mutator.seat). subst (λ given_number. given_number < config.mutators) (sym same_seat) thread_facts.mine.seated.below)
+            (λ (seat_differs : seat ≢ mutator.seat). promised_to address seat promised_words ((step.others seat seat_differs).no_promises address promised_words has_promise))
             (cases_eq seat mutator.seat);
         own = own_machine;
-        others = λ k b differs there known.
-            let other : k ≢ mutator.seat = λ e. differs (e ∙ thread.number_is) in
-            machine_stays config words words_then world_then step.world (of_thread past (k + 1)) (of_thread (past ++ the_entries) (k + 1)) k b b.machine shared
+        others = λ other_number actor seat_differs has_promise actor_known.
+            let seats_differ : other_number ≢ mutator.seat = λ numbers_equal. seat_differs (numbers_equal ∙ thread_facts.number_is) in
+            machine_stays config words words_then world_then step.world (of_thread past_entries (other_number + 1)) (of_thread (past_entries ++ the_entries) (other_number + 1)) other_number actor actor.machine shared
             (record {
-              rely = step.others k other;
-              answer = other_raw config words found touch world_then step.world refl step.memory long is left_image found refl k (step.others k other);
-              counts = other_counts config words found touch world_then step.world refl step.memory long is left_image same_graph found refl k;
-              aims = λ control same. aims k b differs there control same;
+              rely = step.others other_number seats_differ;
+              answer = other_raw config words found touch world_then step.world refl step.memory table_length within_table left_image found refl other_number (step.others other_number seats_differ);
+              counts = other_counts config words found touch world_then step.world refl step.memory table_length within_table left_image same_graph found refl other_number;
+              aims = λ control same_seat. aims other_number actor seat_differs has_promise control same_seat;
             })
-            (other_more past mutator.seat (command_by order command) the_told k other) known;
+            (other_more past_entries mutator.seat (command_by order command) the_told other_number seats_differ) actor_known;
       }

@@ -33,8 +33,8 @@ module _ (config : Config) (world : World) (seat made : ℕ) (kept : Kept) (comm
 
   begins : (command : Command) → IsSeatedIn config world seat made false → HasMarkingBy world seat None kept.phase false → HasCopyingBy world seat false kept.cset false → ((index : ℕ) → index < 16 → Points world.block (world.memory (Root seat index)) (world.graph.root (seat + 1) index)) → OnlySpares world seat
       → fixed ≡ None → is_next made command ≡ true → MineBegun (Begin command)
-  begins command seated marking copying roots rooms unsettled next =
-      record { seated = seated; ready = refl; marking = marking; copying = copying; roots = roots; rooms = rooms; facts = record { unsettled = unsettled; is = refl; next = next } }
+  begins command seated marking copying roots rooms unsettled comes_next =
+      record { seated = seated; ready = refl; marking = marking; copying = copying; roots = roots; rooms = rooms; facts = record { unsettled = unsettled; is = refl; next = comes_next } }
 
   ends : IsSeatedIn config world seat made false → HasMarkingBy world seat None kept.phase false → HasCopyingBy world seat false kept.cset false → ((index : ℕ) → index < 16 → Points world.block (world.memory (Root seat index)) (world.graph.root (seat + 1) index)) → OnlySpares world seat
       → fixed ≡ None → MineBegun End
@@ -44,76 +44,76 @@ module _ (config : Config) (world : World) (seat made : ℕ) (kept : Kept) (comm
   pub at_rest : (order : Order) → OrderedRow config world (at_spot Rest) command order fixed
   at_rest Nothing shared mine takes = cc
   at_rest (Hint address) shared mine takes = cc
-  at_rest (Begin k) shared mine takes = record {
-    world = accessed_by config world (at_spot Rest) (Begin k);
+  at_rest (Begin begun_command) shared mine takes = record {
+    world = accessed_by config world (at_spot Rest) (Begin begun_command);
     memory = refl;
     graph = refl;
     legal = tt;
-    settles = λ r e. cc;
+    settles = λ r is_settled. cc;
     shared = shared;
-    mine = begins k mine.seated mine.marking mine.copying mine.roots mine.rooms mine.facts takes;
-    others = λ seat d. let marks = marks_in config world (accessed_by config world (at_spot Rest) (Begin k)).memory world.graph seat refl (λ n. refl) (λ t. refl) (λ t k. refl) (λ a. refl) in let copies = copies_in config world (accessed_by config world (at_spot Rest) (Begin k)).memory world.graph seat refl refl (λ r. refl) (λ a. refl) in let kept_fields = fields_in config world (accessed_by config world (at_spot Rest) (Begin k)).memory world.graph (λ r. refl) (λ r. refl) refl (λ a. refl) in search (arith, nat_tests, marks, copies, kept_fields);
+    mine = begins begun_command mine.seated mine.marking mine.copying mine.roots mine.rooms mine.facts takes;
+    others = λ seat differs. let marks = marks_in config world (accessed_by config world (at_spot Rest) (Begin begun_command)).memory world.graph seat refl (λ n. refl) (λ t. refl) (λ t begun_command. refl) (λ a. refl) in let copies = copies_in config world (accessed_by config world (at_spot Rest) (Begin begun_command)).memory world.graph seat refl refl (λ r. refl) (λ a. refl) in let kept_fields = fields_in config world (accessed_by config world (at_spot Rest) (Begin begun_command)).memory world.graph (λ r. refl) (λ r. refl) refl (λ a. refl) in search (arith, nat_tests, marks, copies, kept_fields);
   }
   at_rest End shared mine takes = record {
     world = accessed_by config world (at_spot Rest) End;
     memory = refl;
     graph = refl;
     legal = tt;
-    settles = λ r e. cc;
+    settles = λ r is_settled. cc;
     shared = shared;
     mine = ends mine.seated mine.marking mine.copying mine.roots mine.rooms mine.facts;
-    others = λ seat d. let marks = marks_in config world (accessed_by config world (at_spot Rest) End).memory world.graph seat refl (λ n. refl) (λ t. refl) (λ t k. refl) (λ a. refl) in let copies = copies_in config world (accessed_by config world (at_spot Rest) End).memory world.graph seat refl refl (λ r. refl) (λ a. refl) in let kept_fields = fields_in config world (accessed_by config world (at_spot Rest) End).memory world.graph (λ r. refl) (λ r. refl) refl (λ a. refl) in search (arith, nat_tests, marks, copies, kept_fields);
+    others = λ seat differs. let marks = marks_in config world (accessed_by config world (at_spot Rest) End).memory world.graph seat refl (λ n. refl) (λ t. refl) (λ t begun_command. refl) (λ a. refl) in let copies = copies_in config world (accessed_by config world (at_spot Rest) End).memory world.graph seat refl refl (λ r. refl) (λ a. refl) in let kept_fields = fields_in config world (accessed_by config world (at_spot Rest) End).memory world.graph (λ r. refl) (λ r. refl) refl (λ a. refl) in search (arith, nat_tests, marks, copies, kept_fields);
   }
 
   -- so does one that has ended a call
   pub at_ended : (answer : Reply) (order : Order) → OrderedRow config world (at_spot (Ended answer)) command order fixed
   at_ended answer Nothing shared mine takes = cc
   at_ended answer (Hint address) shared mine takes = cc
-  at_ended r (Begin k) shared mine takes = record {
-    world = accessed_by config world (at_spot (Ended r)) (Begin k);
+  at_ended ended_reply (Begin begun_command) shared mine takes = record {
+    world = accessed_by config world (at_spot (Ended ended_reply)) (Begin begun_command);
     memory = refl;
     graph = refl;
     legal = tt;
-    settles = λ q e. cc;
+    settles = λ own_reply is_settled. cc;
     shared = shared;
-    mine = begins k mine.seated mine.marking mine.copying mine.roots mine.rooms mine.facts takes;
-    others = λ seat d. let marks = marks_in config world (accessed_by config world (at_spot (Ended r)) (Begin k)).memory world.graph seat refl (λ n. refl) (λ t. refl) (λ t k. refl) (λ a. refl) in let copies = copies_in config world (accessed_by config world (at_spot (Ended r)) (Begin k)).memory world.graph seat refl refl (λ r. refl) (λ a. refl) in let kept_fields = fields_in config world (accessed_by config world (at_spot (Ended r)) (Begin k)).memory world.graph (λ r. refl) (λ r. refl) refl (λ a. refl) in search (arith, nat_tests, marks, copies, kept_fields);
+    mine = begins begun_command mine.seated mine.marking mine.copying mine.roots mine.rooms mine.facts takes;
+    others = λ seat differs. let marks = marks_in config world (accessed_by config world (at_spot (Ended ended_reply)) (Begin begun_command)).memory world.graph seat refl (λ n. refl) (λ t. refl) (λ t begun_command. refl) (λ a. refl) in let copies = copies_in config world (accessed_by config world (at_spot (Ended ended_reply)) (Begin begun_command)).memory world.graph seat refl refl (λ ended_reply. refl) (λ a. refl) in let kept_fields = fields_in config world (accessed_by config world (at_spot (Ended ended_reply)) (Begin begun_command)).memory world.graph (λ ended_reply. refl) (λ ended_reply. refl) refl (λ a. refl) in search (arith, nat_tests, marks, copies, kept_fields);
   }
-  at_ended r End shared mine takes = record {
-    world = accessed_by config world (at_spot (Ended r)) End;
+  at_ended ended_reply End shared mine takes = record {
+    world = accessed_by config world (at_spot (Ended ended_reply)) End;
     memory = refl;
     graph = refl;
     legal = tt;
-    settles = λ q e. cc;
+    settles = λ own_reply is_settled. cc;
     shared = shared;
     mine = ends mine.seated mine.marking mine.copying mine.roots mine.rooms mine.facts;
-    others = λ seat d. let marks = marks_in config world (accessed_by config world (at_spot (Ended r)) End).memory world.graph seat refl (λ n. refl) (λ t. refl) (λ t k. refl) (λ a. refl) in let copies = copies_in config world (accessed_by config world (at_spot (Ended r)) End).memory world.graph seat refl refl (λ r. refl) (λ a. refl) in let kept_fields = fields_in config world (accessed_by config world (at_spot (Ended r)) End).memory world.graph (λ r. refl) (λ r. refl) refl (λ a. refl) in search (arith, nat_tests, marks, copies, kept_fields);
+    others = λ seat differs. let marks = marks_in config world (accessed_by config world (at_spot (Ended ended_reply)) End).memory world.graph seat refl (λ n. refl) (λ t. refl) (λ t begun_command. refl) (λ a. refl) in let copies = copies_in config world (accessed_by config world (at_spot (Ended ended_reply)) End).memory world.graph seat refl refl (λ ended_reply. refl) (λ a. refl) in let kept_fields = fields_in config world (accessed_by config world (at_spot (Ended ended_reply)) End).memory world.graph (λ ended_reply. refl) (λ ended_reply. refl) refl (λ a. refl) in search (arith, nat_tests, marks, copies, kept_fields);
   }
 
   -- the step that asks for a cycle settles Ok
   pub at_ask : Row config world (at_spot AskCycle) command fixed
-  at_ask shared mine =
-      let gc : (outcome world.graph (seat + 1) command).reply ≡ reply.Ok = ap (λ k. (outcome world.graph (seat + 1) k).reply) mine.facts.1 in
+  at_ask shared own_facts =
+      let collect_reply : (outcome world.graph (seat + 1) command).reply ≡ reply.Ok = ap (λ given. (outcome world.graph (seat + 1) given).reply) own_facts.facts.1 in
       record {
         world = accessed config world (at_spot AskCycle);
         memory = refl;
-        graph = sym (graph_answer world.graph seat command reply.Ok refl (ap (pinned_by world.graph (seat + 1)) mine.facts.1) ∙ ap (λ k. (outcome world.graph (seat + 1) k).graph) mine.facts.1);
-        legal = legal_answer config world.graph seat command reply.Ok refl (ap (pinned_by world.graph (seat + 1)) mine.facts.1) gc;
-        settles = λ r e. (mine.facts.0, refl);
+        graph = sym (graph_answer world.graph seat command reply.Ok refl (ap (pinned_by world.graph (seat + 1)) own_facts.facts.1) ∙ ap (λ given. (outcome world.graph (seat + 1) given).graph) own_facts.facts.1);
+        legal = legal_answer config world.graph seat command reply.Ok refl (ap (pinned_by world.graph (seat + 1)) own_facts.facts.1) collect_reply;
+        settles = λ r is_settled. (own_facts.facts.0, refl);
         shared = shared;
-        mine = leaving config _ seat made kept command reply.Ok mine.seated (mine.marking.records, mine.marking.scans, mine.copying.copies_is, mine.copying.works_none) mine.roots mine.rooms;
-        others = λ seat d. let marks = marks_in config world (accessed config world (at_spot AskCycle)).memory world.graph seat refl (λ n. refl) (λ t. refl) (λ t k. refl) (λ a. refl) in let copies = copies_in config world (accessed config world (at_spot AskCycle)).memory world.graph seat refl refl (λ r. refl) (λ a. refl) in let kept_fields = fields_in config world (accessed config world (at_spot AskCycle)).memory world.graph (λ r. refl) (λ r. refl) refl (λ a. refl) in let waits = still_waits (world.memory Ask) in search (arith, nat_tests, marks, copies, kept_fields, waits);
+        mine = leaving config _ seat made kept command reply.Ok own_facts.seated (own_facts.marking.records, own_facts.marking.scans, own_facts.copying.copies_is, own_facts.copying.works_none) own_facts.roots own_facts.rooms;
+        others = λ seat differs. let marks = marks_in config world (accessed config world (at_spot AskCycle)).memory world.graph seat refl (λ n. refl) (λ t. refl) (λ t given. refl) (λ a. refl) in let copies = copies_in config world (accessed config world (at_spot AskCycle)).memory world.graph seat refl refl (λ r. refl) (λ a. refl) in let kept_fields = fields_in config world (accessed config world (at_spot AskCycle)).memory world.graph (λ r. refl) (λ r. refl) refl (λ a. refl) in let waits = still_waits (world.memory Ask) in search (arith, nat_tests, marks, copies, kept_fields, waits);
       }
 
   -- the last step of a call gives its reply
   pub at_leave : (answer : Reply) → Row config world (at_spot (Leave answer)) command fixed
-  at_leave r shared mine = record {
-    world = accessed config world (at_spot (Leave r));
+  at_leave left_reply shared mine = record {
+    world = accessed config world (at_spot (Leave left_reply));
     memory = refl;
     graph = refl;
     legal = tt;
-    settles = λ q e. cc;
+    settles = λ own_reply is_settled. cc;
     shared = shared;
-    mine = record { seated = mine.seated; ready = rest_ready config seat made kept (Ended r) refl mine.seated.below; marking = mine.marking; copying = mine.copying; roots = mine.roots; rooms = mine.rooms; facts = refl };
-    others = λ seat d. let marks = marks_in config world (accessed config world (at_spot (Leave r))).memory world.graph seat refl (λ n. refl) (λ t. refl) (λ t k. refl) (λ a. refl) in let copies = copies_in config world (accessed config world (at_spot (Leave r))).memory world.graph seat refl refl (λ r. refl) (λ a. refl) in let kept_fields = fields_in config world (accessed config world (at_spot (Leave r))).memory world.graph (λ r. refl) (λ r. refl) refl (λ a. refl) in search (arith, nat_tests, marks, copies, kept_fields);
+    mine = record { seated = mine.seated; ready = rest_ready config seat made kept (Ended left_reply) refl mine.seated.below; marking = mine.marking; copying = mine.copying; roots = mine.roots; rooms = mine.rooms; facts = refl };
+    others = λ seat differs. let marks = marks_in config world (accessed config world (at_spot (Leave left_reply))).memory world.graph seat refl (λ n. refl) (λ t. refl) (λ t k. refl) (λ a. refl) in let copies = copies_in config world (accessed config world (at_spot (Leave left_reply))).memory world.graph seat refl refl (λ left_reply. refl) (λ a. refl) in let kept_fields = fields_in config world (accessed config world (at_spot (Leave left_reply))).memory world.graph (λ left_reply. refl) (λ left_reply. refl) refl (λ a. refl) in search (arith, nat_tests, marks, copies, kept_fields);
   }

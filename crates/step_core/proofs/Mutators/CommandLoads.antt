@@ -1,4 +1,5 @@
 -- The steps by which a call loads its command's roots and the shape of its object.
+use Rattle.heap_words.specs.Phases.{marking_phase}
 use Rattle.std.proofs.Common.{◌≡◌, ℕ, zero, suc, ◌+◌, ◌<◌, inl, inr, ⊎_elim, Bool, true, false, length, Option, Some, None, refl, sym, ap, ◌∙◌, subst, arith}
 use Rattle.std.specs.Prelude.{◌==◌}
 use Rattle.std.proofs.lemmas.Bool.{and_parts, cases_Bool, cond-true, cond-false, eq-eqb, eqb-true, eqb-false, ltb-true}
@@ -36,40 +37,40 @@ use Rattle.alloc_buffers.specs.Facts.{OnlySpares}
 
 -- the roots that a command loads are below 16
 root_small : (made : ℕ) (command : Command) (index : ℕ) → is_next made command ≡ true → index < length (command_roots command) → command_root command index < 16
-root_small made (Get dst src field) zero next below = grind (arith, nat_tests)
-root_small made (Get dst src field) (suc i) next below = absurd (omega arith)
-root_small made (Set obj field val) zero next below = grind (arith, nat_tests)
-root_small made (Set obj field val) (suc zero) next below = grind (arith, nat_tests)
-root_small made (Set obj field val) (suc (suc i)) next below = absurd (omega arith)
-root_small made (Cas obj field expect val) zero next below = grind (arith, nat_tests)
-root_small made (Cas obj field expect val) (suc zero) next below = grind (arith, nat_tests)
-root_small made (Cas obj field expect val) (suc (suc zero)) next below = grind (arith, nat_tests)
-root_small made (Cas obj field expect val) (suc (suc (suc i))) next below = absurd (omega arith)
-root_small made (Xchg dst obj field val) zero next below = grind (arith, nat_tests)
-root_small made (Xchg dst obj field val) (suc zero) next below = grind (arith, nat_tests)
-root_small made (Xchg dst obj field val) (suc (suc i)) next below = absurd (omega arith)
-root_small made (Rd obj index) zero next below = grind (arith, nat_tests)
-root_small made (Rd obj index) (suc i) next below = absurd (omega arith)
-root_small made (Wr obj index value) zero next below = grind (arith, nat_tests)
-root_small made (Wr obj index value) (suc i) next below = absurd (omega arith)
-root_small made (Copy dst src) zero next below = grind (arith, nat_tests)
-root_small made (Copy dst src) (suc i) next below = absurd (omega arith)
-root_small made (Same a b) zero next below = grind (arith, nat_tests)
-root_small made (Same a b) (suc zero) next below = grind (arith, nat_tests)
-root_small made (Same a b) (suc (suc i)) next below = absurd (omega arith)
-root_small made (Pin slot obj) zero next below = grind (arith, nat_tests)
-root_small made (Pin slot obj) (suc i) next below = absurd (omega arith)
-root_small made _ index next below = absurd (omega arith)
+root_small made (Get dst src field) zero comes_next index_below = grind (arith, nat_tests)
+root_small made (Get dst src field) (suc earlier_index) comes_next index_below = absurd (omega arith)
+root_small made (Set obj field val) zero comes_next index_below = grind (arith, nat_tests)
+root_small made (Set obj field val) (suc zero) comes_next index_below = grind (arith, nat_tests)
+root_small made (Set obj field val) (suc (suc earlier_index)) comes_next index_below = absurd (omega arith)
+root_small made (Cas obj field expect val) zero comes_next index_below = grind (arith, nat_tests)
+root_small made (Cas obj field expect val) (suc zero) comes_next index_below = grind (arith, nat_tests)
+root_small made (Cas obj field expect val) (suc (suc zero)) comes_next index_below = grind (arith, nat_tests)
+root_small made (Cas obj field expect val) (suc (suc (suc earlier_index))) comes_next index_below = absurd (omega arith)
+root_small made (Xchg dst obj field val) zero comes_next index_below = grind (arith, nat_tests)
+root_small made (Xchg dst obj field val) (suc zero) comes_next index_below = grind (arith, nat_tests)
+root_small made (Xchg dst obj field val) (suc (suc earlier_index)) comes_next index_below = absurd (omega arith)
+root_small made (Rd obj index) zero comes_next index_below = grind (arith, nat_tests)
+root_small made (Rd obj index) (suc earlier_index) comes_next index_below = absurd (omega arith)
+root_small made (Wr obj index value) zero comes_next index_below = grind (arith, nat_tests)
+root_small made (Wr obj index value) (suc earlier_index) comes_next index_below = absurd (omega arith)
+root_small made (Copy dst src) zero comes_next index_below = grind (arith, nat_tests)
+root_small made (Copy dst src) (suc earlier_index) comes_next index_below = absurd (omega arith)
+root_small made (Same first_index second_index) zero comes_next index_below = grind (arith, nat_tests)
+root_small made (Same first_index second_index) (suc zero) comes_next index_below = grind (arith, nat_tests)
+root_small made (Same first_index second_index) (suc (suc earlier_index)) comes_next index_below = absurd (omega arith)
+root_small made (Pin slot obj) zero comes_next index_below = grind (arith, nat_tests)
+root_small made (Pin slot obj) (suc earlier_index) comes_next index_below = absurd (omega arith)
+root_small made _ index comes_next index_below = absurd (omega arith)
 
 -- the object of a command whose first root is not null
 abbrev object_of : (config : Config) (world : World) (seat : ℕ) (command : Command) (object : ℕ) → Shared config world → is_on_object command ≡ true → HasFirst config world seat command object → HasObject config world seat (command_root command 0) object
-object_of config world seat command object shared on first =
-    let is = first.first_is first.some in
-    let named = named_if_not_0 config _ world.block shared.parsable.plotted object _ is.stands (first.not_null on) in
+object_of config world seat command object shared on_object first_loaded =
+    let first_names = first_loaded.first_is first_loaded.some in
+    let named = named_if_not_0 config _ world.block shared.parsable.plotted object _ first_names.stands (first_loaded.not_null on_object) in
     ⊎_elim
-    (λ null. absurd (first.not_null on null))
-    (λ at. record { name = at.0; refs = at.1; nums = at.2; root_is = named.1 ∙ sym named.2 ∙ ap name_at at.3.piece; target = at.3 })
-    is.usable
+    (λ null. absurd (first_loaded.not_null on_object null))
+    (λ object_there. record { name = object_there.0; refs = object_there.1; nums = object_there.2; root_is = named.1 ∙ sym named.2 ∙ ap name_at object_there.3.piece; target = object_there.3 })
+    first_names.usable
 
 -- a call of a command has begun: what a mutator counts on that has no root in hand
 record IsUnderWay (config : Config) (world : World) (seat made phase cset : ℕ) (command : Command) (fixed : Option Reply) (other_command : Command) : Type 0 where
@@ -91,7 +92,7 @@ module _ (config : Config) (world : World) (seat made : ℕ) (kept : Kept) (comm
 
   -- what the call of a command keeps that has loaded this collection set
   abbrev keeping : Command → ℕ → Kept
-  keeping command now = record { command = command; phase = kept.phase; cset = now }
+  keeping command loaded_cset = record { command = command; phase = kept.phase; cset = loaded_cset }
 
   -- the mutator in a call of a command
   abbrev at_call : Command → Spot → Mutating
@@ -99,38 +100,38 @@ module _ (config : Config) (world : World) (seat made : ℕ) (kept : Kept) (comm
 
   -- what it counts on at a spot, once the call has a settled reply or none
   abbrev HasSpot : Command → ℕ → Option Reply → Spot → Type 0
-  HasSpot asked now settled spot = Mine config world (mutator_at seat made (keeping asked now) spot) command settled
+  HasSpot asked loaded_cset settled spot = Mine config world (mutator_at seat made (keeping asked loaded_cset) spot) command settled
 
   -- a call of a command has begun, which has loaded this collection set, and no root is in hand
   abbrev HasBegunWith : Command → ℕ → Type 0
-  HasBegunWith asked now = IsUnderWay config world seat made kept.phase now command fixed asked
+  HasBegunWith asked loaded_cset = IsUnderWay config world seat made kept.phase loaded_cset command fixed asked
 
   abbrev HasBegun : Command → Type 0
   HasBegun command = HasBegunWith command kept.cset
 
   -- it can go on with the command's first root
-  root_mine : (command : Command) (now : ℕ) → 0 < length (command_roots command) → HasBegunWith command now → HasSpot command now fixed (Loading load.First)
-  root_mine command now positive mine =
-      let below = mine.seated.below in
-      let small = root_small made command 0 mine.facts.next positive in
-      record { seated = mine.seated; ready = grind (arith, nat_tests); marking = mine.marking; copying = mine.copying; roots = mine.roots; rooms = mine.rooms; facts = (mine.facts, positive) }
+  root_mine : (command : Command) (loaded_cset : ℕ) → 0 < length (command_roots command) → HasBegunWith command loaded_cset → HasSpot command loaded_cset fixed (Loading load.First)
+  root_mine command loaded_cset some_roots command_begun =
+      let seat_below = command_begun.seated.below in
+      let index_small = root_small made command 0 command_begun.facts.next some_roots in
+      record { seated = command_begun.seated; ready = grind (arith, nat_tests); marking = command_begun.marking; copying = command_begun.copying; roots = command_begun.roots; rooms = command_begun.rooms; facts = (command_begun.facts, some_roots) }
 
   -- where it goes on after the collection set
-  set_mine : (command : Command) (now : ℕ) → HasBegunWith command now → HasSpot command now fixed (first_spot command)
-  set_mine (New dst refs nums) now mine =
-      let below = mine.seated.below in
-      let next = mine.facts.next in
+  set_mine : (command : Command) (loaded_cset : ℕ) → HasBegunWith command loaded_cset → HasSpot command loaded_cset fixed (first_spot command)
+  set_mine (New dst refs nums) loaded_cset command_begun =
+      let seat_below = command_begun.seated.below in
+      let comes_next = command_begun.facts.next in
       record {
-        seated = mine.seated;
+        seated = command_begun.seated;
         ready = grind (arith, nat_tests);
-        marking = mine.marking;
-        copying = mine.copying;
-        roots = mine.roots;
-        rooms = mine.rooms;
+        marking = command_begun.marking;
+        copying = command_begun.copying;
+        roots = command_begun.roots;
+        rooms = command_begun.rooms;
         facts = (
           record {
-            unsettled = mine.facts.unsettled;
-            is = mine.facts.is;
+            unsettled = command_begun.facts.unsettled;
+            is = command_begun.facts.is;
             small = grind (arith, nat_tests);
             few_refs = grind (arith, nat_tests);
             few_nums = grind (arith, nat_tests);
@@ -139,180 +140,180 @@ module _ (config : Config) (world : World) (seat made : ℕ) (kept : Kept) (comm
           tt,
         );
       }
-  set_mine (Drop dst) now mine =
-      let below = mine.seated.below in
-      let next = mine.facts.next in
-      let small : dst < 16 = grind (arith, nat_tests) in
+  set_mine (Drop dst) loaded_cset command_begun =
+      let seat_below = command_begun.seated.below in
+      let comes_next = command_begun.facts.next in
+      let index_small : dst < 16 = grind (arith, nat_tests) in
       record {
-        seated = mine.seated;
+        seated = command_begun.seated;
         ready = grind (arith, nat_tests);
-        marking = mine.marking;
-        copying = mine.copying;
-        roots = mine.roots;
-        rooms = mine.rooms;
-        facts = (mine.facts.unsettled, small, inr (record { is = mine.facts.is; value_is = refl }));
+        marking = command_begun.marking;
+        copying = command_begun.copying;
+        roots = command_begun.roots;
+        rooms = command_begun.rooms;
+        facts = (command_begun.facts.unsettled, index_small, inr (record { is = command_begun.facts.is; value_is = refl }));
       }
-  set_mine Gc now mine = record { seated = mine.seated; ready = refl; marking = mine.marking; copying = mine.copying; roots = mine.roots; rooms = mine.rooms; facts = (mine.facts.unsettled, mine.facts.is) }
-  set_mine (Get dst src field) now mine = root_mine (Get dst src field) now (omega arith) mine
-  set_mine (Set obj field val) now mine = root_mine (Set obj field val) now (omega arith) mine
-  set_mine (Cas obj field expect val) now mine = root_mine (Cas obj field expect val) now (omega arith) mine
-  set_mine (Xchg dst obj field val) now mine = root_mine (Xchg dst obj field val) now (omega arith) mine
-  set_mine (Rd obj index) now mine = root_mine (Rd obj index) now (omega arith) mine
-  set_mine (Wr obj index value) now mine = root_mine (Wr obj index value) now (omega arith) mine
-  set_mine (Copy dst src) now mine = root_mine (Copy dst src) now (omega arith) mine
-  set_mine (Same a b) now mine = root_mine (Same a b) now (omega arith) mine
-  set_mine (Pin slot obj) now mine = root_mine (Pin slot obj) now (omega arith) mine
-  set_mine (Unpin slot) now mine =
-      let below = mine.seated.below in
-      let next = mine.facts.next in
-      let small : slot < 4 = grind (arith, nat_tests) in
+  set_mine Gc loaded_cset command_begun = record { seated = command_begun.seated; ready = refl; marking = command_begun.marking; copying = command_begun.copying; roots = command_begun.roots; rooms = command_begun.rooms; facts = (command_begun.facts.unsettled, command_begun.facts.is) }
+  set_mine (Get dst src field) loaded_cset command_begun = root_mine (Get dst src field) loaded_cset (omega arith) command_begun
+  set_mine (Set obj field val) loaded_cset command_begun = root_mine (Set obj field val) loaded_cset (omega arith) command_begun
+  set_mine (Cas obj field expect val) loaded_cset command_begun = root_mine (Cas obj field expect val) loaded_cset (omega arith) command_begun
+  set_mine (Xchg dst obj field val) loaded_cset command_begun = root_mine (Xchg dst obj field val) loaded_cset (omega arith) command_begun
+  set_mine (Rd obj index) loaded_cset command_begun = root_mine (Rd obj index) loaded_cset (omega arith) command_begun
+  set_mine (Wr obj index value) loaded_cset command_begun = root_mine (Wr obj index value) loaded_cset (omega arith) command_begun
+  set_mine (Copy dst src) loaded_cset command_begun = root_mine (Copy dst src) loaded_cset (omega arith) command_begun
+  set_mine (Same first_index second_index) loaded_cset command_begun = root_mine (Same first_index second_index) loaded_cset (omega arith) command_begun
+  set_mine (Pin slot obj) loaded_cset command_begun = root_mine (Pin slot obj) loaded_cset (omega arith) command_begun
+  set_mine (Unpin slot) loaded_cset command_begun =
+      let seat_below = command_begun.seated.below in
+      let comes_next = command_begun.facts.next in
+      let index_small : slot < 4 = grind (arith, nat_tests) in
       record {
-        seated = mine.seated;
+        seated = command_begun.seated;
         ready = grind (arith, nat_tests);
-        marking = mine.marking;
-        copying = mine.copying;
-        roots = mine.roots;
-        rooms = mine.rooms;
-        facts = (mine.facts.unsettled, mine.facts.is, (small, refl));
+        marking = command_begun.marking;
+        copying = command_begun.copying;
+        roots = command_begun.roots;
+        rooms = command_begun.rooms;
+        facts = (command_begun.facts.unsettled, command_begun.facts.is, (index_small, refl));
       }
 
   -- it leaves with the reply that is settled
   leave_mine : (asked : Command) (answer : Reply) → HasBegun asked → HasSpot asked kept.cset (Some answer) (Leave answer)
-  leave_mine asked answer mine = leaving config _ seat made (keeping asked kept.cset) command answer mine.seated (mine.marking.records, mine.marking.scans, mine.copying.copies_is, mine.copying.works_none) mine.roots mine.rooms
+  leave_mine asked answer command_begun = leaving config _ seat made (keeping asked kept.cset) command answer command_begun.seated (command_begun.marking.records, command_begun.marking.scans, command_begun.copying.copies_is, command_begun.copying.works_none) command_begun.roots command_begun.rooms
 
   -- it can go on with the shape of the command's object
   shape_mine : (command : Command) (object second third : ℕ) → Shared config world → HasBegun command → is_on_object command ≡ true → (IsPin command → ⊥) → HasRoots config world seat command object second third → HasSpot command kept.cset fixed (Loading (load.Shape object second third))
-  shape_mine command object second third shared mine on no_pin has =
-      let of : HasObject config world seat (command_root command 0) object = object_of config world seat command object shared on has.first_is in
+  shape_mine command object second third shared command_begun on_object no_pin has_roots =
+      let of_object : HasObject config world seat (command_root command 0) object = object_of config world seat command object shared on_object has_roots.first_is in
       record {
-        seated = mine.seated;
-        ready = ready_of _ true (word_in config world shared seat (command_root command 0) object (object + 1) 1 of (omega arith) refl) refl;
-        marking = mine.marking;
-        copying = mine.copying;
-        roots = mine.roots;
-        rooms = mine.rooms;
-        facts = (mine.facts, on, has, no_pin);
+        seated = command_begun.seated;
+        ready = ready_of _ true (word_in config world shared seat (command_root command 0) object (object + 1) 1 of_object (omega arith) refl) refl;
+        marking = command_begun.marking;
+        copying = command_begun.copying;
+        roots = command_begun.roots;
+        rooms = command_begun.rooms;
+        facts = (command_begun.facts, on_object, has_roots, no_pin);
       }
 
   -- the word of a root of the command stands for the root
   root_has : (command : Command) (index : ℕ) → HasBegun command → HasRoot config world seat command index (world.memory (Root seat (command_root command index)))
-  root_has command index mine below =
-      let small = root_small made command index mine.facts.next below in
-      record { stands = mine.roots (command_root command index) small; usable = mine.seated.usable (command_root command index) small }
+  root_has command index command_begun index_below =
+      let index_small = root_small made command index command_begun.facts.next index_below in
+      record { stands = command_begun.roots (command_root command index) index_small; usable = command_begun.seated.usable (command_root command index) index_small }
 
   -- it can go on with the second root, and with the third
   second_mine : (command : Command) (first : ℕ) → HasBegun command → 1 < length (command_roots command) → HasFirst config world seat command first → HasSpot command kept.cset fixed (Loading (load.Second first))
-  second_mine command first mine more has =
-      let below = mine.seated.below in
-      let small = root_small made command 1 mine.facts.next more in
-      record { seated = mine.seated; ready = grind (arith, nat_tests); marking = mine.marking; copying = mine.copying; roots = mine.roots; rooms = mine.rooms; facts = (mine.facts, more, has) }
+  second_mine command first command_begun has_second has_first =
+      let seat_below = command_begun.seated.below in
+      let index_small = root_small made command 1 command_begun.facts.next has_second in
+      record { seated = command_begun.seated; ready = grind (arith, nat_tests); marking = command_begun.marking; copying = command_begun.copying; roots = command_begun.roots; rooms = command_begun.rooms; facts = (command_begun.facts, has_second, has_first) }
 
   -- it can go on with the third root
   third_mine : (command : Command) (first second : ℕ) → HasBegun command → 2 < length (command_roots command) → HasFirst config world seat command first → HasRoot config world seat command 1 second → HasSpot command kept.cset fixed (Loading (load.Third first second))
-  third_mine command first second mine more has has_second =
-      let below = mine.seated.below in
-      let small = root_small made command 2 mine.facts.next more in
-      record { seated = mine.seated; ready = grind (arith, nat_tests); marking = mine.marking; copying = mine.copying; roots = mine.roots; rooms = mine.rooms; facts = (mine.facts, more, has, has_second) }
+  third_mine command first second command_begun has_third has_first has_second =
+      let seat_below = command_begun.seated.below in
+      let index_small = root_small made command 2 command_begun.facts.next has_third in
+      record { seated = command_begun.seated; ready = grind (arith, nat_tests); marking = command_begun.marking; copying = command_begun.copying; roots = command_begun.roots; rooms = command_begun.rooms; facts = (command_begun.facts, has_third, has_first, has_second) }
 
   -- where it goes on after the first root
   first_mine : (command : Command) (first : ℕ) → Shared config world → HasBegun command → HasFirst config world seat command first → HasSpot command kept.cset fixed (after_first command first)
-  first_mine (Get dst src field) first shared mine has =
-      shape_mine (Get dst src field) first 0 0 shared mine refl (λ pins. pins) (record { first_is = has; second_is = λ below. absurd (omega arith); third_is = λ below. absurd (omega arith) })
-  first_mine (Rd obj index) first shared mine has =
-      shape_mine (Rd obj index) first 0 0 shared mine refl (λ pins. pins) (record { first_is = has; second_is = λ below. absurd (omega arith); third_is = λ below. absurd (omega arith) })
-  first_mine (Wr obj index value) first shared mine has =
-      shape_mine (Wr obj index value) first 0 0 shared mine refl (λ pins. pins) (record { first_is = has; second_is = λ below. absurd (omega arith); third_is = λ below. absurd (omega arith) })
-  first_mine (Set obj field val) first shared mine has = second_mine (Set obj field val) first mine (omega arith) has
-  first_mine (Cas obj field expect val) first shared mine has = second_mine (Cas obj field expect val) first mine (omega arith) has
-  first_mine (Xchg dst obj field val) first shared mine has = second_mine (Xchg dst obj field val) first mine (omega arith) has
-  first_mine (Same a b) first shared mine has = second_mine (Same a b) first mine (omega arith) has
-  first_mine (Copy dst src) first shared mine has =
-      let below = mine.seated.below in
-      let next = mine.facts.next in
-      let small : dst < 16 = grind (arith, nat_tests) in
-      let value_is : IsRootWord config world seat src first = has.first_is has.some in
+  first_mine (Get dst src field) first shared command_begun has_first =
+      shape_mine (Get dst src field) first 0 0 shared command_begun refl (λ pins. pins) (record { first_is = has_first; second_is = λ number_below. absurd (omega arith); third_is = λ number_below. absurd (omega arith) })
+  first_mine (Rd obj index) first shared command_begun has_first =
+      shape_mine (Rd obj index) first 0 0 shared command_begun refl (λ pins. pins) (record { first_is = has_first; second_is = λ number_below. absurd (omega arith); third_is = λ number_below. absurd (omega arith) })
+  first_mine (Wr obj index value) first shared command_begun has_first =
+      shape_mine (Wr obj index value) first 0 0 shared command_begun refl (λ pins. pins) (record { first_is = has_first; second_is = λ number_below. absurd (omega arith); third_is = λ number_below. absurd (omega arith) })
+  first_mine (Set obj field val) first shared command_begun has_first = second_mine (Set obj field val) first command_begun (omega arith) has_first
+  first_mine (Cas obj field expect val) first shared command_begun has_first = second_mine (Cas obj field expect val) first command_begun (omega arith) has_first
+  first_mine (Xchg dst obj field val) first shared command_begun has_first = second_mine (Xchg dst obj field val) first command_begun (omega arith) has_first
+  first_mine (Same first_index second_index) first shared command_begun has_first = second_mine (Same first_index second_index) first command_begun (omega arith) has_first
+  first_mine (Copy dst src) first shared command_begun has_first =
+      let number_below = command_begun.seated.below in
+      let comes_next = command_begun.facts.next in
+      let index_small : dst < 16 = grind (arith, nat_tests) in
+      let value_is : IsRootWord config world seat src first = has_first.first_is has_first.some in
       record {
-        seated = mine.seated;
+        seated = command_begun.seated;
         ready = ready_of _ _ (grind (arith, nat_tests)) (number_small first (points_small config _ world.block shared.parsable.plotted first _ value_is.stands));
-        marking = mine.marking;
-        copying = mine.copying;
-        roots = mine.roots;
-        rooms = mine.rooms;
-        facts = (mine.facts.unsettled, small, inl (record { src = src; is = mine.facts.is; value_is = value_is }));
+        marking = command_begun.marking;
+        copying = command_begun.copying;
+        roots = command_begun.roots;
+        rooms = command_begun.rooms;
+        facts = (command_begun.facts.unsettled, index_small, inl (record { src = src; is = command_begun.facts.is; value_is = value_is }));
       }
-  first_mine (Pin slot obj) first shared mine has =
-      let below = mine.seated.below in
-      let next = mine.facts.next in
-      let small : slot < 4 = grind (arith, nat_tests) in
+  first_mine (Pin slot obj) first shared command_begun has_first =
+      let number_below = command_begun.seated.below in
+      let comes_next = command_begun.facts.next in
+      let index_small : slot < 4 = grind (arith, nat_tests) in
       record {
-        seated = mine.seated;
+        seated = command_begun.seated;
         ready = grind (arith, nat_tests);
-        marking = mine.marking;
-        copying = mine.copying;
-        roots = mine.roots;
-        rooms = mine.rooms;
-        facts = (mine.facts.unsettled, mine.facts.is, (small, object_of config world seat (Pin slot obj) first shared refl has));
+        marking = command_begun.marking;
+        copying = command_begun.copying;
+        roots = command_begun.roots;
+        rooms = command_begun.rooms;
+        facts = (command_begun.facts.unsettled, command_begun.facts.is, (index_small, object_of config world seat (Pin slot obj) first shared refl has_first));
       }
-  first_mine _ first shared mine has = let some = has.some in absurd (omega arith)
+  first_mine _ first shared command_begun has_first = let first_some = has_first.some in absurd (omega arith)
 
   -- the load of the collection set
   pub at_load_set : Row config world (at_spot LoadSet) command fixed
-  at_load_set shared mine =
-      let begun : HasBegunWith kept.command (world.memory Cset) = record { seated = mine.seated; marking = mine.marking; copying = record { copies_is = mine.copying.copies_is; works_none = mine.copying.works_none; set_is = λ on. refl }; roots = mine.roots; rooms = mine.rooms; facts = mine.facts } in
-      looks config world (at_spot LoadSet) Cset command fixed refl refl refl shared (set_mine kept.command (world.memory Cset) begun)
+  at_load_set shared own_facts =
+      let command_begun : HasBegunWith kept.command (world.memory Cset) = record { seated = own_facts.seated; marking = own_facts.marking; copying = record { copies_is = own_facts.copying.copies_is; works_none = own_facts.copying.works_none; set_is = λ on. refl }; roots = own_facts.roots; rooms = own_facts.rooms; facts = own_facts.facts } in
+      looks config world (at_spot LoadSet) Cset command fixed refl refl refl shared (set_mine kept.command (world.memory Cset) command_begun)
 
   -- the first root of a command is null, and there is no object
   root_lacks : (asked : Command) → Shared config world → HasBegun asked → 0 < length (command_roots asked) → lacks_object asked (world.memory (Root seat (command_root asked 0))) ≡ true → Stepped config world (at_call asked (Loading load.First)) command Nothing fixed
-  root_lacks asked shared mine positive lacks =
-      let parts = and_parts _ _ lacks in
-      let null : world.graph.root (seat + 1) (command_root asked 0) ≡ None = null_if_0 config _ world.block shared.parsable.plotted _ _ (root_has asked 0 mine positive).stands (eqb-true _ _ parts.1) in
+  root_lacks asked shared command_begun some_roots lacks =
+      let both_tests = and_parts _ _ lacks in
+      let null : world.graph.root (seat + 1) (command_root asked 0) ≡ None = null_if_0 config _ world.block shared.parsable.plotted _ _ (root_has asked 0 command_begun some_roots).stands (eqb-true _ _ both_tests.1) in
       replies config world (at_call asked (Loading load.First)) (Root seat (command_root asked 0)) command fixed reply.Bad refl
-      (cond-true _ _ _ lacks) refl mine.facts.unsettled refl
-      (ap (pinned_by world.graph (seat + 1)) mine.facts.is ∙ pinned_on_null world.graph (seat + 1) asked null)
-      (ap (λ x. outcome world.graph (seat + 1) x) mine.facts.is ∙ bad_on_null world.graph (seat + 1) asked parts.0 null)
-      shared (rw lacks (leave_mine asked reply.Bad mine))
+      (cond-true _ _ _ lacks) refl command_begun.facts.unsettled refl
+      (ap (pinned_by world.graph (seat + 1)) command_begun.facts.is ∙ pinned_on_null world.graph (seat + 1) asked null)
+      (ap (λ given_command. outcome world.graph (seat + 1) given_command) command_begun.facts.is ∙ bad_on_null world.graph (seat + 1) asked both_tests.0 null)
+      shared (rw lacks (leave_mine asked reply.Bad command_begun))
 
   -- it is not, or the command works on none
   root_goes : (asked : Command) → Shared config world → HasBegun asked → 0 < length (command_roots asked) → lacks_object asked (world.memory (Root seat (command_root asked 0))) ≡ false → Stepped config world (at_call asked (Loading load.First)) command Nothing fixed
-  root_goes asked shared mine positive lacks =
+  root_goes asked shared command_begun some_roots lacks =
       looks config world (at_call asked (Loading load.First)) (Root seat (command_root asked 0)) command fixed refl (cond-false _ _ _ lacks) refl shared
-      (rw lacks (first_mine asked (world.memory (Root seat (command_root asked 0))) shared mine (record {
-        some = positive;
-        first_is = root_has asked 0 mine;
-        not_null = λ on is. absurd (let both : lacks_object asked (world.memory (Root seat (command_root asked 0))) ≡ true = rw on (eq-eqb _ _ is) in cc);
+      (rw lacks (first_mine asked (world.memory (Root seat (command_root asked 0))) shared command_begun (record {
+        some = some_roots;
+        first_is = root_has asked 0 command_begun;
+        not_null = λ on_object is_null. absurd (let object_lacking : lacks_object asked (world.memory (Root seat (command_root asked 0))) ≡ true = rw on_object (eq-eqb _ _ is_null) in cc);
       })))
 
   -- the load of the first root
   pub at_load_root : Row config world (at_spot (Loading load.First)) command fixed
-  at_load_root shared mine =
-      let other_command : Command = kept.command in
-      let base : HasBegun other_command = record { seated = mine.seated; marking = mine.marking; copying = mine.copying; roots = mine.roots; rooms = mine.rooms; facts = mine.facts.0 } in
-      ⊎_elim (root_lacks other_command shared base mine.facts.1) (root_goes other_command shared base mine.facts.1) (cases_Bool (lacks_object other_command (world.memory (Root seat (command_root other_command 0)))))
+  at_load_root shared own_facts =
+      let begun_command : Command = kept.command in
+      let base : HasBegun begun_command = record { seated = own_facts.seated; marking = own_facts.marking; copying = own_facts.copying; roots = own_facts.roots; rooms = own_facts.rooms; facts = own_facts.facts.0 } in
+      ⊎_elim (root_lacks begun_command shared base own_facts.facts.1) (root_goes begun_command shared base own_facts.facts.1) (cases_Bool (lacks_object begun_command (world.memory (Root seat (command_root begun_command 0)))))
 
   -- where it goes on after the second root; for a Same it is settled here whether the roots are the same
   second_step : (asked : Command) (first : ℕ) → Shared config world → HasBegun asked → 1 < length (command_roots asked) → HasFirst config world seat asked first → Stepped config world (at_call asked (Loading (load.Second first))) command Nothing fixed
-  second_step (Set obj field val) first shared mine more has =
+  second_step (Set obj field val) first shared command_begun has_second has_first =
       looks config world (at_call (Set obj field val) (Loading (load.Second first))) (Root seat val) command fixed refl refl refl shared
-      (shape_mine (Set obj field val) first (world.memory (Root seat val)) 0 shared mine refl (λ pins. pins) (record { first_is = has; second_is = root_has (Set obj field val) 1 mine; third_is = λ below. absurd (omega arith) }))
-  second_step (Cas obj field expect val) first shared mine below has =
+      (shape_mine (Set obj field val) first (world.memory (Root seat val)) 0 shared command_begun refl (λ pins. pins) (record { first_is = has_first; second_is = root_has (Set obj field val) 1 command_begun; third_is = λ index_below. absurd (omega arith) }))
+  second_step (Cas obj field expect val) first shared command_begun index_below has_first =
       looks config world (at_call (Cas obj field expect val) (Loading (load.Second first))) (Root seat expect) command fixed refl refl refl shared
-      (third_mine (Cas obj field expect val) first (world.memory (Root seat expect)) mine (omega arith) has (root_has (Cas obj field expect val) 1 mine))
-  second_step (Xchg dst obj field val) first shared mine more has =
+      (third_mine (Cas obj field expect val) first (world.memory (Root seat expect)) command_begun (omega arith) has_first (root_has (Cas obj field expect val) 1 command_begun))
+  second_step (Xchg dst obj field val) first shared command_begun has_second has_first =
       looks config world (at_call (Xchg dst obj field val) (Loading (load.Second first))) (Root seat val) command fixed refl refl refl shared
-      (shape_mine (Xchg dst obj field val) first (world.memory (Root seat val)) 0 shared mine refl (λ pins. pins) (record { first_is = has; second_is = root_has (Xchg dst obj field val) 1 mine; third_is = λ below. absurd (omega arith) }))
-  second_step (Same index other_index) first shared mine below has =
-      let got : ℕ = world.memory (Root seat other_index) in
-      let is_first = has.first_is has.some in
-      let is_second = root_has (Same index other_index) 1 mine below in
-      let stand : name_the_same world.memory first got ≡ same_reference (world.graph.root (seat + 1) index) (world.graph.root (seat + 1) other_index) = names_agree config world shared first got _ _ is_first.stands is_second.stands in
+      (shape_mine (Xchg dst obj field val) first (world.memory (Root seat val)) 0 shared command_begun refl (λ pins. pins) (record { first_is = has_first; second_is = root_has (Xchg dst obj field val) 1 command_begun; third_is = λ index_below. absurd (omega arith) }))
+  second_step (Same index second_index) first shared command_begun index_below has_first =
+      let got : ℕ = world.memory (Root seat second_index) in
+      let is_first = has_first.first_is has_first.some in
+      let is_second = root_has (Same index second_index) 1 command_begun index_below in
+      let stand : name_the_same world.memory first got ≡ same_reference (world.graph.root (seat + 1) index) (world.graph.root (seat + 1) second_index) = names_agree config world shared first got _ _ is_first.stands is_second.stands in
       let agree : name_the_same world.memory first got ≡ (first == got) = stand ∙ sym (same_words config world shared first got _ _ is_first.usable is_second.usable is_first.stands is_second.stands) in
-      replies config world (at_call (Same index other_index) (Loading (load.Second first))) (Root seat other_index) command fixed (yes_or_no (name_the_same world.memory first got)) refl refl refl mine.facts.unsettled
+      replies config world (at_call (Same index second_index) (Loading (load.Second first))) (Root seat second_index) command fixed (yes_or_no (name_the_same world.memory first got)) refl refl refl command_begun.facts.unsettled
       (full_no (name_the_same world.memory first got))
-      (ap (pinned_by world.graph (seat + 1)) mine.facts.is)
-      (ap (λ x. outcome world.graph (seat + 1) x) mine.facts.is ∙ ap (λ x. answers (yes_or_no x) world.graph) (sym stand))
+      (ap (pinned_by world.graph (seat + 1)) command_begun.facts.is)
+      (ap (λ given. outcome world.graph (seat + 1) given) command_begun.facts.is ∙ ap (λ given. answers (yes_or_no given) world.graph) (sym stand))
       shared
-      (subst (λ f. HasSpot (Same index other_index) kept.cset f (Leave (yes_or_no (first == got)))) (ap (λ x. Some (yes_or_no x)) (sym agree)) (leave_mine (Same index other_index) (yes_or_no (first == got)) mine))
-  second_step _ first shared mine below has = absurd (omega arith)
+      (subst (λ f. HasSpot (Same index second_index) kept.cset f (Leave (yes_or_no (first == got)))) (ap (λ given. Some (yes_or_no given)) (sym agree)) (leave_mine (Same index second_index) (yes_or_no (first == got)) command_begun))
+  second_step _ first shared command_begun index_below has_first = absurd (omega arith)
 
   -- the load of the second root
   pub at_load_second : (first : ℕ) → Row config world (at_spot (Loading (load.Second first))) command fixed
@@ -321,10 +322,10 @@ module _ (config : Config) (world : World) (seat made : ℕ) (kept : Kept) (comm
 
   -- where it goes on after the third root: only a Cas has one
   third_step : (asked : Command) (first second : ℕ) → Shared config world → HasBegun asked → 2 < length (command_roots asked) → HasFirst config world seat asked first → HasRoot config world seat asked 1 second → Stepped config world (at_call asked (Loading (load.Third first second))) command Nothing fixed
-  third_step (Cas obj field expect val) first second shared mine below has has_second =
+  third_step (Cas obj field expect val) first second shared command_begun has_third has_first has_second =
       looks config world (at_call (Cas obj field expect val) (Loading (load.Third first second))) (Root seat val) command fixed refl refl refl shared
-      (shape_mine (Cas obj field expect val) first second (world.memory (Root seat val)) shared mine refl (λ pins. pins) (record { first_is = has; second_is = has_second; third_is = root_has (Cas obj field expect val) 2 mine }))
-  third_step _ first second shared mine below has has_second = absurd (omega arith)
+      (shape_mine (Cas obj field expect val) first second (world.memory (Root seat val)) shared command_begun refl (λ pins. pins) (record { first_is = has_first; second_is = has_second; third_is = root_has (Cas obj field expect val) 2 command_begun }))
+  third_step _ first second shared command_begun has_third has_first has_second = absurd (omega arith)
 
   -- the load of the third root
   pub at_load_third : (first second : ℕ) → Row config world (at_spot (Loading (load.Third first second))) command fixed
@@ -334,115 +335,115 @@ module _ (config : Config) (world : World) (seat made : ℕ) (kept : Kept) (comm
   -- A Set goes on with its field: while objects are marked it looks first what it will overwrite.
   set_part : (obj field val object value : ℕ) → Shared config world → HasBegun (Set obj field val) → IsSet config world seat command object field value
       → HasSpot (Set obj field val) kept.cset fixed (OnField object (first_of_set kept.phase value))
-  set_part obj field val object value shared mine is = ⊎_elim
-      (λ (marks : (kept.phase == 1) ≡ true). rw marks (record {
-        seated = mine.seated;
+  set_part obj field val object value shared command_begun set_facts = ⊎_elim
+      (λ (marks : (kept.phase == marking_phase) ≡ true). rw marks (record {
+        seated = command_begun.seated;
         ready = ready_of _ true there refl;
-        marking = mine.marking;
-        copying = mine.copying;
-        roots = mine.roots;
-        rooms = mine.rooms;
-        facts = (mine.facts.unsettled, is);
+        marking = command_begun.marking;
+        copying = command_begun.copying;
+        roots = command_begun.roots;
+        rooms = command_begun.rooms;
+        facts = (command_begun.facts.unsettled, set_facts);
       }))
-      (λ (off : (kept.phase == 1) ≡ false). rw off (record {
-        seated = mine.seated;
-        ready = ready_of _ _ there (number_small value (points_small config _ world.block shared.parsable.plotted value _ is.value_is.stands));
-        marking = mine.marking;
-        copying = mine.copying;
-        roots = mine.roots;
-        rooms = mine.rooms;
-        facts = (mine.facts.unsettled, is, covered_unmarked config world object field shared (λ on. eqb-false _ _ off (mine.marking.phase_is refl ∙ on)));
+      (λ (not_marking : (kept.phase == marking_phase) ≡ false). rw not_marking (record {
+        seated = command_begun.seated;
+        ready = ready_of _ _ there (number_small value (points_small config _ world.block shared.parsable.plotted value _ set_facts.value_is.stands));
+        marking = command_begun.marking;
+        copying = command_begun.copying;
+        roots = command_begun.roots;
+        rooms = command_begun.rooms;
+        facts = (command_begun.facts.unsettled, set_facts, covered_unmarked config world object field shared (λ marking. eqb-false _ _ not_marking (command_begun.marking.phase_is refl ∙ marking)));
       }))
-      (cases_Bool (kept.phase == 1))
+      (cases_Bool (kept.phase == marking_phase))
     where
       there : is_word config (Heap (object + 3 + field)) ≡ true
-      there = word_in config world shared seat is.obj object (object + 3 + field) (3 + field) is.of (let below = is.below in omega (arith, below)) (omega arith)
+      there = word_in config world shared seat set_facts.obj object (object + 3 + field) (3 + field) set_facts.of (let field_below = set_facts.below in omega (arith, field_below)) (omega arith)
 
   -- where it goes on with a part of the object that there is
-  part_mine : (command : Command) (object second third shape : ℕ) → Shared config world → HasBegun command → HasRoots config world seat command object second third → (of : HasObject config world seat (command_root command 0) object)
-      → refs_in shape ≡ of.refs → nums_in shape ≡ of.nums → is_on_object command ≡ true → has_part command shape ≡ true → HasSpot command kept.cset fixed (with_part kept.phase command object second third shape)
-  part_mine (Get dst src field) object second third shape shared mine has of refs nums on part =
-      let next = mine.facts.next in
-      let below : field < of.refs = let lt = ltb-true _ _ part in omega arith in
+  part_mine : (command : Command) (object second third shape : ℕ) → Shared config world → HasBegun command → HasRoots config world seat command object second third → (of_object : HasObject config world seat (command_root command 0) object)
+      → refs_in shape ≡ of_object.refs → nums_in shape ≡ of_object.nums → is_on_object command ≡ true → has_part command shape ≡ true → HasSpot command kept.cset fixed (with_part kept.phase command object second third shape)
+  part_mine (Get dst src field) object second third shape shared command_begun has_roots of_object same_refs same_nums on_object part_there =
+      let comes_next = command_begun.facts.next in
+      let part_below : field < of_object.refs = let tested_below = ltb-true _ _ part_there in omega arith in
       record {
-        seated = mine.seated;
-        ready = ready_of _ true (word_in config world shared seat src object (object + 3 + field) (3 + field) of (omega arith) (omega arith)) refl;
-        marking = mine.marking;
-        copying = mine.copying;
-        roots = mine.roots;
-        rooms = mine.rooms;
-        facts = (mine.facts.unsettled, record { src = src; is = mine.facts.is; small = grind (arith, nat_tests); of = of; below = below });
+        seated = command_begun.seated;
+        ready = ready_of _ true (word_in config world shared seat src object (object + 3 + field) (3 + field) of_object (omega arith) (omega arith)) refl;
+        marking = command_begun.marking;
+        copying = command_begun.copying;
+        roots = command_begun.roots;
+        rooms = command_begun.rooms;
+        facts = (command_begun.facts.unsettled, record { src = src; is = command_begun.facts.is; small = grind (arith, nat_tests); of = of_object; below = part_below });
       }
-  part_mine (Set obj field val) object second third shape shared mine has of refs nums on part =
-      let below : field < of.refs = let lt = ltb-true _ _ part in omega arith in
-      set_part obj field val object second shared mine (record { obj = obj; val = val; is = mine.facts.is; of = of; below = below; value_is = has.second_is (omega arith) })
-  part_mine (Cas obj field expect val) object second third shape shared mine has of refs nums on part =
-      let below : field < of.refs = let lt = ltb-true _ _ part in omega arith in
+  part_mine (Set obj field val) object second third shape shared command_begun has_roots of_object same_refs same_nums on_object part_there =
+      let part_below : field < of_object.refs = let tested_below = ltb-true _ _ part_there in omega arith in
+      set_part obj field val object second shared command_begun (record { obj = obj; val = val; is = command_begun.facts.is; of = of_object; below = part_below; value_is = has_roots.second_is (omega arith) })
+  part_mine (Cas obj field expect val) object second third shape shared command_begun has_roots of_object same_refs same_nums on_object part_there =
+      let part_below : field < of_object.refs = let tested_below = ltb-true _ _ part_there in omega arith in
       record {
-        seated = mine.seated;
-        ready = ready_of _ true (word_in config world shared seat obj object (object + 3 + field) (3 + field) of (omega arith) (omega arith)) refl;
-        marking = mine.marking;
-        copying = mine.copying;
-        roots = mine.roots;
-        rooms = mine.rooms;
+        seated = command_begun.seated;
+        ready = ready_of _ true (word_in config world shared seat obj object (object + 3 + field) (3 + field) of_object (omega arith) (omega arith)) refl;
+        marking = command_begun.marking;
+        copying = command_begun.copying;
+        roots = command_begun.roots;
+        rooms = command_begun.rooms;
         facts = (
-          mine.facts.unsettled,
-          record { obj = obj; expected = expect; val = val; is = mine.facts.is; of = of; below = below; expect_is = has.second_is (omega arith); value_is = has.third_is (omega arith) },
+          command_begun.facts.unsettled,
+          record { obj = obj; expected = expect; val = val; is = command_begun.facts.is; of = of_object; below = part_below; expect_is = has_roots.second_is (omega arith); value_is = has_roots.third_is (omega arith) },
         );
       }
-  part_mine (Xchg dst obj field val) object second third shape shared mine has of refs nums on part =
-      let next = mine.facts.next in
-      let below : field < of.refs = let lt = ltb-true _ _ part in omega arith in
-      let value_is : IsRootWord config world seat val second = has.second_is (omega arith) in
+  part_mine (Xchg dst obj field val) object second third shape shared command_begun has_roots of_object same_refs same_nums on_object part_there =
+      let comes_next = command_begun.facts.next in
+      let part_below : field < of_object.refs = let tested_below = ltb-true _ _ part_there in omega arith in
+      let value_is : IsRootWord config world seat val second = has_roots.second_is (omega arith) in
       record {
-        seated = mine.seated;
-        ready = ready_of _ _ (word_in config world shared seat obj object (object + 3 + field) (3 + field) of (omega arith) (omega arith)) (number_small second (points_small config _ world.block shared.parsable.plotted second _ value_is.stands));
-        marking = mine.marking;
-        copying = mine.copying;
-        roots = mine.roots;
-        rooms = mine.rooms;
-        facts = (mine.facts.unsettled, record { obj = obj; val = val; is = mine.facts.is; small = grind (arith, nat_tests); of = of; below = below; value_is = value_is });
+        seated = command_begun.seated;
+        ready = ready_of _ _ (word_in config world shared seat obj object (object + 3 + field) (3 + field) of_object (omega arith) (omega arith)) (number_small second (points_small config _ world.block shared.parsable.plotted second _ value_is.stands));
+        marking = command_begun.marking;
+        copying = command_begun.copying;
+        roots = command_begun.roots;
+        rooms = command_begun.rooms;
+        facts = (command_begun.facts.unsettled, record { obj = obj; val = val; is = command_begun.facts.is; small = grind (arith, nat_tests); of = of_object; below = part_below; value_is = value_is });
       }
-  part_mine (Rd obj index) object second third shape shared mine has of refs nums on part =
-      let below : index < of.nums = let lt = ltb-true _ _ part in omega arith in
+  part_mine (Rd obj index) object second third shape shared command_begun has_roots of_object same_refs same_nums on_object part_there =
+      let part_below : index < of_object.nums = let tested_below = ltb-true _ _ part_there in omega arith in
       record {
-        seated = mine.seated;
-        ready = ready_of _ true (word_in config world shared seat obj object (object + 3 + refs_in shape + index) (3 + refs_in shape + index) of (omega arith) (omega arith)) refl;
-        marking = mine.marking;
-        copying = mine.copying;
-        roots = mine.roots;
-        rooms = mine.rooms;
-        facts = (mine.facts.unsettled, record { obj = obj; is = mine.facts.is; of = of; refs_are = refs; below = below });
+        seated = command_begun.seated;
+        ready = ready_of _ true (word_in config world shared seat obj object (object + 3 + refs_in shape + index) (3 + refs_in shape + index) of_object (omega arith) (omega arith)) refl;
+        marking = command_begun.marking;
+        copying = command_begun.copying;
+        roots = command_begun.roots;
+        rooms = command_begun.rooms;
+        facts = (command_begun.facts.unsettled, record { obj = obj; is = command_begun.facts.is; of = of_object; refs_are = same_refs; below = part_below });
       }
-  part_mine (Wr obj index value) object second third shape shared mine has of refs nums on part =
-      let next = mine.facts.next in
-      let below : index < of.nums = let lt = ltb-true _ _ part in omega arith in
-      let small : is_number value ≡ true = grind (arith, nat_tests) in
+  part_mine (Wr obj index value) object second third shape shared command_begun has_roots of_object same_refs same_nums on_object part_there =
+      let comes_next = command_begun.facts.next in
+      let part_below : index < of_object.nums = let tested_below = ltb-true _ _ part_there in omega arith in
+      let value_small : is_number value ≡ true = grind (arith, nat_tests) in
       record {
-        seated = mine.seated;
-        ready = ready_of _ _ (word_in config world shared seat obj object (object + 3 + refs_in shape + index) (3 + refs_in shape + index) of (omega arith) (omega arith)) small;
-        marking = mine.marking;
-        copying = mine.copying;
-        roots = mine.roots;
-        rooms = mine.rooms;
-        facts = (mine.facts.unsettled, record { obj = obj; is = mine.facts.is; of = of; refs_are = refs; below = below });
+        seated = command_begun.seated;
+        ready = ready_of _ _ (word_in config world shared seat obj object (object + 3 + refs_in shape + index) (3 + refs_in shape + index) of_object (omega arith) (omega arith)) value_small;
+        marking = command_begun.marking;
+        copying = command_begun.copying;
+        roots = command_begun.roots;
+        rooms = command_begun.rooms;
+        facts = (command_begun.facts.unsettled, record { obj = obj; is = command_begun.facts.is; of = of_object; refs_are = same_refs; below = part_below });
       }
-  part_mine _ object second third shape shared mine has of refs nums on part = cc
+  part_mine _ object second third shape shared command_begun has_roots of_object same_refs same_nums on_object part_there = cc
 
   -- the load of the shape settles Bad where the object has no such part
   pub at_load_shape : (object second third : ℕ) → Row config world (at_spot (Loading (load.Shape object second third))) command fixed
   at_load_shape object second third shared mine =
-      let other_command : Command = kept.command in
-      let base : HasBegun other_command = record { seated = mine.seated; marking = mine.marking; copying = mine.copying; roots = mine.roots; rooms = mine.rooms; facts = mine.facts.0 } in
-      let of : HasObject config world seat (command_root other_command 0) object = object_of config world seat other_command object shared mine.facts.1 mine.facts.2.first_is in
-      let sizes = shape_in config world shared seat (command_root other_command 0) object of in
+      let begun_command : Command = kept.command in
+      let base : HasBegun begun_command = record { seated = mine.seated; marking = mine.marking; copying = mine.copying; roots = mine.roots; rooms = mine.rooms; facts = mine.facts.0 } in
+      let of_object : HasObject config world seat (command_root begun_command 0) object = object_of config world seat begun_command object shared mine.facts.1 mine.facts.2.first_is in
+      let sizes = shape_in config world shared seat (command_root begun_command 0) object of_object in
       ⊎_elim
-      (λ (part : has_part other_command (world.memory (Heap (object + 1))) ≡ true).
-      looks config world (at_spot (Loading (load.Shape object second third))) (Heap (object + 1)) command fixed refl (cond-true _ _ _ part) refl shared
-      (rw part (part_mine other_command object second third (world.memory (Heap (object + 1))) shared base mine.facts.2 of sizes.0 sizes.1 mine.facts.1 part)))
-      (λ (lacks : has_part other_command (world.memory (Heap (object + 1))) ≡ false).
+      (λ (part_there : has_part begun_command (world.memory (Heap (object + 1))) ≡ true).
+      looks config world (at_spot (Loading (load.Shape object second third))) (Heap (object + 1)) command fixed refl (cond-true _ _ _ part_there) refl shared
+      (rw part_there (part_mine begun_command object second third (world.memory (Heap (object + 1))) shared base mine.facts.2 of_object sizes.0 sizes.1 mine.facts.1 part_there)))
+      (λ (lacks : has_part begun_command (world.memory (Heap (object + 1))) ≡ false).
       replies config world (at_spot (Loading (load.Shape object second third))) (Heap (object + 1)) command fixed reply.Bad refl (cond-false _ _ _ lacks) refl mine.facts.0.unsettled refl
-      (ap (pinned_by world.graph (seat + 1)) mine.facts.0.is ∙ pins_none world.graph (seat + 1) other_command mine.facts.3)
-      (ap (λ x. outcome world.graph (seat + 1) x) mine.facts.0.is ∙ bad_on_shape config world shared seat object other_command of mine.facts.1 lacks)
-      shared (rw lacks (leave_mine other_command reply.Bad base)))
-      (cases_Bool (has_part other_command (world.memory (Heap (object + 1)))))
+      (ap (pinned_by world.graph (seat + 1)) mine.facts.0.is ∙ pins_none world.graph (seat + 1) begun_command mine.facts.3)
+      (ap (λ given_command. outcome world.graph (seat + 1) given_command) mine.facts.0.is ∙ bad_on_shape config world shared seat object begun_command of_object mine.facts.1 lacks)
+      shared (rw lacks (leave_mine begun_command reply.Bad base)))
+      (cases_Bool (has_part begun_command (world.memory (Heap (object + 1)))))

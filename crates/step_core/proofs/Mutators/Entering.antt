@@ -47,7 +47,7 @@ state_copies : (config : Config) (world : World) (seat other_seat value : ℕ) �
 state_copies config world seat other_seat value = copies_in config world (state_world world seat value).memory world.graph other_seat refl refl (λ r. refl) (λ a. refl)
 
 pub state_keeps : (config : Config) (world : World) (seat other_seat value : ℕ) → Keeps config other_seat world (state_world world seat value)
-state_keeps config world seat j value = let marks = state_marks config world seat j value in let kept = marks.keeps in let copies = state_copies config world seat j value in let kept_copies = copies.keeps in search (arith, nat_tests, kept, kept_copies)
+state_keeps config world seat checked_seat value = let marks = state_marks config world seat checked_seat value in let kept_marks = marks.keeps in let copies = state_copies config world seat checked_seat value in let kept_copies = copies.keeps in search (arith, nat_tests, kept_marks, kept_copies)
 
 -- an entering that goes on stays one
 still_enters : (next : Entered) (spot : EnterSpot) → is_still_outside spot ≡ true → after_enter next spot ≡ Entering spot next
@@ -62,23 +62,23 @@ module _ (config : Config) (world : World) (seat made : ℕ) (kept : Kept) (comm
 
   -- the accesses of an entering can be made
   enter_ready : (spot : EnterSpot) (next : Entered) → is_still_outside spot ≡ true → seat < config.mutators → is_ready config seat made kept (Entering spot next) ≡ true
-  enter_ready Raise next outside below = ready_of _ true (state_word config seat below) refl
-  enter_ready Look next outside below = refl
-  enter_ready Lower next outside below = ready_of _ true (state_word config seat below) refl
-  enter_ready Await next outside below = refl
-  enter_ready Inside next outside below = absurd (false≢true outside)
+  enter_ready Raise next outside seat_below = ready_of _ true (state_word config seat seat_below) refl
+  enter_ready Look next outside seat_below = refl
+  enter_ready Lower next outside seat_below = ready_of _ true (state_word config seat seat_below) refl
+  enter_ready Await next outside seat_below = refl
+  enter_ready Inside next outside seat_below = absurd (false≢true outside)
 
-  module _ (before : EnterSpot) (next : Entered) (mine : Mine config world (at_spot (Entering before next)) command fixed) where
+  module _ (before : EnterSpot) (next : Entered) (own_facts : Mine config world (at_spot (Entering before next)) command fixed) where
     -- what it counts on where it goes on entering
     mine_at : (next_world : World) → Keeps config seat world next_world → RelyMarks config seat world next_world → RelyCopies config seat world next_world → next_world.block ≡ world.block → (spot : EnterSpot) → is_still_outside spot ≡ true → Mine config next_world (at_spot (after_enter next spot)) command fixed
-    mine_at next_world keeps marks copies same at outside = subst (λ spot. Mine config next_world (at_spot spot) command fixed) (sym (still_enters next at outside)) (record {
-      seated = seated_stays config world next_world seat keeps made (is_waiting (Entering before next)) mine.seated;
-      ready = enter_ready at next outside mine.seated.below;
-      marking = marking_relied config world next_world seat None kept.phase false marks mine.marking;
-      copying = copying_relied config world next_world seat false kept.cset false copies mine.copying;
-      roots = λ i below. rw (keeps.root_words i) (root_stays config world next_world seat keeps _ i (mine.roots i below));
-      rooms = λ address x is. mine.rooms address x (ap (λ plot. plot address) (sym same) ∙ is);
-      facts = enter_stays config world next_world seat keeps made kept.command command fixed next mine.facts;
+    mine_at next_world world_kept marks copies same_block enter_spot outside = subst (λ spot. Mine config next_world (at_spot spot) command fixed) (sym (still_enters next enter_spot outside)) (record {
+      seated = seated_stays config world next_world seat world_kept made (is_waiting (Entering before next)) own_facts.seated;
+      ready = enter_ready enter_spot next outside own_facts.seated.below;
+      marking = marking_relied config world next_world seat None kept.phase false marks own_facts.marking;
+      copying = copying_relied config world next_world seat false kept.cset false copies own_facts.copying;
+      roots = λ index index_below. rw (world_kept.root_words index) (root_stays config world next_world seat world_kept _ index (own_facts.roots index index_below));
+      rooms = λ address piece has_piece. own_facts.rooms address piece (ap (λ plot. plot address) (sym same_block) ∙ has_piece);
+      facts = enter_stays config world next_world seat world_kept made kept.command command fixed next own_facts.facts;
     })
 
     -- in the same world
@@ -91,20 +91,20 @@ module _ (config : Config) (world : World) (seat made : ℕ) (kept : Kept) (comm
 
   -- and once it is inside: a call begins with the phase, and one that has waited has its answer
   mine_inside : (next : Entered) → Mine config world (at_spot (Entering Look next)) command fixed → Mine config world (at_spot (after_enter next Inside)) command fixed
-  mine_inside Call mine = record { seated = mine.seated; ready = refl; marking = mine.marking; copying = mine.copying; roots = mine.roots; rooms = mine.rooms; facts = mine.facts }
-  mine_inside Waited mine = record { seated = mine.seated; ready = ready_of _ true (lt-ltb _ _ mine.seated.below) refl; marking = mine.marking; copying = mine.copying; roots = mine.roots; rooms = mine.rooms; facts = mine.facts }
+  mine_inside Call own_facts = record { seated = own_facts.seated; ready = refl; marking = own_facts.marking; copying = own_facts.copying; roots = own_facts.roots; rooms = own_facts.rooms; facts = own_facts.facts }
+  mine_inside Waited own_facts = record { seated = own_facts.seated; ready = ready_of _ true (lt-ltb _ _ own_facts.seated.below) refl; marking = own_facts.marking; copying = own_facts.copying; roots = own_facts.roots; rooms = own_facts.rooms; facts = own_facts.facts }
 
   -- a step of an entering is a step of the mutator
   lifted : (spot : EnterSpot) (next : Entered) → Shared config world → Mine config (entered_world world seat spot) (at_spot (after_enter next (enter_next spot (world.memory (enter_touch seat spot).word)))) command fixed
       → Stepped config world (at_spot (Entering spot next)) command Nothing fixed
-  lifted spot next shared mine =
-      let step = enters config world seat spot (λ other_world. Mine config other_world (at_spot (after_enter next (enter_next spot (world.memory (enter_touch seat spot).word)))) command fixed) shared mine in
+  lifted spot next shared own_facts =
+      let step = enters config world seat spot (λ any_world. Mine config any_world (at_spot (after_enter next (enter_next spot (world.memory (enter_touch seat spot).word)))) command fixed) shared own_facts in
       record {
         world = step.world;
         memory = step.memory;
         graph = step.graph;
         legal = tt;
-        settles = λ r e. cc;
+        settles = λ reply is_settled. cc;
         shared = step.shared;
         mine = step.own;
         others = step.others;
@@ -128,14 +128,14 @@ module _ (config : Config) (world : World) (seat made : ℕ) (kept : Kept) (comm
 
   -- the load of the phase
   pub at_load_phase : Row config world (at_spot LoadPhase) command fixed
-  at_load_phase shared mine =
+  at_load_phase shared own_facts =
       looks config world (at_spot LoadPhase) Phase command fixed refl refl refl shared
       (record {
-        seated = mine.seated;
-        ready = and_from _ _ refl (lt-ltb _ _ (let most = shared.phased.phase_is in omega (arith, most)));
-        marking = record { records = mine.marking.records; scans = mine.marking.scans; phase_is = λ on. refl };
-        copying = mine.copying;
-        roots = mine.roots;
-        rooms = mine.rooms;
-        facts = mine.facts;
+        seated = own_facts.seated;
+        ready = and_from _ _ refl (lt-ltb _ _ (let phase_most = shared.phased.phase_is in omega (arith, phase_most)));
+        marking = record { records = own_facts.marking.records; scans = own_facts.marking.scans; phase_is = λ phase_on. refl };
+        copying = own_facts.copying;
+        roots = own_facts.roots;
+        rooms = own_facts.rooms;
+        facts = own_facts.facts;
       })

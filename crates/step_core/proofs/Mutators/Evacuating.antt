@@ -7,8 +7,8 @@ use Rattle.heap_world.specs.Rely.{KeepsCopies}
 use Rattle.step_core.proofs.Machines.Stepped.{HasCopyingBy}
 
 pub copying_kept : (config : Config) (world next_world : World) (seat : ℕ) (copies : Bool) (loaded : ℕ) (knows : Bool) → SameWork world next_world seat → KeepsCopies config world next_world → HasCopyingBy world seat copies loaded knows → HasCopyingBy next_world seat copies loaded knows
-copying_kept config world next_world seat copies loaded knows same keeps copying = record {
-  copies_is = same.copying ∙ copying.copies_is;
-  works_none = same.working ∙ copying.works_none;
-  set_is = λ on. copying.set_is on ∙ sym keeps.cset;
+copying_kept config world next_world seat copies loaded knows same_work copies_kept copying = record {
+  copies_is = same_work.copying ∙ copying.copies_is;
+  works_none = same_work.working ∙ copying.works_none;
+  set_is = λ phase_on. copying.set_is phase_on ∙ sym copies_kept.cset;
 }

@@ -48,35 +48,35 @@ module _ (config : Config) (world : World) (seat made : ℕ) (kept : Kept) (comm
   abbrev nums : ℕ
   nums = nums_of kept.command
 
-  module _ (address done : ℕ) (shared : Shared config world) (mine : Mine config world (at_spot (Making (make.StoreWord address done))) command fixed) where
+  module _ (address done_words : ℕ) (shared : Shared config world) (own_facts : Mine config world (at_spot (Making (make.StoreWord address done_words))) command fixed) where
     -- the world with one word more stored
     abbrev stored_world : World
-    stored_world = accessed config world (at_spot (Making (make.StoreWord address done)))
+    stored_world = accessed config world (at_spot (Making (make.StoreWord address done_words)))
 
     -- the words of other pieces stay
-    else_stays : (a k : ℕ) (piece : Block) → world.block a ≡ Some piece → a ≢ address → k < words_of piece → stored_world.memory (Heap (a + k)) ≡ world.memory (Heap (a + k))
-    else_stays a k piece is other below =
-        cond-false ((address + done) == (a + k)) _ _
-        (ne_eqb (address + done) (a + k)
-        (λ e. far config (λ region. world.memory (Top region)) world.block shared.parsable.plotted a address k done piece (hand seat (3 + refs + nums)) is mine.facts.1.room other below mine.facts.2 (sym e)))
+    else_stays : (asked_address offset : ℕ) (piece : Block) → world.block asked_address ≡ Some piece → asked_address ≢ address → offset < words_of piece → stored_world.memory (Heap (asked_address + offset)) ≡ world.memory (Heap (asked_address + offset))
+    else_stays asked_address offset piece has_piece address_elsewhere offset_below =
+        cond-false ((address + done_words) == (asked_address + offset)) _ _
+        (ne_eqb (address + done_words) (asked_address + offset)
+        (λ addresses_equal. far config (λ region. world.memory (Top region)) world.block shared.parsable.plotted asked_address address offset done_words piece (hand seat (3 + refs + nums)) has_piece own_facts.facts.1.room address_elsewhere offset_below own_facts.facts.2 (sym addresses_equal)))
 
     -- a piece that is not the room stands elsewhere
-    not_room : (a : ℕ) (piece : Block) → world.block a ≡ Some piece → (hand seat (3 + refs + nums) ≡ piece → ⊥) → a ≢ address
-    not_room a piece is differs same = differs (same_Some (hand seat (3 + refs + nums)) piece (sym mine.facts.1.room ∙ ap world.block (sym same) ∙ is))
+    not_room : (asked_address : ℕ) (piece : Block) → world.block asked_address ≡ Some piece → (hand seat (3 + refs + nums) ≡ piece → ⊥) → asked_address ≢ address
+    not_room asked_address piece has_piece pieces_differ same_address = pieces_differ (same_Some (hand seat (3 + refs + nums)) piece (sym own_facts.facts.1.room ∙ ap world.block (sym same_address) ∙ has_piece))
 
     -- its first word stays
     head_stays : (address : ℕ) (piece : Block) → world.block address ≡ Some piece → (hand seat (3 + refs + nums) ≡ piece → ⊥) → 0 < words_of piece → stored_world.memory (Heap address) ≡ world.memory (Heap address)
-    head_stays address piece is differs positive =
-        let header : address + 0 ≡ address = omega arith in
-        ap (λ address. stored_world.memory (Heap address)) (sym header) ∙ else_stays address 0 piece is (not_room address piece is differs) positive ∙ ap (λ address. world.memory (Heap address)) header
+    head_stays address piece has_piece pieces_differ some_words =
+        let same_address : address + 0 ≡ address = omega arith in
+        ap (λ address. stored_world.memory (Heap address)) (sym same_address) ∙ else_stays address 0 piece has_piece (not_room address piece has_piece pieces_differ) some_words ∙ ap (λ address. world.memory (Heap address)) same_address
 
     -- the references of objects stay
-    fields_stay : (address more_refs more_nums k : ℕ) (name : Name) → world.block address ≡ Some (thing name more_refs more_nums) → k < more_refs → stored_world.memory (Heap (address + 3 + k)) ≡ world.memory (Heap (address + 3 + k))
-    fields_stay address more_refs more_nums k name is below =
-        let there : address + (3 + k) ≡ address + 3 + k = omega arith in
-        ap (λ address. stored_world.memory (Heap address)) (sym there)
-        ∙ else_stays address (3 + k) (thing name more_refs more_nums) is (not_room address (thing name more_refs more_nums) is (λ differ. cc)) (omega (arith, below))
-        ∙ ap (λ address. world.memory (Heap address)) there
+    fields_stay : (address found_refs found_nums field : ℕ) (name : Name) → world.block address ≡ Some (thing name found_refs found_nums) → field < found_refs → stored_world.memory (Heap (address + 3 + field)) ≡ world.memory (Heap (address + 3 + field))
+    fields_stay address found_refs found_nums field name has_piece field_below =
+        let same_address : address + (3 + field) ≡ address + 3 + field = omega arith in
+        ap (λ address. stored_world.memory (Heap address)) (sym same_address)
+        ∙ else_stays address (3 + field) (thing name found_refs found_nums) has_piece (not_room address (thing name found_refs found_nums) has_piece (λ differ. cc)) (omega (arith, field_below))
+        ∙ ap (λ address. world.memory (Heap address)) same_address
 
     -- machines share what they shared
     shared_stored : Shared config stored_world
@@ -84,11 +84,11 @@ module _ (config : Config) (world : World) (seat made : ℕ) (kept : Kept) (comm
       parsable = shared.parsable;
       contents = record {
         objects = record {
-          each = λ a more_refs more_nums n is.
-              let o = shared.contents.objects.each a more_refs more_nums n is in
-              let other : a ≢ address = not_room a (thing n more_refs more_nums) is (λ differ. cc) in
-              let kept = λ (k : ℕ) (below : k < 3 + more_refs + more_nums). else_stays a k (thing n more_refs more_nums) is other below in
-              (o.0, o.1, object_reads (λ address. world.memory (Heap address)) (λ address. stored_world.memory (Heap address)) world.block world.block a more_refs more_nums n o.0 kept (λ b m e. e) o.2);
+          each = λ place found_refs found_nums object_name has_piece.
+              let old_object = shared.contents.objects.each place found_refs found_nums object_name has_piece in
+              let place_elsewhere : place ≢ address = not_room place (thing object_name found_refs found_nums) has_piece (λ differ. cc) in
+              let kept_words = λ (offset : ℕ) (offset_below : offset < 3 + found_refs + found_nums). else_stays place offset (thing object_name found_refs found_nums) has_piece place_elsewhere offset_below in
+              (old_object.0, old_object.1, object_reads (λ address. world.memory (Heap address)) (λ address. stored_world.memory (Heap address)) world.block world.block place found_refs found_nums object_name old_object.0 kept_words (λ target target_name name_there. name_there) old_object.2);
           once = shared.contents.objects.once;
         };
         given = shared.contents.given;
@@ -96,101 +96,101 @@ module _ (config : Config) (world : World) (seat made : ℕ) (kept : Kept) (comm
       owned = shared.owned;
       phased = shared.phased;
       unwritten = unwritten_stays (λ address. world.memory (Heap address)) (λ address. stored_world.memory (Heap address)) world.block world.block
-          (λ a seat_then words is. (is, λ k below. else_stays a k (promised seat_then words) is (not_room a (promised seat_then words) is (λ differ. cc)) below))
-          (λ address words is. (
-            is,
-            head_stays address (dead words) is (λ differ. cc) (let long = shared.parsable.deads address words is in omega (arith, long)),
-            else_stays address 1 (dead words) is (not_room address (dead words) is (λ differ. cc)) (let long = shared.parsable.deads address words is in omega (arith, long)),
+          (λ place seat_then words has_piece. (has_piece, λ offset offset_below. else_stays place offset (promised seat_then words) has_piece (not_room place (promised seat_then words) has_piece (λ differ. cc)) offset_below))
+          (λ address words has_piece. (
+            has_piece,
+            head_stays address (dead words) has_piece (λ differ. cc) (let long_enough = shared.parsable.deads address words has_piece in omega (arith, long_enough)),
+            else_stays address 1 (dead words) has_piece (not_room address (dead words) has_piece (λ differ. cc)) (let long_enough = shared.parsable.deads address words has_piece in omega (arith, long_enough)),
           ))
-          (λ address words is. (is, head_stays address (filler words) is (λ differ. cc) (let some = shared.parsable.fillers address words is in omega (arith, some))))
+          (λ address words has_piece. (has_piece, head_stays address (filler words) has_piece (λ differ. cc) (let some_filler = shared.parsable.fillers address words has_piece in omega (arith, some_filler))))
           shared.unwritten;
       marked = marked_elsewhere config (world.memory Phase) (λ number. world.memory (Grey number)) (λ number. world.memory (Black number)) (λ mutator. world.memory (Count mutator)) (λ mutator entry. world.memory (Buffer mutator entry)) (λ region. world.memory (Top region)) (λ region. world.memory (Tams region))
           (λ address. world.memory (Heap address)) world.block world.ghost.snapshot world.ghost.recording world.ghost.scanning shared.marked (λ address. stored_world.memory (Heap address))
           fields_stay;
       evacuated = evacuated_words config (world.memory Phase) (world.memory Cset) (world.memory Evac) (world.memory Claim) (world.memory Free) (λ region. world.memory (Top region)) (λ region. world.memory (Tams region)) (λ address. world.memory (Heap address)) (λ number. world.memory (Black number))
           world.block world.ghost.owner world.ghost.copying world.ghost.working shared.evacuated (λ address. stored_world.memory (Heap address))
-          (λ address more_refs more_nums to name is. (
-            head_stays address (moved name more_refs more_nums to) is (λ differ. cc) (omega arith),
-            else_stays address 1 (moved name more_refs more_nums to) is (not_room address (moved name more_refs more_nums to) is (λ differ. cc)) (omega arith),
-            else_stays address 2 (moved name more_refs more_nums to) is (not_room address (moved name more_refs more_nums to) is (λ differ. cc)) (omega arith),
-            λ k less. subst (λ address. stored_world.memory (Heap address) ≡ world.memory (Heap address)) (let there : address + (3 + k) ≡ address + 3 + k = omega arith in there)
-                (else_stays address (3 + k) (moved name more_refs more_nums to) is (not_room address (moved name more_refs more_nums to) is (λ differ. cc)) (omega (arith, less))),
+          (λ address found_refs found_nums copy name has_piece. (
+            head_stays address (moved name found_refs found_nums copy) has_piece (λ differ. cc) (omega arith),
+            else_stays address 1 (moved name found_refs found_nums copy) has_piece (not_room address (moved name found_refs found_nums copy) has_piece (λ differ. cc)) (omega arith),
+            else_stays address 2 (moved name found_refs found_nums copy) has_piece (not_room address (moved name found_refs found_nums copy) has_piece (λ differ. cc)) (omega arith),
+            λ offset field_below. subst (λ address. stored_world.memory (Heap address) ≡ world.memory (Heap address)) (let same_address : address + (3 + offset) ≡ address + 3 + offset = omega arith in same_address)
+                (else_stays address (3 + offset) (moved name found_refs found_nums copy) has_piece (not_room address (moved name found_refs found_nums copy) has_piece (λ differ. cc)) (omega (arith, field_below))),
           ))
-          (λ address words to is. let long = shared.parsable.spents address words to is in (
-            head_stays address (spent words to) is (λ differ. cc) (omega (arith, long)),
-            else_stays address 1 (spent words to) is (not_room address (spent words to) is (λ differ. cc)) (omega (arith, long)),
+          (λ address words copy has_piece. let long_enough = shared.parsable.spents address words copy has_piece in (
+            head_stays address (spent words copy) has_piece (λ differ. cc) (omega (arith, long_enough)),
+            else_stays address 1 (spent words copy) has_piece (not_room address (spent words copy) has_piece (λ differ. cc)) (omega (arith, long_enough)),
           ));
-      updated = λ on. updated_elsewhere config (world.memory Cset) (world.memory Claim) (λ region. world.memory (Top region)) (λ region. world.memory (Limit region)) (λ address. world.memory (Heap address)) world.block world.ghost.scanning (shared.updated on) (λ address. stored_world.memory (Heap address)) fields_stay;
+      updated = λ phase_on. updated_elsewhere config (world.memory Cset) (world.memory Claim) (λ region. world.memory (Top region)) (λ region. world.memory (Limit region)) (λ address. world.memory (Heap address)) world.block world.ghost.scanning (shared.updated phase_on) (λ address. stored_world.memory (Heap address)) fields_stay;
       pinned = shared.pinned;
     }
 
     -- one word more of the new object stands in the room
-    filling : IsFilling stored_world seat made refs nums address (done + 1)
+    filling : IsFilling stored_world seat made refs nums address (done_words + 1)
     filling = record {
-      room = mine.facts.1.room;
-      within = (let less = mine.facts.2 in omega arith);
-      stored = λ k below. ⊎_elim
-          (λ (same : k ≡ done).
-          cond-true ((address + done) == (address + k)) _ _ (eq-eqb (address + done) (address + k) (omega (arith, same)))
-          ∙ ap (λ n. fresh_word seat made refs nums n) (sym same))
-          (λ (other : k ≢ done).
-          cond-false ((address + done) == (address + k)) _ _ (ne_eqb (address + done) (address + k) (λ e. other (omega (arith, e))))
-          ∙ mine.facts.1.stored k (omega (arith, below, other)))
-          (cases_eq k done);
+      room = own_facts.facts.1.room;
+      within = (let stored_less = own_facts.facts.2 in omega arith);
+      stored = λ offset offset_below. ⊎_elim
+          (λ (same_offset : offset ≡ done_words).
+          cond-true ((address + done_words) == (address + offset)) _ _ (eq-eqb (address + done_words) (address + offset) (omega (arith, same_offset)))
+          ∙ ap (λ given_offset. fresh_word seat made refs nums given_offset) (sym same_offset))
+          (λ (different_offset : offset ≢ done_words).
+          cond-false ((address + done_words) == (address + offset)) _ _ (ne_eqb (address + done_words) (address + offset) (λ addresses_equal. different_offset (omega (arith, addresses_equal))))
+          ∙ own_facts.facts.1.stored offset (omega (arith, offset_below, different_offset)))
+          (cases_eq offset done_words);
     }
 
     -- the mutator goes on with the next word, or with the root
-    mine_stored : (holds : Bool) → nat_lt (done + 1) (3 + refs + nums) ≡ holds
-        → Mine config stored_world (at_spot (Making (if holds then make.StoreWord address (done + 1) else make.StoreRoot address))) command fixed
-    mine_stored true more = record {
-      seated = mine.seated;
-      ready = word_ready config seat made kept command fixed mine.facts.0 (λ region. world.memory (Top region)) world.block shared.parsable.plotted address mine.facts.1.room mine.seated.below (done + 1) (ltb-true _ _ more);
-      marking = mine.marking;
-      copying = mine.copying;
-      roots = mine.roots;
-      rooms = mine.rooms;
-      facts = (mine.facts.0, filling, ltb-true _ _ more);
+    mine_stored : (holds : Bool) → nat_lt (done_words + 1) (3 + refs + nums) ≡ holds
+        → Mine config stored_world (at_spot (Making (if holds then make.StoreWord address (done_words + 1) else make.StoreRoot address))) command fixed
+    mine_stored true words_left = record {
+      seated = own_facts.seated;
+      ready = word_ready config seat made kept command fixed own_facts.facts.0 (λ region. world.memory (Top region)) world.block shared.parsable.plotted address own_facts.facts.1.room own_facts.seated.below (done_words + 1) (ltb-true _ _ words_left);
+      marking = own_facts.marking;
+      copying = own_facts.copying;
+      roots = own_facts.roots;
+      rooms = own_facts.rooms;
+      facts = (own_facts.facts.0, filling, ltb-true _ _ words_left);
     }
-    mine_stored false all = record {
-      seated = mine.seated;
-      ready = fresh_ready config seat made kept command fixed mine.facts.0 (λ region. world.memory (Top region)) world.block shared.parsable.plotted address mine.facts.1.room mine.seated.below;
-      marking = mine.marking;
-      copying = mine.copying;
-      roots = mine.roots;
-      rooms = mine.rooms;
+    mine_stored false all_stored = record {
+      seated = own_facts.seated;
+      ready = fresh_ready config seat made kept command fixed own_facts.facts.0 (λ region. world.memory (Top region)) world.block shared.parsable.plotted address own_facts.facts.1.room own_facts.seated.below;
+      marking = own_facts.marking;
+      copying = own_facts.copying;
+      roots = own_facts.roots;
+      rooms = own_facts.rooms;
       facts = (
-        mine.facts.0,
-        subst (λ done. IsFilling stored_world seat made refs nums address done) (let most = ltb-false _ _ all in let less = mine.facts.2 in omega (arith, most, less)) filling,
+        own_facts.facts.0,
+        subst (λ done_words. IsFilling stored_world seat made refs nums address done_words) (let stored_most = ltb-false _ _ all_stored in let stored_less = own_facts.facts.2 in omega (arith, stored_most, stored_less)) filling,
       );
     }
 
     -- the shapes of objects stay
     shape_stays : (address : ℕ) → IsMarkable world.block address → stored_world.memory (Heap (address + 1)) ≡ world.memory (Heap (address + 1))
-    shape_stays address (IsMarkable.object name more_refs more_nums is) = else_stays address 1 (thing name more_refs more_nums) is (not_room address (thing name more_refs more_nums) is (λ differ. cc)) (omega arith)
-    shape_stays address (IsMarkable.to_come other words is) =
-        else_stays address 1 (promised other words) is (not_room address (promised other words) is (λ differ. cc)) (let long = shared.parsable.promises address other words is in omega (arith, long))
+    shape_stays address (IsMarkable.object name found_refs found_nums has_piece) = else_stays address 1 (thing name found_refs found_nums) has_piece (not_room address (thing name found_refs found_nums) has_piece (λ differ. cc)) (omega arith)
+    shape_stays address (IsMarkable.to_come holder words has_piece) =
+        else_stays address 1 (promised holder words) has_piece (not_room address (promised holder words) has_piece (λ differ. cc)) (let long_enough = shared.parsable.promises address holder words has_piece in omega (arith, long_enough))
 
     -- room in hand is no copy of an object
     not_body : (address : ℕ) (body : Body) (piece : Block) → body_at (world.block address) ≡ Some body → world.block address ≡ Some piece → hand seat (3 + refs + nums) ≡ piece → ⊥
-    not_body address body piece is there same = none-some body (ap (λ (piece : Block). body_at (Some piece)) same ∙ ap body_at (sym there) ∙ is)
+    not_body address body piece has_body piece_there same_piece = none-some body (ap (λ (piece : Block). body_at (Some piece)) same_piece ∙ ap body_at (sym piece_there) ∙ has_body)
 
     -- others can rely on what they knew
-    others_stored : (j : ℕ) → j ≢ seat → Rely config j world stored_world
-    others_stored j differs = record {
-      names = λ a n is. is;
-      targets = λ address more_refs more_nums name has. record { piece = has.piece; safe = has.safe };
-      rooms = λ a x is room. is;
-      no_rooms = λ a x is room. is;
-      room_words = λ a k piece is room below. else_stays a k piece is (not_room a piece is (λ same. differs (sym (same_Some seat j (ap room_of same ∙ room))))) below;
-      promises = λ a words is. is;
-      no_promises = λ address words is. is;
-      promise_words = λ a words k is below.
-          let other : a ≢ address = not_room a (promised j words) is (λ differ. cc) in
-          else_stays a k (promised j words) is other below;
+    others_stored : (other_seat : ℕ) → other_seat ≢ seat → Rely config other_seat world stored_world
+    others_stored other_seat seats_differ = record {
+      names = λ place n known_fact. known_fact;
+      targets = λ address found_refs found_nums name has_target. record { piece = has_target.piece; safe = has_target.safe };
+      rooms = λ place room_piece known_fact room. known_fact;
+      no_rooms = λ place room_piece known_fact room. known_fact;
+      room_words = λ place offset piece known_fact room offset_below. else_stays place offset piece known_fact (not_room place piece known_fact (λ same_piece. seats_differ (sym (same_Some seat other_seat (ap room_of same_piece ∙ room))))) offset_below;
+      promises = λ place words known_fact. known_fact;
+      no_promises = λ address words known_fact. known_fact;
+      promise_words = λ place words offset known_fact offset_below.
+          let place_elsewhere : place ≢ address = not_room place (promised other_seat words) known_fact (λ differ. cc) in
+          else_stays place offset (promised other_seat words) known_fact place_elsewhere offset_below;
       current = refl;
-      opens = λ r is. is;
-      owners = λ region is. is;
-      tops = λ r is. refl;
+      opens = λ given_region known_fact. known_fact;
+      owners = λ region known_fact. known_fact;
+      tops = λ given_region known_fact. refl;
       root_words = λ i. refl;
       roots = λ i. refl;
       pin_words = λ index. refl;
@@ -199,44 +199,44 @@ module _ (config : Config) (world : World) (seat made : ℕ) (kept : Kept) (comm
       wait = refl;
       answer = refl;
       state = refl;
-      asked = λ is. is;
-      marks = rely_marks config world stored_world j refl (λ n. refl) (λ t. refl) (λ t k. refl) refl (λ t. refl) refl (λ a is. is) shape_stays;
-      copies = rely_copies config world stored_world j (same_plot config world stored_world refl refl refl (λ r is. refl)) refl refl
-          (λ a k b seated copies inside is from below.
-          let piece = body_piece (world.block a) b is in
-          else_stays a k piece.0 piece.1 (not_room a piece.0 piece.1 (λ same. not_body a b piece.0 is piece.1 same)) (let long = piece.2 in omega (arith, below, long)));
-      fields = fields_stored config world stored_world (λ r. refl) (λ r. refl) refl (λ a words is. is) (λ a words is. is) (λ on address more_refs more_nums k name is below. inl (fields_stay address more_refs more_nums k name is below));
+      asked = λ known_fact. known_fact;
+      marks = rely_marks config world stored_world other_seat refl (λ n. refl) (λ t. refl) (λ t offset. refl) refl (λ t. refl) refl (λ place known_fact. known_fact) shape_stays;
+      copies = rely_copies config world stored_world other_seat (same_plot config world stored_world refl refl refl (λ given_region known_fact. refl)) refl refl
+          (λ place offset body seated copies inside known_fact from offset_below.
+          let piece = body_piece (world.block place) body known_fact in
+          else_stays place offset piece.0 piece.1 (not_room place piece.0 piece.1 (λ same_piece. not_body place body piece.0 known_fact piece.1 same_piece)) (let piece_long = piece.2 in omega (arith, offset_below, piece_long)));
+      fields = fields_stored config world stored_world (λ given_region. refl) (λ given_region. refl) refl (λ place words known_fact. known_fact) (λ place words known_fact. known_fact) (λ phase_on address found_refs found_nums offset name known_fact offset_below. inl (fields_stay address found_refs found_nums offset name known_fact offset_below));
     }
 
   -- the step that stores a word of a new object
-  pub at_store_word : (address done : ℕ) → Row config world (at_spot (Making (make.StoreWord address done))) command fixed
-  at_store_word address done shared mine = record {
-    world = stored_world address done shared mine;
+  pub at_store_word : (address done_words : ℕ) → Row config world (at_spot (Making (make.StoreWord address done_words))) command fixed
+  at_store_word address done_words shared mine = record {
+    world = stored_world address done_words shared mine;
     memory = refl;
     graph = refl;
     legal = tt;
-    settles = λ r e. cc;
-    shared = shared_stored address done shared mine;
-    mine = mine_stored address done shared mine (nat_lt (done + 1) (3 + refs + nums)) refl;
-    others = others_stored address done shared mine;
+    settles = λ reply is_settled. cc;
+    shared = shared_stored address done_words shared mine;
+    mine = mine_stored address done_words shared mine (nat_lt (done_words + 1) (3 + refs + nums)) refl;
+    others = others_stored address done_words shared mine;
   }
 
-  module _ (address : ℕ) (shared : Shared config world) (mine : Mine config world (at_spot (Making (make.StoreRoot address))) command fixed) where
+  module _ (address : ℕ) (shared : Shared config world) (own_facts : Mine config world (at_spot (Making (make.StoreRoot address))) command fixed) where
     -- all words of the object stand in the room in hand
     has : HasNew config world seat made command kept.command fixed address
     has = record {
-      making = mine.facts.0;
-      within = mine.seated.below;
-      counted = mine.seated.counted;
+      making = own_facts.facts.0;
+      within = own_facts.seated.below;
+      counted = own_facts.seated.counted;
       piece = hand seat (3 + refs + nums);
-      here = mine.facts.1.room;
+      here = own_facts.facts.1.room;
       unnamed = refl;
       long = refl;
-      own = record { no_room = λ j differs room. differs (sym (same_Some seat j room)); no_promise = λ j words differs same. cc; no_dead = λ words same. cc; no_filler = λ words same. cc; no_spare = λ j words same. cc; no_carved = λ j words same. cc };
-      known = λ on. inr ((shared.marked.marking on).young address seat (hand seat (3 + refs + nums)) mine.facts.1.room refl);
-      outside = room_outside config world shared address seat (3 + refs + nums) mine.facts.1.room;
-      kept = λ on. inr ((shared.evacuated.kept on).young address seat (hand seat (3 + refs + nums)) mine.facts.1.room refl);
-      stored = mine.facts.1.stored;
+      own = record { no_room = λ other_seat differs room. differs (sym (same_Some seat other_seat room)); no_promise = λ other_seat words differs same_piece. cc; no_dead = λ words same_piece. cc; no_filler = λ words same_piece. cc; no_spare = λ other_seat words same_piece. cc; no_carved = λ other_seat words same_piece. cc };
+      known = λ phase_on. inr ((shared.marked.marking phase_on).young address seat (hand seat (3 + refs + nums)) own_facts.facts.1.room refl);
+      outside = room_outside config world shared address seat (3 + refs + nums) own_facts.facts.1.room;
+      kept = λ phase_on. inr ((shared.evacuated.kept phase_on).young address seat (hand seat (3 + refs + nums)) own_facts.facts.1.room refl);
+      stored = own_facts.facts.1.stored;
       shared = shared;
     }
 
@@ -244,10 +244,10 @@ module _ (config : Config) (world : World) (seat made : ℕ) (kept : Kept) (comm
     mine_made : Mine config (made_world has) (mutator_at seat (made + 1) kept (Leave (made_reply has))) command (Some (made_reply has))
     mine_made =
         leaving config (made_world has) seat (made + 1) kept command (made_reply has)
-        (record { below = mine.seated.below; counted = count_made has; usable = usable_made has mine.seated.usable; unasked = λ calm. let was = mine.seated.unasked calm in (was.0, was.1, λ a words is. was.2 a words (promise_before has a seat words is).1) })
-        (mine.marking.records, mine.marking.scans, mine.copying.copies_is, mine.copying.works_none)
-        (roots_made has mine.roots)
-        (λ a x is room. let old = room_before has a seat x is room in ⊎_elim (λ spares. spares) (λ new. absurd (old.0 new.0)) (mine.rooms a x old.1 room))
+        (record { below = own_facts.seated.below; counted = count_made has; usable = usable_made has own_facts.seated.usable; unasked = λ calm. let was_unasked = own_facts.seated.unasked calm in (was_unasked.0, was_unasked.1, λ place words has_piece. was_unasked.2 place words (promise_before has place seat words has_piece).1) })
+        (own_facts.marking.records, own_facts.marking.scans, own_facts.copying.copies_is, own_facts.copying.works_none)
+        (roots_made has own_facts.roots)
+        (λ place piece has_piece room. let old = room_before has place seat piece has_piece room in ⊎_elim (λ spares. spares) (λ new. absurd (old.0 new.0)) (own_facts.rooms place piece old.1 room))
 
   -- the step that stores a new object into a root settles its name
   pub at_store_fresh : (address : ℕ) → Row config world (at_spot (Making (make.StoreRoot address))) command fixed
@@ -256,7 +256,7 @@ module _ (config : Config) (world : World) (seat made : ℕ) (kept : Kept) (comm
     memory = refl;
     graph = graph_made new;
     legal = legal_made new;
-    settles = λ r e. (mine.facts.0.unsettled, refl);
+    settles = λ reply is_settled. (mine.facts.0.unsettled, refl);
     shared = shared_made new;
     mine = mine_made address shared mine;
     others = others_made new;

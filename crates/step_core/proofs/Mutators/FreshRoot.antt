@@ -1,5 +1,6 @@
 -- A new object is stored into a root: room in hand, or an object that was promised, becomes an object of the graph, and its name
 -- is settled.
+use Rattle.heap_words.specs.Phases.{marking_phase}
 use Rattle.std.proofs.Common.{◌≡◌, ◌≢◌, ℕ, ◌+◌, ◌<◌, ◌⊎◌, inl, inr, ◌≤◌, true, Option, Some, None, refl, sym, ap, ◌∙◌, subst, arith}
 use Rattle.std.specs.Prelude.{◌==◌, ◌&&◌}
 use Rattle.std.proofs.lemmas.Bool.{cond-false, ne_eqb, and_left}
@@ -51,13 +52,13 @@ pub record HasNew (config : Config) (world : World) (seat made : ℕ) (command o
   pub unnamed : name_at (Some piece) ≡ None
   pub long : words_of piece ≡ 3 + refs_of other_command + nums_of other_command
   pub own : IsOwn seat piece
-  pub known : world.memory Phase ≡ 1 → (world.ghost.snapshot.starts address ≡ true) ⊎ IsYoung config world.ghost.snapshot.top address
+  pub known : world.memory Phase ≡ marking_phase → (world.ghost.snapshot.starts address ≡ true) ⊎ IsYoung config world.ghost.snapshot.top address
   pub outside : IsCollected config (world.memory Cset) address → ⊥
   pub kept : 2 ≤ world.memory Phase → HasMark config (λ number. world.memory (Black number)) address ⊎ IsYoung config (λ region. world.memory (Tams region)) address
   pub stored : (i : ℕ) → i < 3 + refs_of other_command + nums_of other_command → world.memory (Heap (address + i)) ≡ fresh_word seat made (refs_of other_command) (nums_of other_command) i
   pub shared : Shared config world
 
-module _ {c : Config} {u : World} {seat made : ℕ} {command k : Command} {fixed : Option Reply} {address : ℕ} (has : HasNew c u seat made command k fixed address) where
+module _ {c : Config} {u : World} {seat made : ℕ} {command k : Command} {fixed : Option Reply} {address : ℕ} (has_new : HasNew c u seat made command k fixed address) where
   abbrev top : ℕ → ℕ
   top region = u.memory (Top region)
 
@@ -85,100 +86,100 @@ module _ {c : Config} {u : World} {seat made : ℕ} {command k : Command} {fixed
 
   -- what a word stands for it still stands for
   names : (address : ℕ) (name : Name) → name_at (u.block address) ≡ Some name → name_at (made_world.block address) ≡ Some name
-  names = names_stay c top u.block address refs nums name has.piece has.unnamed has.long has.here
+  names = names_stay c top u.block address refs nums name has_new.piece has_new.unnamed has_new.long has_new.here
 
   -- each object stands where it stood
-  targets : (address more_refs more_nums : ℕ) (name : Name) → TargetIn c u address more_refs more_nums name → TargetIn c made_world address more_refs more_nums name
-  targets a more_refs more_nums n there =
-      record { piece = things_stay c top u.block address refs nums name has.piece has.unnamed has.long has.here a more_refs more_nums n there.piece; safe = there.safe }
+  targets : (address found_refs found_nums : ℕ) (name : Name) → TargetIn c u address found_refs found_nums name → TargetIn c made_world address found_refs found_nums name
+  targets asked_address found_refs found_nums found_name target_there =
+      record { piece = things_stay c top u.block address refs nums name has_new.piece has_new.unnamed has_new.long has_new.here asked_address found_refs found_nums found_name target_there.piece; safe = target_there.safe }
 
   -- the thread's fresh name is the one that the mutator writes
   name_is : name ≡ next_name seat made
-  name_is = ap (next_name seat) has.counted
+  name_is = ap (next_name seat) has_new.counted
 
   -- no object has it
   not_given : (object : Object) → u.graph.object name ≡ Some object → ⊥
-  not_given object is = let given = has.shared.contents.given name object is in let most = given.by_thread (omega arith) in omega (arith, most)
+  not_given object has_object = let name_given = has_new.shared.contents.given name object has_object in let made_most = name_given.by_thread (omega arith) in omega (arith, made_most)
 
   -- its words are those of a blank object
   new_is : IsThing (λ address. u.memory (Heap address)) made_world.block address refs nums name (blank refs nums)
   new_is =
-      subst (λ n. IsThing (λ address. u.memory (Heap address)) made_world.block address refs nums n (blank refs nums)) (sym name_is)
-      (new_object (λ address. u.memory (Heap address)) made_world.block address seat made refs nums has.making.few_refs has.making.few_nums has.stored)
+      subst (λ any_name. IsThing (λ address. u.memory (Heap address)) made_world.block address refs nums any_name (blank refs nums)) (sym name_is)
+      (new_object (λ address. u.memory (Heap address)) made_world.block address seat made refs nums has_new.making.few_refs has_new.making.few_nums has_new.stored)
 
   -- its name is given then
   is_given : IsGiven c (with_count u.graph.count (seat + 1)) name
   is_given =
-      let own = count_own u.graph.count (seat + 1) in
-      let few = has.making.few in
-      let counted = has.counted in
-      let within = has.within in
-      record { thread = omega (arith, within); made = omega (arith, own); by_thread = λ one. omega (arith, own); small = omega (arith, few, counted) }
+      let own_count = count_own u.graph.count (seat + 1) in
+      let few_words = has_new.making.few in
+      let counted = has_new.counted in
+      let object_within = has_new.within in
+      record { thread = omega (arith, object_within); made = omega (arith, own_count); by_thread = λ some_thread. omega (arith, own_count); small = omega (arith, few_words, counted) }
 
   -- its references are null
-  nulls : (i : ℕ) → i < refs → u.memory (Heap (address + 3 + i)) ≡ 0
-  nulls i below = ap (λ address. u.memory (Heap address)) (omega arith) ∙ has.stored (3 + i) (omega (arith, below)) ∙ grind (arith, nat_tests)
+  nulls : (field : ℕ) → field < refs → u.memory (Heap (address + 3 + field)) ≡ 0
+  nulls field field_below = ap (λ address. u.memory (Heap address)) (omega arith) ∙ has_new.stored (3 + field) (omega (arith, field_below)) ∙ grind (arith, nat_tests)
 
   -- machines share what they should
   pub shared_made : Shared c made_world
   shared_made = record {
-    parsable = parsable_again c top u.block address refs nums name has.piece has.unnamed has.long has.here has.shared.parsable;
+    parsable = parsable_again c top u.block address refs nums name has_new.piece has_new.unnamed has_new.long has_new.here has_new.shared.parsable;
     contents = record {
-      objects = objects_again c top u.block address refs nums name has.piece has.unnamed has.long has.here (λ address. u.memory (Heap address)) u.graph.object has.shared.contents.objects not_given (blank refs nums) new_is;
-      given = given_again c u.graph.count u.graph.object name (blank refs nums) has.shared.contents.given is_given;
+      objects = objects_again c top u.block address refs nums name has_new.piece has_new.unnamed has_new.long has_new.here (λ address. u.memory (Heap address)) u.graph.object has_new.shared.contents.objects not_given (blank refs nums) new_is;
+      given = given_again c u.graph.count u.graph.object name (blank refs nums) has_new.shared.contents.given is_given;
     };
-    owned = owned_again c top u.block address refs nums name has.piece has.unnamed has.long has.here (u.memory Share) (u.memory Free) (u.memory Cset) (λ seat. u.memory (Current seat)) u.ghost.owner has.own.no_spare has.own.no_carved has.shared.owned;
-    phased = has.shared.phased;
-    unwritten = unwritten_again c top u.block address refs nums name has.piece has.unnamed has.long has.here (λ address. u.memory (Heap address)) has.shared.unwritten;
-    marked = marking_again c top u.block address refs nums name has.piece has.unnamed has.long has.here (u.memory Phase) (λ number. u.memory (Grey number)) (λ number. u.memory (Black number)) (λ mutator. u.memory (Count mutator)) (λ mutator entry. u.memory (Buffer mutator entry))
-        (λ region. u.memory (Tams region)) (λ address. u.memory (Heap address)) u.ghost.snapshot u.ghost.recording u.ghost.scanning has.known has.shared.marked;
-    evacuated = evacuating_again c top u.block address refs nums name has.piece has.unnamed has.long has.here (u.memory Phase) (u.memory Cset) (u.memory Evac) (u.memory Claim) (u.memory Free) (λ region. u.memory (Tams region))
-        (λ address. u.memory (Heap address)) (λ number. u.memory (Black number)) u.ghost.owner u.ghost.copying u.ghost.working has.outside has.kept has.shared.evacuated;
-    updated = λ on. updating_again c top u.block address refs nums name has.piece has.unnamed has.long has.here (u.memory Cset) (u.memory Claim) (λ region. u.memory (Limit region)) (λ address. u.memory (Heap address)) u.ghost.scanning has.outside nulls (has.shared.updated on);
-    pinned = pins_stay c (u.memory Cset) (u.memory Evac) (u.memory Cset) (u.memory Evac) u.block made_world.block (λ mutator slot. u.memory (Pin mutator slot)) u.graph.pin targets has.shared.pinned;
+    owned = owned_again c top u.block address refs nums name has_new.piece has_new.unnamed has_new.long has_new.here (u.memory Share) (u.memory Free) (u.memory Cset) (λ seat. u.memory (Current seat)) u.ghost.owner has_new.own.no_spare has_new.own.no_carved has_new.shared.owned;
+    phased = has_new.shared.phased;
+    unwritten = unwritten_again c top u.block address refs nums name has_new.piece has_new.unnamed has_new.long has_new.here (λ address. u.memory (Heap address)) has_new.shared.unwritten;
+    marked = marking_again c top u.block address refs nums name has_new.piece has_new.unnamed has_new.long has_new.here (u.memory Phase) (λ number. u.memory (Grey number)) (λ number. u.memory (Black number)) (λ mutator. u.memory (Count mutator)) (λ mutator entry. u.memory (Buffer mutator entry))
+        (λ region. u.memory (Tams region)) (λ address. u.memory (Heap address)) u.ghost.snapshot u.ghost.recording u.ghost.scanning has_new.known has_new.shared.marked;
+    evacuated = evacuating_again c top u.block address refs nums name has_new.piece has_new.unnamed has_new.long has_new.here (u.memory Phase) (u.memory Cset) (u.memory Evac) (u.memory Claim) (u.memory Free) (λ region. u.memory (Tams region))
+        (λ address. u.memory (Heap address)) (λ number. u.memory (Black number)) u.ghost.owner u.ghost.copying u.ghost.working has_new.outside has_new.kept has_new.shared.evacuated;
+    updated = λ phase_on. updating_again c top u.block address refs nums name has_new.piece has_new.unnamed has_new.long has_new.here (u.memory Cset) (u.memory Claim) (λ region. u.memory (Limit region)) (λ address. u.memory (Heap address)) u.ghost.scanning has_new.outside nulls (has_new.shared.updated phase_on);
+    pinned = pins_stay c (u.memory Cset) (u.memory Evac) (u.memory Cset) (u.memory Evac) u.block made_world.block (λ mutator slot. u.memory (Pin mutator slot)) u.graph.pin targets has_new.shared.pinned;
   }
 
   -- room was there before, elsewhere
-  pub room_before : (a seat : ℕ) (piece : Block) → made_world.block a ≡ Some piece → room_of piece ≡ Some seat → (a ≢ address) × (u.block a ≡ Some piece)
-  room_before = old_room c top u.block address refs nums name has.piece has.unnamed has.long has.here
+  pub room_before : (asked_address seat : ℕ) (piece : Block) → made_world.block asked_address ≡ Some piece → room_of piece ≡ Some seat → (asked_address ≢ address) × (u.block asked_address ≡ Some piece)
+  room_before = old_room c top u.block address refs nums name has_new.piece has_new.unnamed has_new.long has_new.here
 
   -- what is promised was promised before, elsewhere
-  pub promise_before : (a seat words : ℕ) → made_world.block a ≡ Some (promised seat words) → (a ≢ address) × (u.block a ≡ Some (promised seat words))
-  promise_before = old_promise c top u.block address refs nums name has.piece has.unnamed has.long has.here
+  pub promise_before : (asked_address seat words : ℕ) → made_world.block asked_address ≡ Some (promised seat words) → (asked_address ≢ address) × (u.block asked_address ≡ Some (promised seat words))
+  promise_before = old_promise c top u.block address refs nums name has_new.piece has_new.unnamed has_new.long has_new.here
 
   -- the mutator's roots stand for its thread's, with the new one
   pub roots_made : ((index : ℕ) → index < 16 → Points u.block (u.memory (Root seat index)) (u.graph.root (seat + 1) index)) → (index : ℕ) → index < 16
       → Points made_world.block (made_world.memory (Root seat index)) (made_world.graph.root (seat + 1) index)
   roots_made roots =
       roots_written made_world.block u.memory u.graph.root seat (dst_of k) address (Some name)
-      (λ index below. points_stay u.block made_world.block names (u.memory (Root seat index)) (u.graph.root (seat + 1) index) (roots index below))
+      (λ index index_below. points_stay u.block made_world.block names (u.memory (Root seat index)) (u.graph.root (seat + 1) index) (roots index index_below))
       (ap name_at (updated_there u.block address (Some (thing name refs nums))))
 
   -- the new object is there, and may be used
   target_made : TargetIn c made_world address refs nums name
-  target_made = record { piece = updated_there u.block address (Some (thing name refs nums)); safe = λ inside. absurd (has.outside inside) }
+  target_made = record { piece = updated_there u.block address (Some (thing name refs nums)); safe = λ inside. absurd (has_new.outside inside) }
 
   pub taken_made : TargetIn c made_world address refs nums (next_name seat made)
-  taken_made = subst (λ n. TargetIn c made_world address refs nums n) name_is target_made
+  taken_made = subst (λ any_name. TargetIn c made_world address refs nums any_name) name_is target_made
 
   -- and may be used
   pub usable_made : ((index : ℕ) → index < 16 → UsableIn c u (u.memory (Root seat index))) → (index : ℕ) → index < 16 → UsableIn c made_world (made_world.memory (Root seat index))
   usable_made usable =
       usable_written c (u.memory Cset) (u.memory Evac) made_world.block u.memory seat (dst_of k) address
-      (λ index below. usable_stays c u made_world targets (u.memory (Root seat index)) (usable index below))
+      (λ index index_below. usable_stays c u made_world targets (u.memory (Root seat index)) (usable index index_below))
       (inr (name, refs, nums, target_made))
 
   -- it has made one object more
   pub count_made : made_world.graph.count (seat + 1) ≡ made + 1
-  count_made = count_own u.graph.count (seat + 1) ∙ ap (λ n. n + 1) has.counted
+  count_made = count_own u.graph.count (seat + 1) ∙ ap (λ count. count + 1) has_new.counted
 
   -- the command pins no object
   none_pinned : pinned_by u.graph (seat + 1) command ≡ None
-  none_pinned = ap (pinned_by u.graph (seat + 1)) has.making.is
+  none_pinned = ap (pinned_by u.graph (seat + 1)) has_new.making.is
 
   -- the reply is the command's
   replied : (outcome u.graph (seat + 1) command).reply ≡ made_reply
-  replied = ap (λ x. (outcome u.graph (seat + 1) x).reply) has.making.is ∙ ap (λ n. reply.Ref n) name_is
+  replied = ap (λ any_command. (outcome u.graph (seat + 1) any_command).reply) has_new.making.is ∙ ap (λ any_name. reply.Ref any_name) name_is
 
   -- and legal
   pub legal_made : LegalBy c u.graph seat command (Some made_reply)
@@ -186,50 +187,50 @@ module _ {c : Config} {u : World} {seat made : ℕ} {command k : Command} {fixed
 
   -- and it leads to the graph with the new object
   pub graph_made : made_world.graph ≡ graph_by u.graph seat command (Some made_reply)
-  graph_made = sym (graph_answer u.graph seat command made_reply refl none_pinned ∙ ap (λ x. (outcome u.graph (seat + 1) x).graph) has.making.is)
+  graph_made = sym (graph_answer u.graph seat command made_reply refl none_pinned ∙ ap (λ any_command. (outcome u.graph (seat + 1) any_command).graph) has_new.making.is)
 
   -- a piece of the collection set is another, and stays
-  not_here : (a : ℕ) → IsCollected c (u.memory Cset) a → a ≢ address
-  not_here a inside same = has.outside (subst (λ b. IsCollected c (u.memory Cset) b) same inside)
+  not_here : (asked_address : ℕ) → IsCollected c (u.memory Cset) asked_address → asked_address ≢ address
+  not_here asked_address address_collected same_address = has_new.outside (subst (λ any_address. IsCollected c (u.memory Cset) any_address) same_address address_collected)
 
   copies_stay : CopiesStay c u made_world
   copies_stay = record {
     cset = refl;
     evac = refl;
-    things = things_stay c top u.block address refs nums name has.piece has.unnamed has.long has.here;
-    moveds = λ a more_refs more_nums to other_name is. stays c top u.block address refs nums name has.piece has.unnamed has.long has.here a (moved other_name more_refs more_nums to) is
-        (λ same. none-some other_name (sym has.unnamed ∙ ap (λ b. name_at (Some b)) same));
-    spents = λ a words to is. updated_else u.block address (Some (thing name refs nums)) a (λ e. not_here a (has.shared.evacuated.moved.spents a words to is).inside (sym e)) ∙ is;
-    pieces = λ a x inside is. (x, updated_else u.block address (Some (thing name refs nums)) a (λ e. not_here a inside (sym e)) ∙ is, refl, refl);
-    no_new = λ a more_refs more_nums n inside is. sym (updated_else u.block address (Some (thing name refs nums)) a (λ e. not_here a inside (sym e))) ∙ is;
-    tops = λ r is. refl;
+    things = things_stay c top u.block address refs nums name has_new.piece has_new.unnamed has_new.long has_new.here;
+    moveds = λ piece_address found_refs found_nums copy found_name has_piece. stays c top u.block address refs nums name has_new.piece has_new.unnamed has_new.long has_new.here piece_address (moved found_name found_refs found_nums copy) has_piece
+        (λ same_piece. none-some found_name (sym has_new.unnamed ∙ ap (λ any_piece. name_at (Some any_piece)) same_piece));
+    spents = λ piece_address words copy has_piece. updated_else u.block address (Some (thing name refs nums)) piece_address (λ same_address. not_here piece_address (has_new.shared.evacuated.moved.spents piece_address words copy has_piece).inside (sym same_address)) ∙ has_piece;
+    pieces = λ piece_address piece inside has_piece. (piece, updated_else u.block address (Some (thing name refs nums)) piece_address (λ same_address. not_here piece_address inside (sym same_address)) ∙ has_piece, refl, refl);
+    no_new = λ piece_address found_refs found_nums object_name inside has_piece. sym (updated_else u.block address (Some (thing name refs nums)) piece_address (λ same_address. not_here piece_address inside (sym same_address))) ∙ has_piece;
+    tops = λ region has_piece. refl;
   }
 
   -- others can rely on what they knew
-  pub others_made : (j : ℕ) → j ≢ seat → Rely c j u made_world
-  others_made j differs = record {
+  pub others_made : (other_seat : ℕ) → other_seat ≢ seat → Rely c other_seat u made_world
+  others_made other_seat seats_differ = record {
     names = names;
     targets = targets;
-    rooms = λ a x is room. stays c top u.block address refs nums name has.piece has.unnamed has.long has.here a x is (λ same. has.own.no_room j differs (ap room_of same ∙ room));
-    no_rooms = λ a x is room. (room_before a j x is room).1;
-    room_words = λ a i x is room below. refl;
-    promises = λ a words is. stays c top u.block address refs nums name has.piece has.unnamed has.long has.here a (promised j words) is (has.own.no_promise j words differs);
-    no_promises = λ address words is. (promise_before address j words is).1;
-    promise_words = λ address words i is below. refl;
+    rooms = λ piece_address piece known_fact room. stays c top u.block address refs nums name has_new.piece has_new.unnamed has_new.long has_new.here piece_address piece known_fact (λ same_piece. has_new.own.no_room other_seat seats_differ (ap room_of same_piece ∙ room));
+    no_rooms = λ piece_address piece known_fact room. (room_before piece_address other_seat piece known_fact room).1;
+    room_words = λ piece_address place piece known_fact room offset_below. refl;
+    promises = λ piece_address words known_fact. stays c top u.block address refs nums name has_new.piece has_new.unnamed has_new.long has_new.here piece_address (promised other_seat words) known_fact (has_new.own.no_promise other_seat words seats_differ);
+    no_promises = λ address words known_fact. (promise_before address other_seat words known_fact).1;
+    promise_words = λ address words place known_fact offset_below. refl;
     current = refl;
-    opens = λ r is. is;
-    owners = λ region is. is;
-    tops = λ r is. refl;
-    root_words = λ i. cond-false ((seat == j) && (dst_of k == i)) _ _ (and_left _ _ (ne_eqb seat j (λ e. differs (sym e))));
-    roots = λ i. cond-false (((j + 1) == (seat + 1)) && (i == dst_of k)) _ _ (and_left _ _ (ne_eqb (j + 1) (seat + 1) (λ e. differs (omega (arith, e)))));
+    opens = λ any_region known_fact. known_fact;
+    owners = λ region known_fact. known_fact;
+    tops = λ any_region known_fact. refl;
+    root_words = λ place. cond-false ((seat == other_seat) && (dst_of k == place)) _ _ (and_left _ _ (ne_eqb seat other_seat (λ same_seat. seats_differ (sym same_seat))));
+    roots = λ place. cond-false (((other_seat + 1) == (seat + 1)) && (place == dst_of k)) _ _ (and_left _ _ (ne_eqb (other_seat + 1) (seat + 1) (λ same_seat. seats_differ (omega (arith, same_seat)))));
     pin_words = λ index. refl;
-    pins = λ i. refl;
-    count = cond-false ((j + 1) == (seat + 1)) _ _ (ne_eqb (j + 1) (seat + 1) (λ e. differs (omega (arith, e))));
+    pins = λ place. refl;
+    count = cond-false ((other_seat + 1) == (seat + 1)) _ _ (ne_eqb (other_seat + 1) (seat + 1) (λ same_seat. seats_differ (omega (arith, same_seat))));
     wait = refl;
     answer = refl;
     state = refl;
-    asked = λ is. is;
-    marks = rely_marks c u made_world j refl (λ n. refl) (λ t. refl) (λ t i. refl) refl (λ t. refl) refl (markable_again c top u.block address refs nums name has.piece has.unnamed has.long has.here) (λ a is. refl);
-    copies = rely_copies c u made_world j copies_stay refl refl (λ a i b seated copies inside is from below. refl);
-    fields = fields_stored c u made_world (λ r. refl) (λ r. refl) refl (λ a words is. stays c top u.block address refs nums name has.piece has.unnamed has.long has.here a (dead words) is (has.own.no_dead words)) (λ a words is. stays c top u.block address refs nums name has.piece has.unnamed has.long has.here a (filler words) is (has.own.no_filler words)) (λ on a more_refs more_nums i n is below. inl refl);
+    asked = λ known_fact. known_fact;
+    marks = rely_marks c u made_world other_seat refl (λ n. refl) (λ t. refl) (λ t place. refl) refl (λ t. refl) refl (markable_again c top u.block address refs nums name has_new.piece has_new.unnamed has_new.long has_new.here) (λ piece_address known_fact. refl);
+    copies = rely_copies c u made_world other_seat copies_stay refl refl (λ piece_address place body seated copies inside known_fact from offset_below. refl);
+    fields = fields_stored c u made_world (λ any_region. refl) (λ any_region. refl) refl (λ piece_address words known_fact. stays c top u.block address refs nums name has_new.piece has_new.unnamed has_new.long has_new.here piece_address (dead words) known_fact (has_new.own.no_dead words)) (λ piece_address words known_fact. stays c top u.block address refs nums name has_new.piece has_new.unnamed has_new.long has_new.here piece_address (filler words) known_fact (has_new.own.no_filler words)) (λ phase_on piece_address found_refs found_nums place n known_fact offset_below. inl refl);
   }

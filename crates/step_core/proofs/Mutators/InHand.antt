@@ -23,7 +23,7 @@ use Rattle.alloc_buffers.specs.Facts.{OnlySpares}
 -- a reply that shows a reference is not full
 pub shown_not_full : (reference : Reference) → is_full (shown reference) ≡ false
 shown_not_full None = refl
-shown_not_full (Some n) = refl
+shown_not_full (Some name) = refl
 
 -- With the reference of a field in hand for a root, and settled, a call goes on: it stores null, or loads the name first.
 pub field_mine : (config : Config) (world : World) (seat made : ℕ) (kept : Kept) (command : Command) (got : ℕ) (reference : Reference)
@@ -32,30 +32,30 @@ pub field_mine : (config : Config) (world : World) (seat made : ℕ) (kept : Kep
     → OnlySpares world seat
     → Points world.block got reference → UsableIn config world got
     → Mine config world (mutator_at seat made kept (after_field got)) command (Some (shown reference))
-field_mine config world seat made kept command got reference shared seated marking copying small roots rooms is usable = ⊎_elim
-    (λ (none : (got == 0) ≡ true).
-    let below = seated.below in
-    let zero_got : got ≡ 0 = eqb-true _ _ none in
-    rw none (record {
+field_mine config world seat made kept command got reference shared seated marking copying root_small roots rooms points_there usable = ⊎_elim
+    (λ (is_null : (got == 0) ≡ true).
+    let seat_below = seated.below in
+    let zero_got : got ≡ 0 = eqb-true _ _ is_null in
+    rw is_null (record {
       seated = seated;
-      ready = ready_of (is_word config (Root seat (dst_of kept.command))) (is_number got) (grind (arith, nat_tests)) (number_small got (points_small config _ world.block shared.parsable.plotted got reference is));
+      ready = ready_of (is_word config (Root seat (dst_of kept.command))) (is_number got) (grind (arith, nat_tests)) (number_small got (points_small config _ world.block shared.parsable.plotted got reference points_there));
       marking = marking;
       copying = copying;
       roots = roots;
       rooms = rooms;
-      facts = (ap (λ r. Some (shown r)) (null_if_0 config _ world.block shared.parsable.plotted got reference is zero_got), small, usable);
+      facts = (ap (λ any_reference. Some (shown any_reference)) (null_if_0 config _ world.block shared.parsable.plotted got reference points_there zero_got), root_small, usable);
     }))
-    (λ (some : (got == 0) ≡ false).
-    let named = named_if_not_0 config _ world.block shared.parsable.plotted got reference is (eqb-false _ _ some) in
+    (λ (not_null : (got == 0) ≡ false).
+    let named = named_if_not_0 config _ world.block shared.parsable.plotted got reference points_there (eqb-false _ _ not_null) in
     let body = named_body (world.block got) named.0 named.2 in
-    let there = body_piece (world.block got) (body_of named.0 body.0 body.1) body.2 in
-    rw some (record {
+    let piece_there = body_piece (world.block got) (body_of named.0 body.0 body.1) body.2 in
+    rw not_null (record {
       seated = seated;
-      ready = ready_of _ true (piece_word config _ world.block shared.parsable.plotted got 2 there.0 there.1 (let long = there.2 in omega (arith, long))) refl;
+      ready = ready_of _ true (piece_word config _ world.block shared.parsable.plotted got 2 piece_there.0 piece_there.1 (let piece_long = piece_there.2 in omega (arith, piece_long))) refl;
       marking = marking;
       copying = copying;
       roots = roots;
       rooms = rooms;
-      facts = (record { name = named.0; settled = ap (λ r. Some (shown r)) named.1; is = named.2; small = small }, usable);
+      facts = (record { name = named.0; settled = ap (λ any_reference. Some (shown any_reference)) named.1; is = named.2; small = root_small }, usable);
     }))
     (cases_Bool (got == 0))

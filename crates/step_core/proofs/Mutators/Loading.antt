@@ -22,15 +22,15 @@ use Rattle.step_core.proofs.History.Settling.{legal_answer, graph_answer}
 pub looks : (config : Config) (world : World) (mutator : Mutating) (word : Word) (command : Command) (fixed : Option Reply)
     → touch_of config mutator Nothing ≡ touch word loads → told_of world.memory mutator ≡ None → given_at mutator.spot ≡ None
     → Shared config world → Mine config world (next_of config mutator Nothing (world.memory word)) command fixed → Stepped config world mutator command Nothing fixed
-looks config world mutator word command fixed loaded told given shared mine = record {
+looks config world mutator word command fixed loaded told_nothing given_nothing shared facts_then = record {
   world = world;
   memory = rw loaded (load_keeps world.memory word);
-  graph = rw told refl;
-  legal = rw told tt;
-  settles = λ r e. absurd (cc);
+  graph = rw told_nothing refl;
+  legal = rw told_nothing tt;
+  settles = λ settled_reply reply_settled. absurd (cc);
   shared = shared;
-  mine = rw (loaded, told, given) mine;
-  others = λ seat d. rely_same config seat world;
+  mine = rw (loaded, told_nothing, given_nothing) facts_then;
+  others = λ seat differs. rely_same config seat world;
 }
 
 -- a step that loads a word and settles a reply which leaves the graph as it is
@@ -38,15 +38,15 @@ pub replies : (config : Config) (world : World) (mutator : Mutating) (word : Wor
     → touch_of config mutator Nothing ≡ touch word loads → told_of world.memory mutator ≡ Some reply → given_at mutator.spot ≡ None → fixed ≡ None
     → is_full reply ≡ false → pinned_by world.graph (mutator.seat + 1) command ≡ None → outcome world.graph (mutator.seat + 1) command ≡ answers reply world.graph
     → Shared config world → Mine config world (next_of config mutator Nothing (world.memory word)) command (Some reply) → Stepped config world mutator command Nothing fixed
-replies config world mutator word command fixed reply loaded told given unsettled other none is shared mine = record {
+replies config world mutator word command fixed reply loaded told_reply given_nothing unsettled not_full pins_none plain_outcome shared facts_then = record {
   world = world;
   memory = rw loaded (load_keeps world.memory word);
-  graph = rw told (sym (graph_answer world.graph mutator.seat command reply other none ∙ ap (λ o. o.graph) is));
-  legal = rw told (legal_answer config world.graph mutator.seat command reply other none (ap (λ o. o.reply) is));
-  settles = λ q e. (unsettled, given);
+  graph = rw told_reply (sym (graph_answer world.graph mutator.seat command reply not_full pins_none ∙ ap (λ any_outcome. any_outcome.graph) plain_outcome));
+  legal = rw told_reply (legal_answer config world.graph mutator.seat command reply not_full pins_none (ap (λ any_outcome. any_outcome.reply) plain_outcome));
+  settles = λ settled_reply reply_settled. (unsettled, given_nothing);
   shared = shared;
-  mine = rw (loaded, told) mine;
-  others = λ seat d. rely_same config seat world;
+  mine = rw (loaded, told_reply) facts_then;
+  others = λ seat differs. rely_same config seat world;
 }
 
 -- a step that loads a word and settles a reply which makes a root of the mutator another
@@ -56,13 +56,13 @@ pub replies_root : (config : Config) (world : World) (mutator : Mutating) (word 
     → Shared config world
     → Mine config (record { memory = world.memory; block = world.block; ghost = world.ghost; graph = with_root world.graph (mutator.seat + 1) dst reference }) (next_of config mutator Nothing (world.memory word)) command (Some reply)
     → Stepped config world mutator command Nothing fixed
-replies_root config world mutator word command fixed reply dst reference loaded told given unsettled other none is shared mine = record {
+replies_root config world mutator word command fixed reply dst reference loaded told_reply given_nothing unsettled not_full pins_none root_outcome shared facts_then = record {
   world = record { memory = world.memory; block = world.block; ghost = world.ghost; graph = with_root world.graph (mutator.seat + 1) dst reference };
   memory = rw loaded (load_keeps world.memory word);
-  graph = rw told (sym (graph_answer world.graph mutator.seat command reply other none ∙ ap (λ o. o.graph) is));
-  legal = rw told (legal_answer config world.graph mutator.seat command reply other none (ap (λ o. o.reply) is));
-  settles = λ q e. (unsettled, given);
+  graph = rw told_reply (sym (graph_answer world.graph mutator.seat command reply not_full pins_none ∙ ap (λ any_outcome. any_outcome.graph) root_outcome));
+  legal = rw told_reply (legal_answer config world.graph mutator.seat command reply not_full pins_none (ap (λ any_outcome. any_outcome.reply) root_outcome));
+  settles = λ settled_reply reply_settled. (unsettled, given_nothing);
   shared = shared;
-  mine = rw (loaded, told) mine;
-  others = λ seat d. let marks = marks_in config world world.memory (with_root world.graph (mutator.seat + 1) dst reference) seat refl (λ n. refl) (λ t. refl) (λ t k. refl) (λ a. refl) in let copies = copies_in config world world.memory (with_root world.graph (mutator.seat + 1) dst reference) seat refl refl (λ reply. refl) (λ a. refl) in let kept_fields = fields_in config world world.memory (with_root world.graph (mutator.seat + 1) dst reference) (λ reply. refl) (λ reply. refl) refl (λ a. refl) in search (arith, nat_tests, marks, copies, kept_fields);
+  mine = rw (loaded, told_reply) facts_then;
+  others = λ seat differs. let marks = marks_in config world world.memory (with_root world.graph (mutator.seat + 1) dst reference) seat refl (λ n. refl) (λ t. refl) (λ t k. refl) (λ a. refl) in let copies = copies_in config world world.memory (with_root world.graph (mutator.seat + 1) dst reference) seat refl refl (λ reply. refl) (λ a. refl) in let kept_fields = fields_in config world world.memory (with_root world.graph (mutator.seat + 1) dst reference) (λ reply. refl) (λ reply. refl) refl (λ a. refl) in search (arith, nat_tests, marks, copies, kept_fields);
 }

@@ -15,16 +15,16 @@ use Rattle.mutator.specs.Rows.{touch_at}
 
 -- its access is of a word of the table, whatever order it takes
 pub order_word : (config : Config) (seat made : ℕ) (kept : Kept) (order : Order) (spot : Spot) → seat < config.mutators → is_ready config seat made kept spot ≡ true → takes_at spot made order ≡ true → is_word config (touch_at config seat made kept order spot).word ≡ true
-order_word config seat made kept Nothing spot below ready takes = (and_parts _ _ (and_parts _ _ ready).0).0
-order_word config seat made kept (Begin command) Rest below ready takes = grind (arith, nat_tests)
-order_word config seat made kept (Begin command) (Ended reply) below ready takes = grind (arith, nat_tests)
-order_word config seat made kept (Begin command) Gone below ready takes = absurd (cc (takes))
-order_word config seat made kept (Begin command) _ below ready takes = absurd (cc (takes))
-order_word config seat made kept End Rest below ready takes = refl
-order_word config seat made kept End (Ended reply) below ready takes = refl
-order_word config seat made kept End Gone below ready takes = absurd (cc (takes))
-order_word config seat made kept End _ below ready takes = absurd (cc (takes))
-order_word config seat made kept (Hint address) Rest below ready takes = absurd (cc (takes))
-order_word config seat made kept (Hint address) (Ended reply) below ready takes = absurd (cc (takes))
-order_word config seat made kept (Hint address) Gone below ready takes = absurd (cc (takes))
-order_word config seat made kept (Hint address) _ below ready takes = absurd (cc (takes))
+order_word config seat made kept Nothing spot seat_below spot_ready takes = (and_parts _ _ (and_parts _ _ spot_ready).0).0
+order_word config seat made kept (Begin command) Rest seat_below spot_ready takes = grind (arith, nat_tests)
+order_word config seat made kept (Begin command) (Ended reply) seat_below spot_ready takes = grind (arith, nat_tests)
+order_word config seat made kept (Begin command) Gone seat_below spot_ready takes = absurd (cc (takes))
+order_word config seat made kept (Begin command) _ seat_below spot_ready takes = absurd (cc (takes))
+order_word config seat made kept End Rest seat_below spot_ready takes = refl
+order_word config seat made kept End (Ended reply) seat_below spot_ready takes = refl
+order_word config seat made kept End Gone seat_below spot_ready takes = absurd (cc (takes))
+order_word config seat made kept End _ seat_below spot_ready takes = absurd (cc (takes))
+order_word config seat made kept (Hint address) Rest seat_below spot_ready takes = absurd (cc (takes))
+order_word config seat made kept (Hint address) (Ended reply) seat_below spot_ready takes = absurd (cc (takes))
+order_word config seat made kept (Hint address) Gone seat_below spot_ready takes = absurd (cc (takes))
+order_word config seat made kept (Hint address) _ seat_below spot_ready takes = absurd (cc (takes))

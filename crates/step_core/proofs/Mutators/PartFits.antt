@@ -33,43 +33,43 @@ module _ (config : Config) (world : World) (shared : Shared config world) where
   reference_fits : (word : ℕ) (reference : Reference) → Points world.block word reference → is_reference_word config word ≡ true
   reference_fits word reference points = ⊎_elim
       (λ (null : word ≡ 0). cond-true (word == 0) true (is_word config (Heap word)) (eq-eqb word 0 null))
-      (λ (some : word ≢ 0). cond-false (word == 0) true (is_word config (Heap word)) (ne_eqb word 0 some) ∙ of_object reference points some)
+      (λ (not_null : word ≢ 0). cond-false (word == 0) true (is_word config (Heap word)) (ne_eqb word 0 not_null) ∙ of_object reference points not_null)
       (cases_eq word 0)
     where
       of_object : (reference : Reference) → Points world.block word reference → word ≢ 0 → is_word config (Heap word) ≡ true
-      of_object None is other = absurd (other is)
-      of_object (Some name) is other =
-          let piece = named_piece (world.block word) name is in
-          let long = some_words config (λ region. world.memory (Top region)) world.block shared.parsable shared.owned.rooms word piece.0 piece.1 in
-          ap (λ address. is_word config (Heap address)) (omega arith) ∙ piece_word config (λ region. world.memory (Top region)) world.block shared.parsable.plotted word 0 piece.0 piece.1 (omega (arith, long))
+      of_object None points some_word = absurd (some_word points)
+      of_object (Some name) points some_word =
+          let piece = named_piece (world.block word) name points in
+          let piece_words = some_words config (λ region. world.memory (Top region)) world.block shared.parsable shared.owned.rooms word piece.0 piece.1 in
+          ap (λ address. is_word config (Heap address)) (omega arith) ∙ piece_word config (λ region. world.memory (Top region)) world.block shared.parsable.plotted word 0 piece.0 piece.1 (omega (arith, piece_words))
 
   module _ (seat made : ℕ) (kept : Kept) (command : Command) (fixed : Option Reply) where
     -- what is found in a field is one, where it is to be used
     field_fits : (object : ℕ) (spot : FieldSpot) → Mine config world (mutator_at seat made kept (OnField object spot)) command fixed
         → field_goes config spot (world.memory (touch_of config (mutator_at seat made kept (OnField object spot)) Nothing).word) ≡ true
-    field_fits object fields.Load mine = let get = mine.facts.1 in let here = field_in config world shared seat get.src object _ get.of get.below in reference_fits _ here.0 here.2
-    field_fits object (fields.LoadExpected expect value) mine = let cas = mine.facts.1 in let here = field_in config world shared seat cas.obj object _ cas.of cas.below in reference_fits _ here.0 here.2
-    field_fits object (fields.Swap value) mine = let swap = mine.facts.1 in let here = field_in config world shared seat swap.obj object _ swap.of swap.below in reference_fits _ here.0 here.2
-    field_fits object (fields.LoadOld value) mine = refl
-    field_fits object (fields.Store value) mine = refl
-    field_fits object (fields.Exchange found expect value) mine = refl
+    field_fits object fields.Load own_facts = let get_facts = own_facts.facts.1 in let field_here = field_in config world shared seat get_facts.src object _ get_facts.of get_facts.below in reference_fits _ field_here.0 field_here.2
+    field_fits object (fields.LoadExpected expect value) own_facts = let cas = own_facts.facts.1 in let field_here = field_in config world shared seat cas.obj object _ cas.of cas.below in reference_fits _ field_here.0 field_here.2
+    field_fits object (fields.Swap value) own_facts = let swap = own_facts.facts.1 in let field_here = field_in config world shared seat swap.obj object _ swap.of swap.below in reference_fits _ field_here.0 field_here.2
+    field_fits object (fields.LoadOld value) own_facts = refl
+    field_fits object (fields.Store value) own_facts = refl
+    field_fits object (fields.Exchange found expect value) own_facts = refl
 
     -- the word that a mutator finds is fit for its part
     pub part_fits : (spot : Spot) → Mine config world (mutator_at seat made kept spot) command fixed → PartFit config seat kept spot (world.memory (touch_of config (mutator_at seat made kept spot) Nothing).word)
-    part_fits (OnField object spot) mine = field_fits object spot mine
-    part_fits (Resolving address spot next) mine =
-        resolving_fits config world seat address kept.phase spot (going_now config world seat made kept command fixed spot address next mine) shared (mine.marking.phase_is refl) mine.facts.0
-    part_fits _ mine = tt
+    part_fits (OnField object spot) own_facts = field_fits object spot own_facts
+    part_fits (Resolving address spot next) own_facts =
+        resolving_fits config world seat address kept.phase spot (going_now config world seat made kept command fixed spot address next own_facts) shared (own_facts.marking.phase_is refl) own_facts.facts.0
+    part_fits _ own_facts = tt
 
 -- outside the heap each word is fit
 pub part_outside : (config : Config) (seat : ℕ) (kept : Kept) (spot : Spot) (got : ℕ) → is_within (standing_at spot) ≡ false → PartFit config seat kept spot got
-part_outside config seat kept (OnField object spot) got out = absurd (cc (out))
-part_outside config seat kept (Resolving address spot next) got out = absurd (cc (out))
-part_outside config seat kept _ got out = tt
+part_outside config seat kept (OnField object spot) got outside = absurd (cc (outside))
+part_outside config seat kept (Resolving address spot next) got outside = absurd (cc (outside))
+part_outside config seat kept _ got outside = tt
 
 -- a mutator that is in the heap has a call in progress
 pub within_call : (spot : Spot) → is_within (standing_at spot) ≡ true → is_between_calls spot ≡ false
-within_call Rest within = absurd (cc (within))
-within_call (Ended reply) within = absurd (cc (within))
-within_call Gone within = absurd (cc (within))
-within_call _ within = refl
+within_call Rest spot_within = absurd (cc (spot_within))
+within_call (Ended reply) spot_within = absurd (cc (spot_within))
+within_call Gone spot_within = absurd (cc (spot_within))
+within_call _ spot_within = refl

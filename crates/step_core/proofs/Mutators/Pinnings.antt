@@ -34,18 +34,18 @@ use Rattle.step_core.proofs.Mutators.Loading.{looks, replies}
 use Rattle.step_core.proofs.History.Settling.{legal_answer, graph_answer}
 
 -- no command pins an object where its slot is taken
-taken_either : (held : Option Pinned) (reference : Reference) → (held ≡ None → ⊥) → (if is_some held then None else reference) ≡ None
-taken_either None reference taken = absurd (taken refl)
-taken_either (Some pinned) reference taken = refl
+taken_either : (held_pin : Option Pinned) (reference : Reference) → (held_pin ≡ None → ⊥) → (if is_some held_pin then None else reference) ≡ None
+taken_either None reference slot_taken = absurd (slot_taken refl)
+taken_either (Some pinned) reference slot_taken = refl
 
 -- an Unpin empties a slot that is taken
-empties : (graph : Graph) (o : Outcome) (held : Option Pinned) → (held ≡ None → ⊥) → on held graph (λ p. o) ≡ o
-empties graph o None taken = absurd (taken refl)
-empties graph o (Some pinned) taken = refl
+empties : (graph : Graph) (given_outcome : Outcome) (held_pin : Option Pinned) → (held_pin ≡ None → ⊥) → on held_pin graph (λ old_pin. given_outcome) ≡ given_outcome
+empties graph given_outcome None slot_taken = absurd (slot_taken refl)
+empties graph given_outcome (Some pinned) slot_taken = refl
 
 not_true : (holds : Bool) → not holds ≡ true → holds ≡ false
-not_true true is = absurd (true≢false (sym is))
-not_true false is = refl
+not_true true not_holds = absurd (true≢false (sym not_holds))
+not_true false not_holds = refl
 
 -- a slot that holds something is one of a mutator
 pub record IsSlotAt (config : Config) (thread slot : ℕ) : Type 0 where
@@ -54,131 +54,131 @@ pub record IsSlotAt (config : Config) (thread slot : ℕ) : Type 0 where
   pub below : t < config.mutators
   pub small : slot < 4
 
-pub slot_at : (config : Config) (graph : Graph) → HasNoMorePins config.mutators graph → (thread slot : ℕ) (held : Pinned) → graph.pin thread slot ≡ Some held → IsSlotAt config thread slot
-slot_at config graph no_more thread slot held is = ⊎_elim
-    (λ (there : is_slot_of config.mutators thread slot ≡ true).
-    let parts = and_parts _ _ there in
-    let rest = and_parts _ _ parts.1 in
-    let least : 1 ≤ thread = leb-true _ _ parts.0 in
-    let most : thread ≤ config.mutators = leb-true _ _ rest.0 in
-    record { t = thread - 1; is = omega (arith, least); below = omega (arith, least, most); small = ltb-true _ _ rest.1 })
-    (λ (none : is_slot_of config.mutators thread slot ≡ false). absurd (none-some held (sym (no_more thread slot none) ∙ is)))
+pub slot_at : (config : Config) (graph : Graph) → HasNoMorePins config.mutators graph → (thread slot : ℕ) (held_pin : Pinned) → graph.pin thread slot ≡ Some held_pin → IsSlotAt config thread slot
+slot_at config graph no_more thread slot held_pin pin_is = ⊎_elim
+    (λ (slot_there : is_slot_of config.mutators thread slot ≡ true).
+    let both_parts = and_parts _ _ slot_there in
+    let rest_true = and_parts _ _ both_parts.1 in
+    let thread_positive : 1 ≤ thread = leb-true _ _ both_parts.0 in
+    let thread_low : thread ≤ config.mutators = leb-true _ _ rest_true.0 in
+    record { t = thread - 1; is = omega (arith, thread_positive); below = omega (arith, thread_positive, thread_low); small = ltb-true _ _ rest_true.1 })
+    (λ (no_slot : is_slot_of config.mutators thread slot ≡ false). absurd (none-some held_pin (sym (no_more thread slot no_slot) ∙ pin_is)))
     (cases_Bool (is_slot_of config.mutators thread slot))
 
 module _ (config : Config) (world : World) (shared : Shared config world) where
   -- the word of a slot that holds something is not 0
   pub empty_slot : (mutator slot : ℕ) → mutator < config.mutators → slot < 4 → world.memory (PinWord mutator slot) ≡ 0 → world.graph.pin (mutator + 1) slot ≡ None
-  empty_slot mutator slot below small null = by_held (world.graph.pin (mutator + 1) slot) (shared.pinned mutator slot below small)
+  empty_slot mutator slot mutator_below slot_small null = by_held (world.graph.pin (mutator + 1) slot) (shared.pinned mutator slot mutator_below slot_small)
     where
-      by_held : (held : Option Pinned) → PinStands config (world.memory Cset) (world.memory Evac) world.block (world.memory (PinWord mutator slot)) held → held ≡ None
-      by_held None is = refl
-      by_held (Some p) is = absurd (none-some p.name (sym (null_if_0 config (λ region. world.memory (Top region)) world.block shared.parsable.plotted (world.memory (PinWord mutator slot)) (Some p.name) (ap name_at is.3.piece) null)))
+      by_held : (held_pin : Option Pinned) → PinStands config (world.memory Cset) (world.memory Evac) world.block (world.memory (PinWord mutator slot)) held_pin → held_pin ≡ None
+      by_held None pin_stands = refl
+      by_held (Some pinned) pin_stands = absurd (none-some pinned.name (sym (null_if_0 config (λ region. world.memory (Top region)) world.block shared.parsable.plotted (world.memory (PinWord mutator slot)) (Some pinned.name) (ap name_at pin_stands.3.piece) null)))
 
   -- and that of one that holds nothing is
   pub null_word : (mutator slot : ℕ) → mutator < config.mutators → slot < 4 → world.graph.pin (mutator + 1) slot ≡ None → world.memory (PinWord mutator slot) ≡ 0
-  null_word mutator slot below small none = subst (PinStands config (world.memory Cset) (world.memory Evac) world.block (world.memory (PinWord mutator slot))) none (shared.pinned mutator slot below small)
+  null_word mutator slot mutator_below slot_small slot_empty = subst (PinStands config (world.memory Cset) (world.memory Evac) world.block (world.memory (PinWord mutator slot))) slot_empty (shared.pinned mutator slot mutator_below slot_small)
 
   -- an object in hand may be pinned where it is
-  pub may_be_pinned : HasNoMorePins config.mutators world.graph → (seat root value : ℕ) (of : HasObject config world seat root value) → MayBePinned config.regions config.region_words world.graph of.name value
-  may_be_pinned no_more seat root value of = record {
+  pub may_be_pinned : HasNoMorePins config.mutators world.graph → (seat root value : ℕ) (has_object : HasObject config world seat root value) → MayBePinned config.regions config.region_words world.graph has_object.name value
+  may_be_pinned no_more seat root value has_object = record {
     within =
-        let inside = piece_inside config (λ region. world.memory (Top region)) world.block shared.parsable.plotted value (thing of.name of.refs of.nums) of.target.piece in
-        let high : value + (3 + of.refs + of.nums) ≤ (config.regions + 1) * config.region_words = inside.1 in
-        (inside.0, omega (arith, high));
-    same = λ thread slot held is named. let stands = held_stands thread slot held is in
-        sym stands.0 ∙ shared.contents.objects.once (word_at thread slot held is) value stands.1 stands.2 of.refs of.nums of.name
-        (stands.3.piece ∙ ap (λ name. Some (thing name stands.1 stands.2)) named) of.target.piece;
-    alone = λ thread slot held is placed. let stands = held_stands thread slot held is in
-        same_Some held.name of.name (sym (ap name_at stands.3.piece) ∙ ap (λ address. name_at (world.block address)) (stands.0 ∙ placed) ∙ ap name_at of.target.piece);
+        let piece_within = piece_inside config (λ region. world.memory (Top region)) world.block shared.parsable.plotted value (thing has_object.name has_object.refs has_object.nums) has_object.target.piece in
+        let object_below : value + (3 + has_object.refs + has_object.nums) ≤ (config.regions + 1) * config.region_words = piece_within.1 in
+        (piece_within.0, omega (arith, object_below));
+    same = λ thread slot held slot_holds named. let pin_stands = held_stands thread slot held slot_holds in
+        sym pin_stands.0 ∙ shared.contents.objects.once (word_at thread slot held slot_holds) value pin_stands.1 pin_stands.2 has_object.refs has_object.nums has_object.name
+        (pin_stands.3.piece ∙ ap (λ name. Some (thing name pin_stands.1 pin_stands.2)) named) has_object.target.piece;
+    alone = λ thread slot held slot_holds placed. let pin_stands = held_stands thread slot held slot_holds in
+        same_Some held.name has_object.name (sym (ap name_at pin_stands.3.piece) ∙ ap (λ address. name_at (world.block address)) (pin_stands.0 ∙ placed) ∙ ap name_at has_object.target.piece);
   }
     where
-      word_at : (thread slot : ℕ) (held : Pinned) → world.graph.pin thread slot ≡ Some held → ℕ
-      word_at thread slot held is = world.memory (PinWord (slot_at config world.graph no_more thread slot held is).t slot)
+      word_at : (thread slot : ℕ) (held_pin : Pinned) → world.graph.pin thread slot ≡ Some held_pin → ℕ
+      word_at thread slot held_pin pin_is = world.memory (PinWord (slot_at config world.graph no_more thread slot held_pin pin_is).t slot)
 
-      held_stands : (thread slot : ℕ) (held : Pinned) (is : world.graph.pin thread slot ≡ Some held) → PinStands config (world.memory Cset) (world.memory Evac) world.block (word_at thread slot held is) (Some held)
-      held_stands thread slot held is =
-          let at = slot_at config world.graph no_more thread slot held is in
-          subst (PinStands config (world.memory Cset) (world.memory Evac) world.block (world.memory (PinWord at.t slot))) (ap (λ thread. world.graph.pin thread slot) (sym at.is) ∙ is) (shared.pinned at.t slot at.below at.small)
+      held_stands : (thread slot : ℕ) (held_pin : Pinned) (pin_is : world.graph.pin thread slot ≡ Some held_pin) → PinStands config (world.memory Cset) (world.memory Evac) world.block (word_at thread slot held_pin pin_is) (Some held_pin)
+      held_stands thread slot held_pin pin_is =
+          let pin_slot = slot_at config world.graph no_more thread slot held_pin pin_is in
+          subst (PinStands config (world.memory Cset) (world.memory Evac) world.block (world.memory (PinWord pin_slot.t slot))) (ap (λ thread. world.graph.pin thread slot) (sym pin_slot.is) ∙ pin_is) (shared.pinned pin_slot.t slot pin_slot.below pin_slot.small)
 
 module _ (config : Config) (world : World) (seat made : ℕ) (kept : Kept) (command : Command) (fixed : Option Reply) where
   -- what the call of a command keeps
   abbrev keeping : Command → Kept
-  keeping other_command = record { command = other_command; phase = kept.phase; cset = kept.cset }
+  keeping kept_command = record { command = kept_command; phase = kept.phase; cset = kept.cset }
 
   abbrev at_call : Command → Spot → Mutating
-  at_call other_command spot = mutator_at seat made (keeping other_command) spot
+  at_call kept_command spot = mutator_at seat made (keeping kept_command) spot
 
   -- it leaves with the reply that is settled, where a world has the words, pieces and roots of this one
   abbrev IsAt : Command → ℕ → Type 0
-  IsAt other_command value = Mine config world (at_call other_command (Pinning value pins.Look)) command fixed
+  IsAt kept_command value = Mine config world (at_call kept_command (Pinning value pins.Look)) command fixed
 
-  bad_mine : (other_command : Command) (value : ℕ) → IsAt other_command value → Mine config world (at_call other_command (Leave reply.Bad)) command (Some reply.Bad)
-  bad_mine other_command value mine = leaving config world seat made (keeping other_command) command reply.Bad mine.seated (mine.marking.records, mine.marking.scans, mine.copying.copies_is, mine.copying.works_none) mine.roots mine.rooms
+  bad_mine : (kept_command : Command) (value : ℕ) → IsAt kept_command value → Mine config world (at_call kept_command (Leave reply.Bad)) command (Some reply.Bad)
+  bad_mine kept_command value command_at = leaving config world seat made (keeping kept_command) command reply.Bad command_at.seated (command_at.marking.records, command_at.marking.scans, command_at.copying.copies_is, command_at.copying.works_none) command_at.roots command_at.rooms
 
   -- the store can be made next, of what may be stored
-  store_mine : (other_command : Command) (value : ℕ) → Shared config world → IsAt other_command value → IsOfSlot config world seat other_command value → SlotFits world seat other_command → is_number value ≡ true → Mine config world (at_call other_command (Pinning value pins.Store)) command fixed
-  store_mine other_command value shared mine of_slot fits small = record {
-    seated = mine.seated;
-    ready = ready_of _ _ (and_parts _ _ (and_parts _ _ mine.ready).0).0 small;
-    marking = mine.marking;
-    copying = mine.copying;
-    roots = mine.roots;
-    rooms = mine.rooms;
-    facts = (mine.facts.0, mine.facts.1, of_slot, fits);
+  store_mine : (kept_command : Command) (value : ℕ) → Shared config world → IsAt kept_command value → IsOfSlot config world seat kept_command value → SlotFits world seat kept_command → is_number value ≡ true → Mine config world (at_call kept_command (Pinning value pins.Store)) command fixed
+  store_mine kept_command value shared command_at of_slot fits value_small = record {
+    seated = command_at.seated;
+    ready = ready_of _ _ (and_parts _ _ (and_parts _ _ command_at.ready).0).0 value_small;
+    marking = command_at.marking;
+    copying = command_at.copying;
+    roots = command_at.roots;
+    rooms = command_at.rooms;
+    facts = (command_at.facts.0, command_at.facts.1, of_slot, fits);
   }
 
-  look_step : (other_command : Command) (value : ℕ) → Shared config world → IsAt other_command value → Stepped config world (at_call other_command (Pinning value pins.Look)) command Nothing fixed
-  look_step (Pin slot obj) value shared mine =
+  look_step : (kept_command : Command) (value : ℕ) → Shared config world → IsAt kept_command value → Stepped config world (at_call kept_command (Pinning value pins.Look)) command Nothing fixed
+  look_step (Pin slot obj) value shared command_at =
       let word : ℕ = world.memory (PinWord seat slot) in
-      let small : slot < 4 = mine.facts.2.0 in
-      let of : HasObject config world seat obj value = mine.facts.2.1 in
+      let slot_small : slot < 4 = command_at.facts.2.0 in
+      let has_object : HasObject config world seat obj value = command_at.facts.2.1 in
       ⊎_elim
-      (λ (fits : (word == 0) ≡ true).
-      looks config world (at_call (Pin slot obj) (Pinning value pins.Look)) (PinWord seat slot) command fixed refl (cond-true _ _ _ fits) refl shared
-      (rw fits (store_mine (Pin slot obj) value shared mine mine.facts.2 (empty_slot config world shared seat slot mine.seated.below small (eqb-true _ _ fits))
-      (number_small value (points_small config (λ region. world.memory (Top region)) world.block shared.parsable.plotted value (Some of.name) (ap name_at of.target.piece))))))
+      (λ (word_tested : (word == 0) ≡ true).
+      looks config world (at_call (Pin slot obj) (Pinning value pins.Look)) (PinWord seat slot) command fixed refl (cond-true _ _ _ word_tested) refl shared
+      (rw word_tested (store_mine (Pin slot obj) value shared command_at command_at.facts.2 (empty_slot config world shared seat slot command_at.seated.below slot_small (eqb-true _ _ word_tested))
+      (number_small value (points_small config (λ region. world.memory (Top region)) world.block shared.parsable.plotted value (Some has_object.name) (ap name_at has_object.target.piece))))))
       (λ (lacks : (word == 0) ≡ false).
-      let taken : world.graph.pin (seat + 1) slot ≡ None → ⊥ = λ none. eqb-false _ _ lacks (null_word config world shared seat slot mine.seated.below small none) in
-      replies config world (at_call (Pin slot obj) (Pinning value pins.Look)) (PinWord seat slot) command fixed reply.Bad refl (cond-false _ _ _ lacks) refl mine.facts.0 refl
-      (ap (pinned_by world.graph (seat + 1)) mine.facts.1 ∙ taken_either (world.graph.pin (seat + 1) slot) (world.graph.root (seat + 1) obj) taken)
-      (ap (outcome world.graph (seat + 1)) mine.facts.1)
-      shared (rw lacks (bad_mine (Pin slot obj) value mine)))
+      let slot_taken : world.graph.pin (seat + 1) slot ≡ None → ⊥ = λ slot_empty. eqb-false _ _ lacks (null_word config world shared seat slot command_at.seated.below slot_small slot_empty) in
+      replies config world (at_call (Pin slot obj) (Pinning value pins.Look)) (PinWord seat slot) command fixed reply.Bad refl (cond-false _ _ _ lacks) refl command_at.facts.0 refl
+      (ap (pinned_by world.graph (seat + 1)) command_at.facts.1 ∙ taken_either (world.graph.pin (seat + 1) slot) (world.graph.root (seat + 1) obj) slot_taken)
+      (ap (outcome world.graph (seat + 1)) command_at.facts.1)
+      shared (rw lacks (bad_mine (Pin slot obj) value command_at)))
       (cases_Bool (word == 0))
-  look_step (Unpin slot) value shared mine =
+  look_step (Unpin slot) value shared command_at =
       let word : ℕ = world.memory (PinWord seat slot) in
-      let small : slot < 4 = mine.facts.2.0 in
+      let slot_small : slot < 4 = command_at.facts.2.0 in
       ⊎_elim
-      (λ (fits : not (word == 0) ≡ true).
-      looks config world (at_call (Unpin slot) (Pinning value pins.Look)) (PinWord seat slot) command fixed refl (cond-true _ _ _ fits) refl shared
-      (rw fits (store_mine (Unpin slot) value shared mine mine.facts.2
-      (λ none. eqb-false _ _ (not_true (word == 0) fits) (null_word config world shared seat slot mine.seated.below small none)) (ap is_number mine.facts.2.1))))
+      (λ (word_tested : not (word == 0) ≡ true).
+      looks config world (at_call (Unpin slot) (Pinning value pins.Look)) (PinWord seat slot) command fixed refl (cond-true _ _ _ word_tested) refl shared
+      (rw word_tested (store_mine (Unpin slot) value shared command_at command_at.facts.2
+      (λ slot_empty. eqb-false _ _ (not_true (word == 0) word_tested) (null_word config world shared seat slot command_at.seated.below slot_small slot_empty)) (ap is_number command_at.facts.2.1))))
       (λ (lacks : not (word == 0) ≡ false).
-      let none : world.graph.pin (seat + 1) slot ≡ None = empty_slot config world shared seat slot mine.seated.below small (eqb-true _ _ (true_from_not (word == 0) lacks)) in
-      replies config world (at_call (Unpin slot) (Pinning value pins.Look)) (PinWord seat slot) command fixed reply.Bad refl (cond-false _ _ _ lacks) refl mine.facts.0 refl
-      (ap (pinned_by world.graph (seat + 1)) mine.facts.1)
-      (ap (outcome world.graph (seat + 1)) mine.facts.1 ∙ ap (λ held. on held world.graph (λ p. answers reply.Ok (with_pin world.graph (seat + 1) slot None))) none)
-      shared (rw lacks (bad_mine (Unpin slot) value mine)))
+      let slot_empty : world.graph.pin (seat + 1) slot ≡ None = empty_slot config world shared seat slot command_at.seated.below slot_small (eqb-true _ _ (true_from_not (word == 0) lacks)) in
+      replies config world (at_call (Unpin slot) (Pinning value pins.Look)) (PinWord seat slot) command fixed reply.Bad refl (cond-false _ _ _ lacks) refl command_at.facts.0 refl
+      (ap (pinned_by world.graph (seat + 1)) command_at.facts.1)
+      (ap (outcome world.graph (seat + 1)) command_at.facts.1 ∙ ap (λ held_pin. on held_pin world.graph (λ old_pin. answers reply.Ok (with_pin world.graph (seat + 1) slot None))) slot_empty)
+      shared (rw lacks (bad_mine (Unpin slot) value command_at)))
       (cases_Bool (not (word == 0)))
-  look_step _ value shared mine = absurd mine.facts.2
+  look_step _ value shared command_at = absurd command_at.facts.2
 
   -- the look at a slot settles Bad where it is not as the command wants it
   pub at_look_pin : (value : ℕ) → Row config world (mutator_at seat made kept (Pinning value pins.Look)) command fixed
   at_look_pin value shared mine = look_step kept.command value shared mine
 
-  module _ (other_command : Command) (value slot : ℕ) (held : Option Pinned) (shared : Shared config world) (stands : PinStands config (world.memory Cset) (world.memory Evac) world.block value held) where
+  module _ (other_command : Command) (value slot : ℕ) (held_pin : Option Pinned) (shared : Shared config world) (stands : PinStands config (world.memory Cset) (world.memory Evac) world.block value held_pin) where
     -- the world in which a slot holds something, and its word is the place
     abbrev pinned_world : World
-    pinned_world = record { memory = write world.memory (PinWord seat slot) value; block = world.block; ghost = world.ghost; graph = with_pin world.graph (seat + 1) slot held }
+    pinned_world = record { memory = write world.memory (PinWord seat slot) value; block = world.block; ghost = world.ghost; graph = with_pin world.graph (seat + 1) slot held_pin }
 
     -- each pin word stands for what its slot holds
     pins_then : ArePinned config (world.memory Cset) (world.memory Evac) world.block (λ mutator slot. pinned_world.memory (PinWord mutator slot)) pinned_world.graph.pin
-    pins_then t i below small =
-        let thread : ((t + 1) == (seat + 1)) ≡ (seat == t) = grind (arith, nat_tests) in
-        let index : (i == slot) ≡ (slot == i) = grind (arith, nat_tests) in
-        rw (thread, index)
-        (elim ((seat == t) && (slot == i)) as (λ b. PinStands config (world.memory Cset) (world.memory Evac) world.block (if b then value else world.memory (PinWord t i)) (if b then held else world.graph.pin (t + 1) i)) [
+    pins_then pin_mutator pin_index mutator_below slot_small =
+        let threads_tested : ((pin_mutator + 1) == (seat + 1)) ≡ (seat == pin_mutator) = grind (arith, nat_tests) in
+        let slots_tested : (pin_index == slot) ≡ (slot == pin_index) = grind (arith, nat_tests) in
+        rw (threads_tested, slots_tested)
+        (elim ((seat == pin_mutator) && (slot == pin_index)) as (λ holds. PinStands config (world.memory Cset) (world.memory Evac) world.block (if holds then value else world.memory (PinWord pin_mutator pin_index)) (if holds then held_pin else world.graph.pin (pin_mutator + 1) pin_index)) [
           | true ↦ stands
-          | false ↦ shared.pinned t i below small
+          | false ↦ shared.pinned pin_mutator pin_index mutator_below slot_small
         ])
 
     -- machines share what they should
@@ -200,43 +200,43 @@ module _ (config : Config) (world : World) (seat made : ℕ) (kept : Kept) (comm
         → Mine config world (at_call other_command (Pinning value pins.Store)) command fixed → pinned_world.graph ≡ graph_by world.graph seat command (Some answer) → LegalBy config world.graph seat command (Some answer)
         → Mine config pinned_world (next_of config (at_call other_command (Pinning value pins.Store)) Nothing (world.memory (touch_of config (at_call other_command (Pinning value pins.Store)) Nothing).word)) command (Some answer)
         → Stepped config world (at_call other_command (Pinning value pins.Store)) command Nothing fixed
-    settles_pin r memory told mine graph legal after = record {
+    settles_pin given_reply memory_written reply_told own_facts same_graph legal facts_then = record {
       world = pinned_world;
-      memory = sym memory;
-      graph = subst (λ o. pinned_world.graph ≡ graph_by world.graph seat command o) (sym told) graph;
-      legal = subst (LegalBy config world.graph seat command) (sym told) legal;
-      settles = λ q e. (mine.facts.0, refl);
+      memory = sym memory_written;
+      graph = subst (λ told_reply. pinned_world.graph ≡ graph_by world.graph seat command told_reply) (sym reply_told) same_graph;
+      legal = subst (LegalBy config world.graph seat command) (sym reply_told) legal;
+      settles = λ settled_reply reply_settled. (own_facts.facts.0, refl);
       shared = shared_pinned;
-      mine = rw told after;
-      others = λ seat d. let marks = marks_in config world pinned_world.memory pinned_world.graph seat refl (λ n. refl) (λ t. refl) (λ t other_command. refl) (λ a. refl) in let copies = copies_in config world pinned_world.memory pinned_world.graph seat refl refl (λ r. refl) (λ a. refl) in let kept_fields = fields_in config world pinned_world.memory pinned_world.graph (λ r. refl) (λ r. refl) refl (λ a. refl) in search (arith, nat_tests, marks, copies, kept_fields);
+      mine = rw reply_told facts_then;
+      others = λ seat differs. let marks = marks_in config world pinned_world.memory pinned_world.graph seat refl (λ n. refl) (λ t. refl) (λ t kept_command. refl) (λ a. refl) in let copies = copies_in config world pinned_world.memory pinned_world.graph seat refl refl (λ given_reply. refl) (λ a. refl) in let kept_fields = fields_in config world pinned_world.memory pinned_world.graph (λ given_reply. refl) (λ given_reply. refl) refl (λ a. refl) in search (arith, nat_tests, marks, copies, kept_fields);
     }
 
-  store_step : HasNoMorePins config.mutators world.graph → (other_command : Command) (value : ℕ) → Shared config world → Mine config world (at_call other_command (Pinning value pins.Store)) command fixed → Stepped config world (at_call other_command (Pinning value pins.Store)) command Nothing fixed
-  store_step no_more (Pin slot obj) value shared mine =
-      let of : HasObject config world seat obj value = mine.facts.2.1 in
-      let held : Pinned = record { name = of.name; place = value } in
-      let pinned : pinned_by world.graph (seat + 1) (Pin slot obj) ≡ Some of.name = ap (λ h. if is_some h then None else world.graph.root (seat + 1) obj) mine.facts.3 ∙ of.root_is in
-      let graph : with_pinned world.graph (seat + 1) slot (pinned_by world.graph (seat + 1) (Pin slot obj)) value ≡ with_pin world.graph (seat + 1) slot (Some held) = ap (λ r. with_pinned world.graph (seat + 1) slot r value) pinned in
-      settles_pin (Pin slot obj) value slot (Some held) shared (refl, of.refs, of.nums, of.target) (reply.At value) refl refl mine
-      (sym (ap (λ x. graph_by world.graph seat x (Some (reply.At value))) mine.facts.1 ∙ graph))
-      (subst (λ x. LegalBy config world.graph seat x (Some (reply.At value))) (sym mine.facts.1) (inr (inr (record {
-        name = of.name;
+  store_step : HasNoMorePins config.mutators world.graph → (kept_command : Command) (value : ℕ) → Shared config world → Mine config world (at_call kept_command (Pinning value pins.Store)) command fixed → Stepped config world (at_call kept_command (Pinning value pins.Store)) command Nothing fixed
+  store_step no_more (Pin slot obj) value shared own_facts =
+      let has_object : HasObject config world seat obj value = own_facts.facts.2.1 in
+      let held_pin : Pinned = record { name = has_object.name; place = value } in
+      let name_pinned : pinned_by world.graph (seat + 1) (Pin slot obj) ≡ Some has_object.name = ap (λ slot_found. if is_some slot_found then None else world.graph.root (seat + 1) obj) own_facts.facts.3 ∙ has_object.root_is in
+      let same_graph : with_pinned world.graph (seat + 1) slot (pinned_by world.graph (seat + 1) (Pin slot obj)) value ≡ with_pin world.graph (seat + 1) slot (Some held_pin) = ap (λ any_reference. with_pinned world.graph (seat + 1) slot any_reference value) name_pinned in
+      settles_pin (Pin slot obj) value slot (Some held_pin) shared (refl, has_object.refs, has_object.nums, has_object.target) (reply.At value) refl refl own_facts
+      (sym (ap (λ any_command. graph_by world.graph seat any_command (Some (reply.At value))) own_facts.facts.1 ∙ same_graph))
+      (subst (λ any_command. LegalBy config world.graph seat any_command (Some (reply.At value))) (sym own_facts.facts.1) (inr (inr (record {
+        name = has_object.name;
         place = value;
-        pins = pinned;
-        may = may_be_pinned config world shared no_more seat obj value of;
+        pins = name_pinned;
+        may = may_be_pinned config world shared no_more seat obj value has_object;
         reply = refl;
-        graph = ap (λ r. with_pinned world.graph (seat + 1) slot r value) pinned;
+        graph = ap (λ any_reference. with_pinned world.graph (seat + 1) slot any_reference value) name_pinned;
       }))))
-      (leaving config _ seat made (keeping (Pin slot obj)) command (reply.At value) mine.seated (mine.marking.records, mine.marking.scans, mine.copying.copies_is, mine.copying.works_none) mine.roots mine.rooms)
-  store_step no_more (Unpin slot) value shared mine =
+      (leaving config _ seat made (keeping (Pin slot obj)) command (reply.At value) own_facts.seated (own_facts.marking.records, own_facts.marking.scans, own_facts.copying.copies_is, own_facts.copying.works_none) own_facts.roots own_facts.rooms)
+  store_step no_more (Unpin slot) value shared own_facts =
       let emptied : outcome world.graph (seat + 1) command ≡ answers reply.Ok (with_pin world.graph (seat + 1) slot None) =
-      ap (outcome world.graph (seat + 1)) mine.facts.1 ∙ empties world.graph (answers reply.Ok (with_pin world.graph (seat + 1) slot None)) (world.graph.pin (seat + 1) slot) mine.facts.3 in
-      let none : pinned_by world.graph (seat + 1) command ≡ None = ap (pinned_by world.graph (seat + 1)) mine.facts.1 in
-      settles_pin (Unpin slot) value slot None shared mine.facts.2.1 reply.Ok refl refl mine
-      (sym (graph_answer world.graph seat command reply.Ok refl none ∙ ap (λ o. o.graph) emptied))
-      (legal_answer config world.graph seat command reply.Ok refl none (ap (λ o. o.reply) emptied))
-      (leaving config _ seat made (keeping (Unpin slot)) command reply.Ok mine.seated (mine.marking.records, mine.marking.scans, mine.copying.copies_is, mine.copying.works_none) mine.roots mine.rooms)
-  store_step no_more _ value shared mine = absurd mine.facts.2
+      ap (outcome world.graph (seat + 1)) own_facts.facts.1 ∙ empties world.graph (answers reply.Ok (with_pin world.graph (seat + 1) slot None)) (world.graph.pin (seat + 1) slot) own_facts.facts.3 in
+      let nothing_pinned : pinned_by world.graph (seat + 1) command ≡ None = ap (pinned_by world.graph (seat + 1)) own_facts.facts.1 in
+      settles_pin (Unpin slot) value slot None shared own_facts.facts.2.1 reply.Ok refl refl own_facts
+      (sym (graph_answer world.graph seat command reply.Ok refl nothing_pinned ∙ ap (λ any_outcome. any_outcome.graph) emptied))
+      (legal_answer config world.graph seat command reply.Ok refl nothing_pinned (ap (λ any_outcome. any_outcome.reply) emptied))
+      (leaving config _ seat made (keeping (Unpin slot)) command reply.Ok own_facts.seated (own_facts.marking.records, own_facts.marking.scans, own_facts.copying.copies_is, own_facts.copying.works_none) own_facts.roots own_facts.rooms)
+  store_step no_more _ value shared own_facts = absurd own_facts.facts.2
 
   -- the store into a slot settles the place of the object, or that it is done
   pub at_store_pin : HasNoMorePins config.mutators world.graph → (value : ℕ) → Row config world (mutator_at seat made kept (Pinning value pins.Store)) command fixed

@@ -64,15 +64,15 @@ module _ (config : Config) (world : World) (seat made : ℕ) (kept : Kept) (comm
 
   each_show : (value : ℕ) (spot : ShowSpot) → Row config world (mutator_at seat made kept (Showing value spot)) command fixed
   each_show value show.LoadName = at_load_name config world seat made kept command fixed value
-  each_show value (show.StoreRoot r) = at_store_loaded config world seat made kept command fixed value r
+  each_show value (show.StoreRoot answer) = at_store_loaded config world seat made kept command fixed value answer
 
   each_pin : HasNoMorePins config.mutators world.graph → (value : ℕ) (spot : PinSpot) → Row config world (mutator_at seat made kept (Pinning value spot)) command fixed
   each_pin no_more value pins.Look = at_look_pin config world seat made kept command fixed value
   each_pin no_more value pins.Store = at_store_pin config world seat made kept command fixed no_more value
 
   each_make : (spot : MakeSpot) → Row config world (mutator_at seat made kept (Making spot)) command fixed
-  each_make (make.Taking take) = at_taking config world seat made kept command fixed take
-  each_make (make.StoreWord address done) = at_store_word config world seat made kept command fixed address done
+  each_make (make.Taking take_spot) = at_taking config world seat made kept command fixed take_spot
+  each_make (make.StoreWord address words_done) = at_store_word config world seat made kept command fixed address words_done
   each_make (make.StoreRoot address) = at_store_fresh config world seat made kept command fixed address
 
   -- What the history has where a mutator polls: if the words that count say that the heap is full, so does it. (They may say so
@@ -82,38 +82,38 @@ module _ (config : Config) (world : World) (seat made : ℕ) (kept : Kept) (comm
 
   -- by the spot, in a call
   each_call : HasNoMorePins config.mutators world.graph → (spot : Spot) → HasTold spot → is_between_calls spot ≡ false → Row config world (mutator_at seat made kept spot) command fixed
-  each_call no_more Rest told busy = absurd (cc (busy))
-  each_call no_more (Ended r) told busy = absurd (cc (busy))
-  each_call no_more (Entering spot next) told busy = at_enter config world seat made kept command fixed spot next
-  each_call no_more LoadPhase told busy = at_load_phase config world seat made kept command fixed
-  each_call no_more LoadSet told busy = at_load_set config world seat made kept command fixed
-  each_call no_more (Loading spot) told busy = each_load spot
-  each_call no_more (OnField object spot) told busy = each_field object spot
-  each_call no_more (Resolving address spot next) told busy = at_resolve config world seat made kept command fixed spot address next
-  each_call no_more (Recording spot address next) told busy = at_record config world seat made kept command fixed spot address next
-  each_call no_more (OnNumber object refs spot) told busy = each_number object refs spot
-  each_call no_more (Showing value spot) told busy = each_show value spot
-  each_call no_more (StoreRoot value) told busy = at_store_root config world seat made kept command fixed value
-  each_call no_more (Making spot) told busy = each_make spot
-  each_call no_more AskCycle told busy = at_ask config world seat made kept command fixed
-  each_call no_more (Pinning value spot) told busy = each_pin no_more value spot
-  each_call no_more (Waiting spot) told busy = each_wait config world seat made kept command fixed spot (λ same. told (ap Waiting same))
-  each_call no_more (Leave r) told busy = at_leave config world seat made kept command fixed r
-  each_call no_more Gone told busy = absurd (cc (busy))
+  each_call no_more Rest has_told spot_busy = absurd (cc (spot_busy))
+  each_call no_more (Ended given_reply) has_told spot_busy = absurd (cc (spot_busy))
+  each_call no_more (Entering spot next) has_told spot_busy = at_enter config world seat made kept command fixed spot next
+  each_call no_more LoadPhase has_told spot_busy = at_load_phase config world seat made kept command fixed
+  each_call no_more LoadSet has_told spot_busy = at_load_set config world seat made kept command fixed
+  each_call no_more (Loading spot) has_told spot_busy = each_load spot
+  each_call no_more (OnField object spot) has_told spot_busy = each_field object spot
+  each_call no_more (Resolving address spot next) has_told spot_busy = at_resolve config world seat made kept command fixed spot address next
+  each_call no_more (Recording spot address next) has_told spot_busy = at_record config world seat made kept command fixed spot address next
+  each_call no_more (OnNumber object refs spot) has_told spot_busy = each_number object refs spot
+  each_call no_more (Showing value spot) has_told spot_busy = each_show value spot
+  each_call no_more (StoreRoot value) has_told spot_busy = at_store_root config world seat made kept command fixed value
+  each_call no_more (Making spot) has_told spot_busy = each_make spot
+  each_call no_more AskCycle has_told spot_busy = at_ask config world seat made kept command fixed
+  each_call no_more (Pinning value spot) has_told spot_busy = each_pin no_more value spot
+  each_call no_more (Waiting spot) has_told spot_busy = each_wait config world seat made kept command fixed spot (λ same_spot. has_told (ap Waiting same_spot))
+  each_call no_more (Leave given_reply) has_told spot_busy = at_leave config world seat made kept command fixed given_reply
+  each_call no_more Gone has_told spot_busy = absurd (cc (spot_busy))
 
   -- in a call there is no order
   called : HasNoMorePins config.mutators world.graph → (order : Order) (spot : Spot) → HasTold spot → is_between_calls spot ≡ false → OrderedRow config world (mutator_at seat made kept spot) command order fixed
-  called no_more order spot told busy shared mine takes =
-      subst (λ order. Stepped config world (mutator_at seat made kept spot) command order fixed) (sym (in_call spot made order busy takes)) (each_call no_more spot told busy shared mine)
+  called no_more order spot has_told spot_busy shared mine takes =
+      subst (λ order. Stepped config world (mutator_at seat made kept spot) command order fixed) (sym (in_call spot made order spot_busy takes)) (each_call no_more spot has_told spot_busy shared mine)
 
   -- by the spot
   each_place : HasNoMorePins config.mutators world.graph → (order : Order) (spot : Spot) → HasTold spot → OrderedRow config world (mutator_at seat made kept spot) command order fixed
-  each_place no_more order Rest told = at_rest config world seat made kept command fixed order
-  each_place no_more order (Ended r) told = at_ended config world seat made kept command fixed r order
-  each_place no_more order Gone told = λ shared mine takes. absurd (cc (takes))
-  each_place no_more order spot told = called no_more order spot told refl
+  each_place no_more order Rest has_told = at_rest config world seat made kept command fixed order
+  each_place no_more order (Ended given_reply) has_told = at_ended config world seat made kept command fixed given_reply order
+  each_place no_more order Gone has_told = λ shared mine takes. absurd (cc (takes))
+  each_place no_more order spot has_told = called no_more order spot has_told refl
 
 -- for a mutator wherever it stands
 pub each_step : (config : Config) (world : World) (mutator : Mutating) (command : Command) (order : Order) (fixed : Option Reply)
     → (mutator.spot ≡ Waiting wait.Poll → world.memory (Answer mutator.seat) ≡ 1 → fixed ≡ Some reply.Full) → HasNoMorePins config.mutators world.graph → OrderedRow config world mutator command order fixed
-each_step config world mutator command order fixed told no_more = each_place config world mutator.seat mutator.made mutator.kept command fixed no_more order mutator.spot told
+each_step config world mutator command order fixed told_full no_more = each_place config world mutator.seat mutator.made mutator.kept command fixed no_more order mutator.spot told_full

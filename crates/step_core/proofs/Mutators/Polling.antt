@@ -32,21 +32,21 @@ use Rattle.step_core.proofs.Mutators.Spots.{mutator_at}
 
 -- a mutator can always say that it is in
 raise_ready : (config : Config) (seat made : ℕ) (kept : Kept) → seat < config.mutators → is_ready config seat made kept (Entering Raise Waited) ≡ true
-raise_ready config seat made kept below = grind (arith, nat_tests)
+raise_ready config seat made kept seat_below = grind (arith, nat_tests)
 
 -- an answer in the table is the one that it has been waiting for
-answered_by : (world : World) (seat made raw : ℕ) (other_command command : Command) (fixed : Option Reply) → raw ≢ 0 → IsSeen raw (world.memory (Answer seat)) fixed → IsPolling world seat made other_command command fixed → IsAnswered world seat made other_command command fixed
-answered_by world seat made raw other_command command fixed positive seen (inl waits) = absurd (positive (seen.null waits.0.1.1))
-answered_by world seat made raw other_command command fixed positive seen (inr (inl has)) = inl has
-answered_by world seat made raw other_command command fixed positive seen (inr (inr is)) = inr (
+answered_by : (world : World) (seat made raw : ℕ) (kept_command command : Command) (fixed : Option Reply) → raw ≢ 0 → IsSeen raw (world.memory (Answer seat)) fixed → IsPolling world seat made kept_command command fixed → IsAnswered world seat made kept_command command fixed
+answered_by world seat made raw kept_command command fixed some_raw answer_seen (inl waits) = absurd (some_raw (answer_seen.null waits.0.1.1))
+answered_by world seat made raw kept_command command fixed some_raw answer_seen (inr (inl was_given)) = inl was_given
+answered_by world seat made raw kept_command command fixed some_raw answer_seen (inr (inr was_refused)) = inr (
   record {
-    dst = is.0.dst;
-    refs = is.0.refs;
-    nums = is.0.nums;
-    is = is.0.is;
-    settled = ⊎_elim (λ (both : (raw ≡ 1) × (fixed ≡ Some Full)). both.1) (λ (none : (raw ≡ 0) × (fixed ≡ None)). absurd (positive none.0)) (seen.full is.1.1);
+    dst = was_refused.0.dst;
+    refs = was_refused.0.refs;
+    nums = was_refused.0.nums;
+    is = was_refused.0.is;
+    settled = ⊎_elim (λ (both_full : (raw ≡ 1) × (fixed ≡ Some Full)). both_full.1) (λ (none_settled : (raw ≡ 0) × (fixed ≡ None)). absurd (some_raw none_settled.0)) (answer_seen.full was_refused.1.1);
   },
-  is.1,
+  was_refused.1,
 )
 
 module _ (config : Config) (words : List ℕ) (image : Counting) (block : Plot) (ghost : Ghost) (graph : Graph) (past : List Entry) (seat made : ℕ) (kept : Kept) (machines : List Actor) (command : Command) (calls : List Entry) where
@@ -64,42 +64,42 @@ module _ (config : Config) (words : List ℕ) (image : Counting) (block : Plot) 
   abbrev polls : Actor
   polls = record { machine = mutating (mutator_at seat made kept (Waiting wait.Poll)); command = command; calls = calls }
 
-  same_entries : (k : ℕ) → of_thread (past ++ []) (k + 1) ≡ of_thread past (k + 1)
-  same_entries k = ap (λ es. of_thread es (k + 1)) (append-nil past)
+  same_entries : (number : ℕ) → of_thread (past ++ []) (number + 1) ≡ of_thread past (number + 1)
+  same_entries number = ap (λ entries. of_thread entries (number + 1)) (append-nil past)
 
   -- it goes on, or looks again
-  own_polls : (thread : IsThread config words world_then (of_thread past (seat + 1)) seat polls (mutator_at seat made kept (Waiting wait.Poll))) → (holds : Bool) → (raw == 0) ≡ holds
+  own_polls : (thread_facts : IsThread config words world_then (of_thread past (seat + 1)) seat polls (mutator_at seat made kept (Waiting wait.Poll))) → (holds : Bool) → (raw == 0) ≡ holds
       → IsThread config words world_then (of_thread (past ++ []) (seat + 1)) seat (polled (if holds then Waiting wait.Poll else Entering Raise Waited)) (mutator_at seat made kept (if holds then Waiting wait.Poll else Entering Raise Waited))
-  own_polls thread true none = record {
-    fixed = thread.fixed;
+  own_polls thread_facts true null_answer = record {
+    fixed = thread_facts.fixed;
     number_is = refl;
-    valid = thread.valid;
-    mine = thread.mine;
-    seen = thread.seen;
-    short = thread.short;
-    entries_are = same_entries seat ∙ thread.entries_are ∙ ap (λ es. es ++ entries_of seat command thread.fixed) (sym (append-nil calls));
+    valid = thread_facts.valid;
+    mine = thread_facts.mine;
+    seen = thread_facts.seen;
+    short = thread_facts.short;
+    entries_are = same_entries seat ∙ thread_facts.entries_are ∙ ap (λ entries. entries ++ entries_of seat command thread_facts.fixed) (sym (append-nil calls));
   }
-  own_polls thread false some = record {
-    fixed = thread.fixed;
+  own_polls thread_facts false some_answer = record {
+    fixed = thread_facts.fixed;
     number_is = refl;
-    valid = thread.valid;
+    valid = thread_facts.valid;
     mine = record {
-      seated = record { below = thread.mine.seated.below; counted = thread.mine.seated.counted; usable = thread.mine.seated.usable; unasked = λ e. absurd (cc (e)) };
-      ready = raise_ready config seat made kept thread.mine.seated.below;
-      marking = thread.mine.marking;
-      copying = thread.mine.copying;
-      roots = thread.mine.roots;
-      rooms = thread.mine.rooms;
-      facts = answered_by world_then seat made raw kept.command command thread.fixed (eqb-false _ _ some) thread.seen thread.mine.facts;
+      seated = record { below = thread_facts.mine.seated.below; counted = thread_facts.mine.seated.counted; usable = thread_facts.mine.seated.usable; unasked = λ never. absurd (cc (never)) };
+      ready = raise_ready config seat made kept thread_facts.mine.seated.below;
+      marking = thread_facts.mine.marking;
+      copying = thread_facts.mine.copying;
+      roots = thread_facts.mine.roots;
+      rooms = thread_facts.mine.rooms;
+      facts = answered_by world_then seat made raw kept.command command thread_facts.fixed (eqb-false _ _ some_answer) thread_facts.seen thread_facts.mine.facts;
     };
-    seen = thread.seen;
-    short = thread.short;
-    entries_are = same_entries seat ∙ thread.entries_are ∙ ap (λ es. es ++ entries_of seat command thread.fixed) (sym (append-nil calls));
+    seen = thread_facts.seen;
+    short = thread_facts.short;
+    entries_are = same_entries seat ∙ thread_facts.entries_are ∙ ap (λ entries. entries ++ entries_of seat command thread_facts.fixed) (sym (append-nil calls));
   }
 
   pub polls_owes : Shared config world_then → PromisedToMutators config block → IsThread config words world_then (of_thread past (seat + 1)) seat polls (mutator_at seat made kept (Waiting wait.Poll))
       → Owes config words words world_then past seat machines (mixed config words image) [] (polled (if raw == 0 then Waiting wait.Poll else Entering Raise Waited))
-  polls_owes shared promised_to thread = record {
+  polls_owes shared promised_to thread_facts = record {
     world = world_then;
     memory_is = refl;
     graph_is = refl;
@@ -107,8 +107,8 @@ module _ (config : Config) (words : List ℕ) (image : Counting) (block : Plot) 
     entries = All-nil (IsSettled config.mutators);
     shared = shared;
     promised_to = promised_to;
-    own = own_polls thread (raw == 0) refl;
-    others = λ k b differs there known.
-        machine_stays config words words world_then world_then (of_thread past (k + 1)) (of_thread (past ++ []) (k + 1)) k b b.machine shared
-        (record { rely = rely_same config k world_then; answer = refl; counts = inr (record { graph = refl; promised = λ v. refl }); aims = λ control same is. is }) (same_entries k) known;
+    own = own_polls thread_facts (raw == 0) refl;
+    others = λ other_number actor differs machine_there known_machine.
+        machine_stays config words words world_then world_then (of_thread past (other_number + 1)) (of_thread (past ++ []) (other_number + 1)) other_number actor actor.machine shared
+        (record { rely = rely_same config other_number world_then; answer = refl; counts = inr (record { graph = refl; promised = λ v. refl }); aims = λ control same_machine aim_is. aim_is }) (same_entries other_number) known_machine;
   }

@@ -47,43 +47,43 @@ module _ (config : Config) (world : World) (seat made : ℕ) (kept : Kept) (comm
 
   -- the step that stores the request
   pub at_store_request : Row config world (at_spot wait.StoreRequest) command fixed
-  at_store_request shared mine = record {
+  at_store_request shared own_facts = record {
     world = accessed config world (at_spot wait.StoreRequest);
     memory = refl;
     graph = refl;
     legal = tt;
-    settles = λ r e. cc;
+    settles = λ r reply_settled. cc;
     shared = shared;
     mine = record {
-      seated = record { below = mine.seated.below; counted = mine.seated.counted; usable = mine.seated.usable; unasked = λ no. absurd (cc (no)) };
+      seated = record { below = own_facts.seated.below; counted = own_facts.seated.counted; usable = own_facts.seated.usable; unasked = λ never. absurd (cc (never)) };
       ready = refl;
-      marking = mine.marking;
-      copying = mine.copying;
-      roots = mine.roots;
-      rooms = mine.rooms;
+      marking = own_facts.marking;
+      copying = own_facts.copying;
+      roots = own_facts.roots;
+      rooms = own_facts.rooms;
       facts = (
-        mine.facts.0,
+        own_facts.facts.0,
         (
           record {
-            wait_is = cond-true (seat == seat) _ _ (eq-eqb seat seat refl) ∙ ap (λ n. request_code (n + 1) (shape_word refs nums)) (sym mine.seated.counted);
-            few_refs = mine.facts.0.few_refs;
-            few_nums = mine.facts.0.few_nums;
-            few = rw mine.seated.counted mine.facts.0.few;
+            wait_is = cond-true (seat == seat) _ _ (eq-eqb seat seat refl) ∙ ap (λ number. request_code (number + 1) (shape_word refs nums)) (sym own_facts.seated.counted);
+            few_refs = own_facts.facts.0.few_refs;
+            few_nums = own_facts.facts.0.few_nums;
+            few = rw own_facts.seated.counted own_facts.facts.0.few;
           },
-          mine.facts.1.1,
-          mine.facts.1.2,
+          own_facts.facts.1.1,
+          own_facts.facts.1.2,
         ),
       );
     };
-    others = λ seat d. let marks = marks_in config world (accessed config world (at_spot wait.StoreRequest)).memory world.graph seat refl (λ n. refl) (λ t. refl) (λ t k. refl) (λ a. refl) in let copies = copies_in config world (accessed config world (at_spot wait.StoreRequest)).memory world.graph seat refl refl (λ r. refl) (λ a. refl) in let kept_fields = fields_in config world (accessed config world (at_spot wait.StoreRequest)).memory world.graph (λ r. refl) (λ r. refl) refl (λ a. refl) in search (arith, nat_tests, marks, copies, kept_fields);
+    others = λ seat differs. let marks = marks_in config world (accessed config world (at_spot wait.StoreRequest)).memory world.graph seat refl (λ number. refl) (λ t. refl) (λ t k. refl) (λ a. refl) in let copies = copies_in config world (accessed config world (at_spot wait.StoreRequest)).memory world.graph seat refl refl (λ r. refl) (λ a. refl) in let kept_fields = fields_in config world (accessed config world (at_spot wait.StoreRequest)).memory world.graph (λ r. refl) (λ r. refl) refl (λ a. refl) in search (arith, nat_tests, marks, copies, kept_fields);
   }
 
   -- the word by which it asks for a pause is no word that its facts speak of
-  ask_marks : (j : ℕ) → RelyMarks config j world (accessed config world (at_spot wait.AskRoom))
-  ask_marks j = marks_in config world (accessed config world (at_spot wait.AskRoom)).memory world.graph j refl (λ n. refl) (λ t. refl) (λ t k. refl) (λ a. refl)
+  ask_marks : (machine : ℕ) → RelyMarks config machine world (accessed config world (at_spot wait.AskRoom))
+  ask_marks machine = marks_in config world (accessed config world (at_spot wait.AskRoom)).memory world.graph machine refl (λ n. refl) (λ t. refl) (λ t k. refl) (λ a. refl)
 
-  ask_copies : (j : ℕ) → RelyCopies config j world (accessed config world (at_spot wait.AskRoom))
-  ask_copies j = copies_in config world (accessed config world (at_spot wait.AskRoom)).memory world.graph j refl refl (λ r. refl) (λ a. refl)
+  ask_copies : (machine : ℕ) → RelyCopies config machine world (accessed config world (at_spot wait.AskRoom))
+  ask_copies machine = copies_in config world (accessed config world (at_spot wait.AskRoom)).memory world.graph machine refl refl (λ r. refl) (λ a. refl)
 
   ask_fields : KeepsFields config world (accessed config world (at_spot wait.AskRoom))
   ask_fields = fields_in config world (accessed config world (at_spot wait.AskRoom)).memory world.graph (λ r. refl) (λ r. refl) refl (λ a. refl)
@@ -93,147 +93,147 @@ module _ (config : Config) (world : World) (seat made : ℕ) (kept : Kept) (comm
 
   -- the step that asks for a pause
   pub at_ask_room : Row config world (at_spot wait.AskRoom) command fixed
-  at_ask_room shared mine = record {
+  at_ask_room shared own_facts = record {
     world = accessed config world (at_spot wait.AskRoom);
     memory = refl;
     graph = refl;
     legal = tt;
-    settles = λ r e. cc;
+    settles = λ settled_reply reply_settled. cc;
     shared = shared;
     mine = record {
-      seated = mine.seated;
-      ready = ready_of _ true (state_word config seat mine.seated.below) refl;
-      marking = mine.marking;
-      copying = mine.copying;
-      roots = mine.roots;
-      rooms = mine.rooms;
-      facts = (asking_stays config world (accessed config world (at_spot wait.AskRoom)) seat ask_keeps made kept.command command fixed (asking.asks refs nums) mine.facts, now_waits (world.memory Ask));
+      seated = own_facts.seated;
+      ready = ready_of _ true (state_word config seat own_facts.seated.below) refl;
+      marking = own_facts.marking;
+      copying = own_facts.copying;
+      roots = own_facts.roots;
+      rooms = own_facts.rooms;
+      facts = (asking_stays config world (accessed config world (at_spot wait.AskRoom)) seat ask_keeps made kept.command command fixed (asking.asks refs nums) own_facts.facts, now_waits (world.memory Ask));
     };
-    others = λ j d. let marks = ask_marks j in let copies = ask_copies j in let kept_fields = ask_fields in let waits : bit_at (world.memory Ask) 1 ≡ 1 → bit_at (bit_or (world.memory Ask) 2) 1 ≡ 1 = λ is. now_waits (world.memory Ask) in search (arith, nat_tests, marks, copies, kept_fields, waits);
+    others = λ other_seat differs. let marks = ask_marks other_seat in let copies = ask_copies other_seat in let kept_fields = ask_fields in let waits : bit_at (world.memory Ask) 1 ≡ 1 → bit_at (bit_or (world.memory Ask) 2) 1 ≡ 1 = λ already_waits. now_waits (world.memory Ask) in search (arith, nat_tests, marks, copies, kept_fields, waits);
   }
 
   -- the step by which it leaves the heap, to wait
   pub at_step_out : Row config world (at_spot wait.StepOut) command fixed
-  at_step_out shared mine = record {
+  at_step_out shared own_facts = record {
     world = accessed config world (at_spot wait.StepOut);
     memory = refl;
     graph = refl;
     legal = tt;
-    settles = λ r e. cc;
+    settles = λ r reply_settled. cc;
     shared = shared;
     mine = record {
-      seated = mine.seated;
-      ready = ready_of _ true (lt-ltb _ _ mine.seated.below) refl;
-      marking = mine.marking;
-      copying = mine.copying;
-      roots = mine.roots;
-      rooms = mine.rooms;
-      facts = inl (heard_stays config world (accessed config world (at_spot wait.StepOut)) seat (state_keeps config world seat seat 0) (λ is. is) made kept.command command fixed mine.facts);
+      seated = own_facts.seated;
+      ready = ready_of _ true (lt-ltb _ _ own_facts.seated.below) refl;
+      marking = own_facts.marking;
+      copying = own_facts.copying;
+      roots = own_facts.roots;
+      rooms = own_facts.rooms;
+      facts = inl (heard_stays config world (accessed config world (at_spot wait.StepOut)) seat (state_keeps config world seat seat 0) (λ is. is) made kept.command command fixed own_facts.facts);
     };
-    others = λ seat d. let marks = marks_in config world (accessed config world (at_spot wait.StepOut)).memory world.graph seat refl (λ n. refl) (λ t. refl) (λ t k. refl) (λ a. refl) in let copies = copies_in config world (accessed config world (at_spot wait.StepOut)).memory world.graph seat refl refl (λ r. refl) (λ a. refl) in let kept_fields = fields_in config world (accessed config world (at_spot wait.StepOut)).memory world.graph (λ r. refl) (λ r. refl) refl (λ a. refl) in search (arith, nat_tests, marks, copies, kept_fields);
+    others = λ seat differs. let marks = marks_in config world (accessed config world (at_spot wait.StepOut)).memory world.graph seat refl (λ n. refl) (λ t. refl) (λ t k. refl) (λ a. refl) in let copies = copies_in config world (accessed config world (at_spot wait.StepOut)).memory world.graph seat refl refl (λ r. refl) (λ a. refl) in let kept_fields = fields_in config world (accessed config world (at_spot wait.StepOut)).memory world.graph (λ r. refl) (λ r. refl) refl (λ a. refl) in search (arith, nat_tests, marks, copies, kept_fields);
   }
 
   -- What it finds where it polls: its word as it counts, or 0, where the control has not stored the word yet. It goes on with an
   -- answer that the history has.
   pub poll_mine : (got : ℕ) → (got ≡ 0) ⊎ (got ≡ world.memory (Answer seat)) → (got ≡ 1 → fixed ≡ Some reply.Full) → Mine config world (at_spot wait.Poll) command fixed
       → Mine config world (mutator_at seat made kept (if got == 0 then Waiting wait.Poll else Entering Raise Waited)) command fixed
-  poll_mine got found told mine = by_answer (got == 0) refl
+  poll_mine got answer_found full_told own_facts = by_answer (got == 0) refl
     where
       answered : (got == 0) ≡ false → IsAnswered world seat made kept.command command fixed
-      answered some =
-          let is : got ≡ world.memory (Answer seat) = ⊎_elim (λ (none : got ≡ 0). absurd (eqb-false _ _ some none)) (λ is. is) found in
+      answered not_null =
+          let answer_is : got ≡ world.memory (Answer seat) = ⊎_elim (λ (is_null : got ≡ 0). absurd (eqb-false _ _ not_null is_null)) (λ answer_is. answer_is) answer_found in
           ⊎_elim
-          (λ waits. absurd (eqb-false _ _ some (is ∙ waits.0.1.1)))
+          (λ waits. absurd (eqb-false _ _ not_null (answer_is ∙ waits.0.1.1)))
           (λ rest. ⊎_elim
-          (λ given. inl given)
-          (λ no. inr (record { dst = no.0.dst; refs = no.0.refs; nums = no.0.nums; is = no.0.is; settled = told (is ∙ no.1.1) }, no.1))
+          (λ was_given. inl was_given)
+          (λ was_refused. inr (record { dst = was_refused.0.dst; refs = was_refused.0.refs; nums = was_refused.0.nums; is = was_refused.0.is; settled = full_told (answer_is ∙ was_refused.1.1) }, was_refused.1))
           rest)
-          mine.facts
+          own_facts.facts
 
       by_answer : (holds : Bool) → (got == 0) ≡ holds → Mine config world (mutator_at seat made kept (if holds then Waiting wait.Poll else Entering Raise Waited)) command fixed
-      by_answer true none = mine
-      by_answer false some = record {
-        seated = mine.seated;
-        ready = ready_of _ true (state_word config seat mine.seated.below) refl;
-        marking = mine.marking;
-        copying = mine.copying;
-        roots = mine.roots;
-        rooms = mine.rooms;
-        facts = answered some;
+      by_answer true is_null = own_facts
+      by_answer false not_null = record {
+        seated = own_facts.seated;
+        ready = ready_of _ true (state_word config seat own_facts.seated.below) refl;
+        marking = own_facts.marking;
+        copying = own_facts.copying;
+        roots = own_facts.roots;
+        rooms = own_facts.rooms;
+        facts = answered not_null;
       }
 
   -- the look for an answer, where what counts is in the history
   pub at_poll : (world.memory (Answer seat) ≡ 1 → fixed ≡ Some reply.Full) → Row config world (at_spot wait.Poll) command fixed
-  at_poll told shared mine = looks config world (at_spot wait.Poll) (Answer seat) command fixed refl refl refl shared (poll_mine (world.memory (Answer seat)) (inr refl) told mine)
+  at_poll full_told shared mine = looks config world (at_spot wait.Poll) (Answer seat) command fixed refl refl refl shared (poll_mine (world.memory (Answer seat)) (inr refl) full_told mine)
 
   -- the load of the answer
   pub at_load_answer : Row config world (at_spot wait.LoadAnswer) command fixed
-  at_load_answer shared mine = looks config world (at_spot wait.LoadAnswer) (Answer seat) command fixed refl refl refl shared (by_full (world.memory (Answer seat) == 1) refl)
+  at_load_answer shared own_facts = looks config world (at_spot wait.LoadAnswer) (Answer seat) command fixed refl refl refl shared (by_full (world.memory (Answer seat) == 1) refl)
     where
       by_full : (holds : Bool) → (world.memory (Answer seat) == 1) ≡ holds → Mine config world (at_spot (if holds then wait.ClearAnswer reply.Full else wait.StoreRoot (world.memory (Answer seat)))) command fixed
-      by_full true full = record {
-        seated = mine.seated;
-        ready = ready_of _ true (lt-ltb _ _ mine.seated.below) refl;
-        marking = mine.marking;
-        copying = mine.copying;
-        roots = mine.roots;
-        rooms = mine.rooms;
+      by_full true is_one = record {
+        seated = own_facts.seated;
+        ready = ready_of _ true (lt-ltb _ _ own_facts.seated.below) refl;
+        marking = own_facts.marking;
+        copying = own_facts.copying;
+        roots = own_facts.roots;
+        rooms = own_facts.rooms;
         facts = ⊎_elim
-            (λ given. let more = given.1.1 in let one = eqb-true _ _ full in absurd (omega (arith, more, one)))
-            (λ no. (no.0.settled, no.1.0, no.1.2, no.1.1, record { dst = no.0.dst; refs = no.0.refs; nums = no.0.nums; is = no.0.is }))
-            mine.facts;
+            (λ was_given. let is_address = was_given.1.1 in let answer_one = eqb-true _ _ is_one in absurd (omega (arith, is_address, answer_one)))
+            (λ was_refused. (was_refused.0.settled, was_refused.1.0, was_refused.1.2, was_refused.1.1, record { dst = was_refused.0.dst; refs = was_refused.0.refs; nums = was_refused.0.nums; is = was_refused.0.is }))
+            own_facts.facts;
       }
-      by_full false other = ⊎_elim
-          (λ given. record {
-            seated = mine.seated;
-            ready = given_ready config seat made kept command fixed given.0 (λ region. world.memory (Top region)) world.block (world.memory (Answer seat)) shared.parsable.plotted given.1.2.here mine.seated.below;
-            marking = mine.marking;
-            copying = mine.copying;
-            roots = mine.roots;
-            rooms = mine.rooms;
-            facts = (given, refl);
+      by_full false not_one = ⊎_elim
+          (λ was_given. record {
+            seated = own_facts.seated;
+            ready = given_ready config seat made kept command fixed was_given.0 (λ region. world.memory (Top region)) world.block (world.memory (Answer seat)) shared.parsable.plotted was_given.1.2.here own_facts.seated.below;
+            marking = own_facts.marking;
+            copying = own_facts.copying;
+            roots = own_facts.roots;
+            rooms = own_facts.rooms;
+            facts = (was_given, refl);
           })
-          (λ no. absurd (eqb-false _ _ other no.1.1))
-          mine.facts
+          (λ was_refused. absurd (eqb-false _ _ not_one was_refused.1.1))
+          own_facts.facts
 
-  module _ (address : ℕ) (shared : Shared config world) (mine : Mine config world (at_spot (wait.StoreRoot address)) command fixed) where
+  module _ (address : ℕ) (shared : Shared config world) (own_facts : Mine config world (at_spot (wait.StoreRoot address)) command fixed) where
     -- the object that was promised stands at the address
     promise : IsPromise world.memory world.block world.graph.count seat refs nums address
-    promise = subst (λ address. IsPromise world.memory world.block world.graph.count seat refs nums address) mine.facts.1 mine.facts.0.1.2
+    promise = subst (λ address. IsPromise world.memory world.block world.graph.count seat refs nums address) own_facts.facts.1 own_facts.facts.0.1.2
 
     -- it has all its words
     has : HasNew config world seat made command kept.command fixed address
     has = record {
-      making = mine.facts.0.0;
-      within = mine.seated.below;
-      counted = mine.seated.counted;
+      making = own_facts.facts.0.0;
+      within = own_facts.seated.below;
+      counted = own_facts.seated.counted;
       piece = promised seat (3 + refs + nums);
       here = promise.here;
       unnamed = refl;
       long = refl;
-      own = record { no_room = λ j differs room. none-some j room; no_promise = λ j words differs same. (let seats : j ≡ seat = cc in differs seats); no_dead = λ words same. cc; no_filler = λ words same. cc; no_spare = λ j words same. cc; no_carved = λ j words same. cc };
-      known = λ on. inl ((shared.marked.marking on).promises address seat (3 + refs + nums) promise.here);
+      own = record { no_room = λ any_seat seats_differ room. none-some any_seat room; no_promise = λ any_seat words seats_differ pieces_same. (let seats : any_seat ≡ seat = cc in seats_differ seats); no_dead = λ words pieces_same. cc; no_filler = λ words pieces_same. cc; no_spare = λ any_seat words pieces_same. cc; no_carved = λ any_seat words pieces_same. cc };
+      known = λ in_phase. inl ((shared.marked.marking in_phase).promises address seat (3 + refs + nums) promise.here);
       outside = λ inside. shared.evacuated.aside.no_promises address seat (3 + refs + nums) promise.here inside;
-      kept = λ on. (shared.evacuated.kept on).objects address (IsMarkable.to_come seat (3 + refs + nums) promise.here);
-      stored = λ i below. promise.words i below ∙ ap (λ n. fresh_word seat n refs nums i) mine.seated.counted;
+      kept = λ in_phase. (shared.evacuated.kept in_phase).objects address (IsMarkable.to_come seat (3 + refs + nums) promise.here);
+      stored = λ index index_below. promise.words index index_below ∙ ap (λ made_count. fresh_word seat made_count refs nums index) own_facts.seated.counted;
       shared = shared;
     }
 
     -- the mutator has to take its answer away
     mine_made : Mine config (made_world has) (mutator_at seat (made + 1) kept (Waiting (wait.ClearAnswer (made_reply has)))) command (Some (made_reply has))
     mine_made = record {
-      seated = record { below = mine.seated.below; counted = count_made has; usable = usable_made has mine.seated.usable; unasked = λ no. absurd (cc (no)) };
-      ready = ready_of _ true (lt-ltb _ _ mine.seated.below) refl;
-      marking = mine.marking;
-      copying = mine.copying;
-      roots = roots_made has mine.roots;
-      rooms = λ a x is room. mine.rooms a x (room_before has a seat x is room).1 room;
+      seated = record { below = own_facts.seated.below; counted = count_made has; usable = usable_made has own_facts.seated.usable; unasked = λ never. absurd (cc (never)) };
+      ready = ready_of _ true (lt-ltb _ _ own_facts.seated.below) refl;
+      marking = own_facts.marking;
+      copying = own_facts.copying;
+      roots = roots_made has own_facts.roots;
+      rooms = λ piece_address piece piece_there room. own_facts.rooms piece_address piece (room_before has piece_address seat piece piece_there room).1 room;
       facts = (
         refl,
-        mine.facts.0.1.0,
-        λ a words is. let old = promise_before has a seat words is in old.0 (promise.only a words old.1),
-        (refs, nums, subst (λ address. TargetIn config (made_world has) address refs nums (next_name seat made)) (sym mine.facts.1) (taken_made has)),
-        record { dst = dst_of kept.command; refs = refs; nums = nums; is = mine.facts.0.0.is },
+        own_facts.facts.0.1.0,
+        λ piece_address words piece_there. let old = promise_before has piece_address seat words piece_there in old.0 (promise.only piece_address words old.1),
+        (refs, nums, subst (λ address. TargetIn config (made_world has) address refs nums (next_name seat made)) (sym own_facts.facts.1) (taken_made has)),
+        record { dst = dst_of kept.command; refs = refs; nums = nums; is = own_facts.facts.0.0.is },
       );
     }
 
@@ -244,7 +244,7 @@ module _ (config : Config) (world : World) (seat made : ℕ) (kept : Kept) (comm
     memory = refl;
     graph = graph_made new;
     legal = legal_made new;
-    settles = λ r e. (mine.facts.0.0.unsettled, refl);
+    settles = λ settled_reply reply_settled. (mine.facts.0.0.unsettled, refl);
     shared = shared_made new;
     mine = mine_made address shared mine;
     others = others_made new;
@@ -252,26 +252,26 @@ module _ (config : Config) (world : World) (seat made : ℕ) (kept : Kept) (comm
 
   -- the step that takes the answer away
   pub at_clear_answer : (answer : Reply) → Row config world (at_spot (wait.ClearAnswer answer)) command fixed
-  at_clear_answer r shared mine = record {
-    world = accessed config world (at_spot (wait.ClearAnswer r));
+  at_clear_answer its_answer shared mine = record {
+    world = accessed config world (at_spot (wait.ClearAnswer its_answer));
     memory = refl;
     graph = refl;
     legal = tt;
-    settles = λ q e. cc;
+    settles = λ settled_reply reply_settled. cc;
     shared = shared;
     mine = rw mine.facts.0
-        (leaving config (accessed config world (at_spot (wait.ClearAnswer r))) seat made kept command r
+        (leaving config (accessed config world (at_spot (wait.ClearAnswer its_answer))) seat made kept command its_answer
         (record { below = mine.seated.below; counted = mine.seated.counted; usable = mine.seated.usable; unasked = λ calm. (mine.facts.1, cond-true (seat == seat) _ _ (eq-eqb seat seat refl), mine.facts.2) })
         (mine.marking.records, mine.marking.scans, mine.copying.copies_is, mine.copying.works_none) mine.roots mine.rooms);
-    others = λ seat d. let marks = marks_in config world (accessed config world (at_spot (wait.ClearAnswer r))).memory world.graph seat refl (λ n. refl) (λ t. refl) (λ t k. refl) (λ a. refl) in let copies = copies_in config world (accessed config world (at_spot (wait.ClearAnswer r))).memory world.graph seat refl refl (λ r. refl) (λ a. refl) in let kept_fields = fields_in config world (accessed config world (at_spot (wait.ClearAnswer r))).memory world.graph (λ r. refl) (λ r. refl) refl (λ a. refl) in search (arith, nat_tests, marks, copies, kept_fields);
+    others = λ seat differs. let marks = marks_in config world (accessed config world (at_spot (wait.ClearAnswer its_answer))).memory world.graph seat refl (λ n. refl) (λ t. refl) (λ t k. refl) (λ a. refl) in let copies = copies_in config world (accessed config world (at_spot (wait.ClearAnswer its_answer))).memory world.graph seat refl refl (λ its_answer. refl) (λ a. refl) in let kept_fields = fields_in config world (accessed config world (at_spot (wait.ClearAnswer its_answer))).memory world.graph (λ its_answer. refl) (λ its_answer. refl) refl (λ a. refl) in search (arith, nat_tests, marks, copies, kept_fields);
   }
 
   -- by the spot, but for the polling
   pub each_wait : (spot : WaitSpot) → (spot ≡ wait.Poll → world.memory (Answer seat) ≡ 1 → fixed ≡ Some reply.Full) → Row config world (at_spot spot) command fixed
-  each_wait wait.StoreRequest told = at_store_request
-  each_wait wait.AskRoom told = at_ask_room
-  each_wait wait.StepOut told = at_step_out
-  each_wait wait.Poll told = at_poll (told refl)
-  each_wait wait.LoadAnswer told = at_load_answer
-  each_wait (wait.StoreRoot address) told = at_store_given address
-  each_wait (wait.ClearAnswer r) told = at_clear_answer r
+  each_wait wait.StoreRequest full_told = at_store_request
+  each_wait wait.AskRoom full_told = at_ask_room
+  each_wait wait.StepOut full_told = at_step_out
+  each_wait wait.Poll full_told = at_poll (full_told refl)
+  each_wait wait.LoadAnswer full_told = at_load_answer
+  each_wait (wait.StoreRoot address) full_told = at_store_given address
+  each_wait (wait.ClearAnswer its_answer) full_told = at_clear_answer its_answer

@@ -1,4 +1,5 @@
 -- What a mutator counts on of marking while its seat's own words change, and what others rely on then.
+use Rattle.heap_words.specs.Phases.{marking_phase}
 use Rattle.std.proofs.Common.{◌≡◌, ◌≢◌, ℕ, ◌+◌, ◌⊎◌, inl, inr, ⊎_elim, Bool, Option, Some, None, refl, sym, ap, ◌∙◌, subst, w64, arith}
 use Rattle.std.specs.Prelude.{bit_or}
 use Rattle.std.specs.Int.{bit_at}
@@ -21,14 +22,14 @@ world_with world memory graph = record { memory = memory; block = world.block; g
 -- nothing of marking changes where none of its words does, and no word of the heap
 pub marks_in : (config : Config) (world : World) (memory : Word → ℕ) (graph : Graph) (seat : ℕ) → memory Phase ≡ world.memory Phase → ((number : ℕ) → memory (Grey number) ≡ world.memory (Grey number)) → ((mutator : ℕ) → memory (Count mutator) ≡ world.memory (Count mutator))
     → ((mutator index : ℕ) → memory (Buffer mutator index) ≡ world.memory (Buffer mutator index)) → ((address : ℕ) → memory (Heap address) ≡ world.memory (Heap address)) → RelyMarks config seat world (world_with world memory graph)
-marks_in config world memory graph seat phase greys counts buffers heap =
-    rely_marks config world (world_with world memory graph) seat phase greys counts buffers refl (λ mutator. refl) refl (λ address is. is) (λ address is. heap (address + 1))
+marks_in config world memory graph seat phase greys same_counts buffers heap =
+    rely_marks config world (world_with world memory graph) seat phase greys same_counts buffers refl (λ mutator. refl) refl (λ address object_there. object_there) (λ address object_there. heap (address + 1))
 
 -- nor does anything of evacuation
 pub copies_in : (config : Config) (world : World) (memory : Word → ℕ) (graph : Graph) (seat : ℕ) → memory Cset ≡ world.memory Cset → memory Evac ≡ world.memory Evac → ((region : ℕ) → memory (Top region) ≡ world.memory (Top region))
     → ((address : ℕ) → memory (Heap address) ≡ world.memory (Heap address)) → RelyCopies config seat world (world_with world memory graph)
 copies_in config world memory graph seat cset evac tops heap =
-    rely_copies config world (world_with world memory graph) seat (same_plot config world (world_with world memory graph) refl cset evac (λ region is. tops region)) refl refl (λ address k b seated counted inside is from below. heap (address + k))
+    rely_copies config world (world_with world memory graph) seat (same_plot config world (world_with world memory graph) refl cset evac (λ region piece_there. tops region)) refl refl (λ address offset body seated counted inside piece_there from index_below. heap (address + offset))
 
 -- and of updating
 pub fields_in : (config : Config) (world : World) (memory : Word → ℕ) (graph : Graph) → ((region : ℕ) → memory (Tams region) ≡ world.memory (Tams region)) → ((region : ℕ) → memory (Limit region) ≡ world.memory (Limit region)) → memory Claim ≡ world.memory Claim
@@ -40,128 +41,128 @@ pub marking_relied : (config : Config) (world next_world : World) (seat : ℕ) (
 marking_relied config world next_world seat in_hand loaded knows marks marking = record {
   records = marks.recording ∙ marking.records;
   scans = marks.scanning ∙ marking.scans;
-  phase_is = λ on. marking.phase_is on ∙ sym marks.keeps.phase;
+  phase_is = λ is_marking. marking.phase_is is_marking ∙ sym marks.keeps.phase;
 }
 
 -- and so does what it counts on of evacuation
 pub copying_relied : (config : Config) (world next_world : World) (seat : ℕ) (copies : Bool) (loaded : ℕ) (knows : Bool) → RelyCopies config seat world next_world → HasCopyingBy world seat copies loaded knows → HasCopyingBy next_world seat copies loaded knows
-copying_relied config world next_world seat copies loaded knows copied copying = record {
-  copies_is = copied.copying ∙ copying.copies_is;
-  works_none = copied.working ∙ copying.works_none;
-  set_is = λ on. copying.set_is on ∙ sym copied.keeps.cset;
+copying_relied config world next_world seat copies loaded knows copies_rely copying = record {
+  copies_is = copies_rely.copying ∙ copying.copies_is;
+  works_none = copies_rely.working ∙ copying.works_none;
+  set_is = λ is_moving. copying.set_is is_moving ∙ sym copies_rely.keeps.cset;
 }
 
 -- a field that marking needs no more stays one
-done_stays : (config : Config) (world next_world : World) (a k : ℕ) → KeepsMarks config world next_world → NeedsNoMarking world.ghost.snapshot (NotedIn config world) a k → NeedsNoMarking next_world.ghost.snapshot (NotedIn config next_world) a k
-done_stays config world next_world a k marks is =
-    subst (λ s. NeedsNoMarking s (NotedIn config next_world) a k) (sym marks.snapshot) (⊎_elim (λ null. inl null) (λ noted. inr (marks.noted (was_at world.ghost.snapshot a k) noted)) is)
+done_stays : (config : Config) (world next_world : World) (address field : ℕ) → KeepsMarks config world next_world → NeedsNoMarking world.ghost.snapshot (NotedIn config world) address field → NeedsNoMarking next_world.ghost.snapshot (NotedIn config next_world) address field
+done_stays config world next_world address field marks needs_none =
+    subst (λ some_graph. NeedsNoMarking some_graph (NotedIn config next_world) address field) (sym marks.snapshot) (⊎_elim (λ null. inl null) (λ noted. inr (marks.noted (was_at world.ghost.snapshot address field) noted)) needs_none)
 
 -- so does what a Set counts on
-pub covered_stays : (config : Config) (world next_world : World) (address k : ℕ) → KeepsMarks config world next_world → IsCovered config world address k → IsCovered config next_world address k
-covered_stays config world next_world address k marks covered refs nums name is below =
-    done_stays config world next_world address k marks (covered refs nums name (ap (λ (snapshot : Snapshot). snapshot.block address) (sym marks.snapshot) ∙ is) below)
+pub covered_stays : (config : Config) (world next_world : World) (address field : ℕ) → KeepsMarks config world next_world → IsCovered config world address field → IsCovered config next_world address field
+covered_stays config world next_world address field marks covered refs nums name object_was field_below =
+    done_stays config world next_world address field marks (covered refs nums name (ap (λ (snapshot : Snapshot). snapshot.block address) (sym marks.snapshot) ∙ object_was) field_below)
 
 -- while nobody marks, marking needs no field
-pub covered_unmarked : (config : Config) (world : World) (address k : ℕ) → Shared config world → world.memory Phase ≢ 1 → IsCovered config world address k
-covered_unmarked config world address k shared off refs nums name is below =
-    let none : None ≡ Some (thing name refs nums) = ap (λ (snapshot : Snapshot). snapshot.block address) (sym (shared.marked.empty off)) ∙ is in
-    absurd (cc (none))
+pub covered_unmarked : (config : Config) (world : World) (address field : ℕ) → Shared config world → world.memory Phase ≢ marking_phase → IsCovered config world address field
+covered_unmarked config world address field shared not_marking refs nums name object_was field_below =
+    let null_piece : None ≡ Some (thing name refs nums) = ap (λ (snapshot : Snapshot). snapshot.block address) (sym (shared.marked.empty not_marking)) ∙ object_was in
+    absurd (cc (null_piece))
 
 -- Marking needs a field no more where the reference that it has is null or noted.
-pub covered_found : (config : Config) (world next_world : World) (address k : ℕ) → Shared config world → KeepsMarks config world next_world → (world.memory (Heap (address + 3 + k)) ≡ 0) ⊎ NotedIn config next_world (world.memory (Heap (address + 3 + k))) → IsCovered config next_world address k
-covered_found config world next_world address k shared marks found refs nums name is below =
-    let was : world.ghost.snapshot.block address ≡ Some (thing name refs nums) = ap (λ (snapshot : Snapshot). snapshot.block address) (sym marks.snapshot) ∙ is in
-    by_edge (shared.marked.traced.edges address refs nums k name was below)
+pub covered_found : (config : Config) (world next_world : World) (address field : ℕ) → Shared config world → KeepsMarks config world next_world → (world.memory (Heap (address + 3 + field)) ≡ 0) ⊎ NotedIn config next_world (world.memory (Heap (address + 3 + field))) → IsCovered config next_world address field
+covered_found config world next_world address field shared marks field_noted refs nums name object_there field_below =
+    let object_was : world.ghost.snapshot.block address ≡ Some (thing name refs nums) = ap (λ (snapshot : Snapshot). snapshot.block address) (sym marks.snapshot) ∙ object_there in
+    by_edge (shared.marked.traced.edges address refs nums field name object_was field_below)
   where
-    by_edge : IsTracedAt config world.ghost.snapshot (λ address. world.memory (Heap address)) (λ number. world.memory (Black number)) world.ghost.scanning (NotedIn config world) address k → NeedsNoMarking next_world.ghost.snapshot (NotedIn config next_world) address k
-    by_edge (IsTracedAt.done is_done) = done_stays config world next_world address k marks is_done
-    by_edge (IsTracedAt.stands same scan) =
-        subst (λ s. NeedsNoMarking s (NotedIn config next_world) address k) (sym marks.snapshot)
-        (⊎_elim (λ null. inl (sym same ∙ null)) (λ noted. inr (subst (NotedIn config next_world) same noted)) found)
+    by_edge : IsTracedAt config world.ghost.snapshot (λ address. world.memory (Heap address)) (λ number. world.memory (Black number)) world.ghost.scanning (NotedIn config world) address field → NeedsNoMarking next_world.ghost.snapshot (NotedIn config next_world) address field
+    by_edge (IsTracedAt.done is_done) = done_stays config world next_world address field marks is_done
+    by_edge (IsTracedAt.stands same_word scan) =
+        subst (λ some_graph. NeedsNoMarking some_graph (NotedIn config next_world) address field) (sym marks.snapshot)
+        (⊎_elim (λ null. inl (sym same_word ∙ null)) (λ noted. inr (subst (NotedIn config next_world) same_word noted)) field_noted)
 
 -- the bit that a mutator waits stays where a cycle is asked for, and is there where a mutator has asked for room
-pub still_waits : (n : ℕ) → bit_at n 1 ≡ 1 → bit_at (bit_or n 1) 1 ≡ 1
-still_waits n is = bit_at_set_other w64 n 0 (omega arith) 1 (omega arith) ∙ is
+pub still_waits : (word : ℕ) → bit_at word 1 ≡ 1 → bit_at (bit_or word 1) 1 ≡ 1
+still_waits word bit_set = bit_at_set_other w64 word 0 (omega arith) 1 (omega arith) ∙ bit_set
 
-pub now_waits : (n : ℕ) → bit_at (bit_or n 2) 1 ≡ 1
-now_waits n = bit_at_set_same w64 n 1 (omega arith)
+pub now_waits : (word : ℕ) → bit_at (bit_or word 2) 1 ≡ 1
+now_waits word = bit_at_set_same w64 word 1 (omega arith)
 
 -- what is relied on twice
-marks_twice : (config : Config) (seat : ℕ) (u v w : World) → u.memory Phase ≡ 1 → RelyMarks config seat u v → RelyMarks config seat v w → RelyMarks config seat u w
-marks_twice config seat world other_world next_world marking first second = record {
+marks_twice : (config : Config) (seat : ℕ) (old_world middle_world new_world : World) → old_world.memory Phase ≡ marking_phase → RelyMarks config seat old_world middle_world → RelyMarks config seat middle_world new_world → RelyMarks config seat old_world new_world
+marks_twice config seat world other_world next_world marking first_keeps second_keeps = record {
   keeps = record {
-    phase = second.keeps.phase ∙ first.keeps.phase;
-    snapshot = second.keeps.snapshot ∙ first.keeps.snapshot;
-    markable = λ off a is. second.keeps.markable (λ two. off (sym first.keeps.phase ∙ two)) a (first.keeps.markable off a is);
-    shapes = λ address is. second.keeps.shapes address (first.keeps.markable (λ two. omega (arith, two, marking)) address is) ∙ first.keeps.shapes address is;
-    noted = λ a is. second.keeps.noted a (first.keeps.noted a is);
+    phase = second_keeps.keeps.phase ∙ first_keeps.keeps.phase;
+    snapshot = second_keeps.keeps.snapshot ∙ first_keeps.keeps.snapshot;
+    markable = λ not_marking place piece_there. second_keeps.keeps.markable (λ is_moving. not_marking (sym first_keeps.keeps.phase ∙ is_moving)) place (first_keeps.keeps.markable not_marking place piece_there);
+    shapes = λ address piece_there. second_keeps.keeps.shapes address (first_keeps.keeps.markable (λ is_moving. omega (arith, is_moving, marking)) address piece_there) ∙ first_keeps.keeps.shapes address piece_there;
+    noted = λ place piece_there. second_keeps.keeps.noted place (first_keeps.keeps.noted place piece_there);
   };
-  recording = second.recording ∙ first.recording;
-  scanning = second.scanning ∙ first.scanning;
-  entries = second.entries ∙ first.entries;
-  buffer = λ k. second.buffer k ∙ first.buffer k;
-  greys = λ a mark. second.greys a (first.greys a mark);
+  recording = second_keeps.recording ∙ first_keeps.recording;
+  scanning = second_keeps.scanning ∙ first_keeps.scanning;
+  entries = second_keeps.entries ∙ first_keeps.entries;
+  buffer = λ index. second_keeps.buffer index ∙ first_keeps.buffer index;
+  greys = λ place mark. second_keeps.greys place (first_keeps.greys place mark);
 }
 
-copies_twice : (config : Config) (seat : ℕ) (u v w : World) → RelyCopies config seat u v → RelyCopies config seat v w → RelyCopies config seat u w
-copies_twice config seat world other_world next_world first second =
-    let set_then : (address : ℕ) → IsCollected config (world.memory Cset) address → IsCollected config (other_world.memory Cset) address = λ address is. subst (λ set. IsCollected config set address) (sym first.keeps.cset) is in
+copies_twice : (config : Config) (seat : ℕ) (old_world middle_world new_world : World) → RelyCopies config seat old_world middle_world → RelyCopies config seat middle_world new_world → RelyCopies config seat old_world new_world
+copies_twice config seat world other_world next_world first_keeps second_keeps =
+    let set_then : (address : ℕ) → IsCollected config (world.memory Cset) address → IsCollected config (other_world.memory Cset) address = λ address piece_there. subst (λ any_set. IsCollected config any_set address) (sym first_keeps.keeps.cset) piece_there in
     record {
       keeps = record {
-        cset = second.keeps.cset ∙ first.keeps.cset;
-        bodies = λ address body is. second.keeps.bodies address body (first.keeps.bodies address body is);
-        moveds = λ address refs nums to name is. second.keeps.moveds address refs nums to name (first.keeps.moveds address refs nums to name is);
-        spents = λ address words to is. second.keeps.spents address words to (first.keeps.spents address words to is);
-        pieces = λ address x inside is.
-            let one = first.keeps.pieces address x inside is in
-            let two = second.keeps.pieces address one.0 (set_then address inside) one.1 in
-            (two.0, two.1, two.2 ∙ one.2, two.3 ∙ one.3);
-        no_new = λ address refs nums name inside is. first.keeps.no_new address refs nums name inside (second.keeps.no_new address refs nums name (set_then address inside) is);
-        tops = λ r is. second.keeps.tops r (subst (λ set. IsIn set r) (sym first.keeps.cset) is) ∙ first.keeps.tops r is;
-        out = λ is. second.keeps.out (first.keeps.out is);
-        quiet = λ is. second.keeps.quiet (first.keeps.quiet is);
+        cset = second_keeps.keeps.cset ∙ first_keeps.keeps.cset;
+        bodies = λ address body piece_there. second_keeps.keeps.bodies address body (first_keeps.keeps.bodies address body piece_there);
+        moveds = λ address refs nums target name piece_there. second_keeps.keeps.moveds address refs nums target name (first_keeps.keeps.moveds address refs nums target name piece_there);
+        spents = λ address words target piece_there. second_keeps.keeps.spents address words target (first_keeps.keeps.spents address words target piece_there);
+        pieces = λ address piece inside piece_there.
+            let first_piece = first_keeps.keeps.pieces address piece inside piece_there in
+            let second_piece = second_keeps.keeps.pieces address first_piece.0 (set_then address inside) first_piece.1 in
+            (second_piece.0, second_piece.1, second_piece.2 ∙ first_piece.2, second_piece.3 ∙ first_piece.3);
+        no_new = λ address refs nums name inside piece_there. first_keeps.keeps.no_new address refs nums name inside (second_keeps.keeps.no_new address refs nums name (set_then address inside) piece_there);
+        tops = λ any_region piece_there. second_keeps.keeps.tops any_region (subst (λ any_set. IsIn any_set any_region) (sym first_keeps.keeps.cset) piece_there) ∙ first_keeps.keeps.tops any_region piece_there;
+        out = λ piece_there. second_keeps.keeps.out (first_keeps.keeps.out piece_there);
+        quiet = λ piece_there. second_keeps.keeps.quiet (first_keeps.keeps.quiet piece_there);
       };
-      copying = second.copying ∙ first.copying;
-      working = second.working ∙ first.working;
-      words = λ address k b seated counted inside is from below.
-          second.words address k b seated (first.copying ∙ counted) (set_then address inside) (first.keeps.bodies address b is) from below ∙ first.words address k b seated counted inside is from below;
+      copying = second_keeps.copying ∙ first_keeps.copying;
+      working = second_keeps.working ∙ first_keeps.working;
+      words = λ address offset copy_body seated counted inside piece_there from index_below.
+          second_keeps.words address offset copy_body seated (first_keeps.copying ∙ counted) (set_then address inside) (first_keeps.keeps.bodies address copy_body piece_there) from index_below ∙ first_keeps.words address offset copy_body seated counted inside piece_there from index_below;
     }
 
-fields_twice : (config : Config) (u v w : World) → u.memory Phase ≡ 1 → KeepsFields config u v → KeepsFields config v w → KeepsFields config u w
-fields_twice config world other_world next_world marking first second = record {
-  tams = λ r. second.tams r ∙ first.tams r;
-  limits = λ region. second.limits region ∙ first.limits region;
-  deads = λ a words is. second.deads a words (first.deads a words is);
-  fillers = λ a words is. second.fillers a words (first.fillers a words is);
-  claims = λ all. second.claims (first.claims all);
-  fields = λ on a refs nums k name is below. absurd (omega (arith, on, marking));
+fields_twice : (config : Config) (old_world middle_world new_world : World) → old_world.memory Phase ≡ marking_phase → KeepsFields config old_world middle_world → KeepsFields config middle_world new_world → KeepsFields config old_world new_world
+fields_twice config world other_world next_world marking first_keeps second_keeps = record {
+  tams = λ any_region. second_keeps.tams any_region ∙ first_keeps.tams any_region;
+  limits = λ region. second_keeps.limits region ∙ first_keeps.limits region;
+  deads = λ address words piece_there. second_keeps.deads address words (first_keeps.deads address words piece_there);
+  fillers = λ address words piece_there. second_keeps.fillers address words (first_keeps.fillers address words piece_there);
+  claims = λ all_claimed. second_keeps.claims (first_keeps.claims all_claimed);
+  fields = λ is_updating address refs nums field name piece_there field_below. absurd (omega (arith, is_updating, marking));
 }
 
 -- where objects are marked
-pub rely_twice : (config : Config) (seat : ℕ) (u v w : World) → u.memory Phase ≡ 1 → Rely config seat u v → Rely config seat v w → Rely config seat u w
-rely_twice config seat world other_world next_world marking first second = record {
-  names = λ a name is. second.names a name (first.names a name is);
-  targets = λ address refs nums name is. second.targets address refs nums name (first.targets address refs nums name is);
-  rooms = λ a x is room. second.rooms a x (first.rooms a x is room) room;
-  no_rooms = λ a x is room. first.no_rooms a x (second.no_rooms a x is room) room;
-  room_words = λ address k piece is room below. second.room_words address k piece (first.rooms address piece is room) room below ∙ first.room_words address k piece is room below;
-  promises = λ a words is. second.promises a words (first.promises a words is);
-  no_promises = λ address words is. first.no_promises address words (second.no_promises address words is);
-  promise_words = λ address words k is below. second.promise_words address words k (first.promises address words is) below ∙ first.promise_words address words k is below;
-  current = second.current ∙ first.current;
-  opens = λ r is. second.opens r (first.opens r is);
-  owners = λ region is. second.owners region (first.owners region is);
-  tops = λ region is. second.tops region (first.owners region is) ∙ first.tops region is;
-  root_words = λ i. second.root_words i ∙ first.root_words i;
-  roots = λ i. second.roots i ∙ first.roots i;
-  pin_words = λ index. second.pin_words index ∙ first.pin_words index;
-  pins = λ i. second.pins i ∙ first.pins i;
-  count = second.count ∙ first.count;
-  wait = second.wait ∙ first.wait;
-  answer = second.answer ∙ first.answer;
-  state = second.state ∙ first.state;
-  asked = λ is. second.asked (first.asked is);
-  marks = marks_twice config seat world other_world next_world marking first.marks second.marks;
-  copies = copies_twice config seat world other_world next_world first.copies second.copies;
-  fields = fields_twice config world other_world next_world marking first.fields second.fields;
+pub rely_twice : (config : Config) (seat : ℕ) (old_world middle_world new_world : World) → old_world.memory Phase ≡ marking_phase → Rely config seat old_world middle_world → Rely config seat middle_world new_world → Rely config seat old_world new_world
+rely_twice config seat world other_world next_world marking first_keeps second_keeps = record {
+  names = λ place name piece_there. second_keeps.names place name (first_keeps.names place name piece_there);
+  targets = λ address refs nums name piece_there. second_keeps.targets address refs nums name (first_keeps.targets address refs nums name piece_there);
+  rooms = λ place room_piece piece_there room. second_keeps.rooms place room_piece (first_keeps.rooms place room_piece piece_there room) room;
+  no_rooms = λ place room_piece piece_there room. first_keeps.no_rooms place room_piece (second_keeps.no_rooms place room_piece piece_there room) room;
+  room_words = λ address offset piece piece_there room index_below. second_keeps.room_words address offset piece (first_keeps.rooms address piece piece_there room) room index_below ∙ first_keeps.room_words address offset piece piece_there room index_below;
+  promises = λ place words piece_there. second_keeps.promises place words (first_keeps.promises place words piece_there);
+  no_promises = λ address words piece_there. first_keeps.no_promises address words (second_keeps.no_promises address words piece_there);
+  promise_words = λ address words offset piece_there index_below. second_keeps.promise_words address words offset (first_keeps.promises address words piece_there) index_below ∙ first_keeps.promise_words address words offset piece_there index_below;
+  current = second_keeps.current ∙ first_keeps.current;
+  opens = λ any_region piece_there. second_keeps.opens any_region (first_keeps.opens any_region piece_there);
+  owners = λ region piece_there. second_keeps.owners region (first_keeps.owners region piece_there);
+  tops = λ region piece_there. second_keeps.tops region (first_keeps.owners region piece_there) ∙ first_keeps.tops region piece_there;
+  root_words = λ number. second_keeps.root_words number ∙ first_keeps.root_words number;
+  roots = λ number. second_keeps.roots number ∙ first_keeps.roots number;
+  pin_words = λ index. second_keeps.pin_words index ∙ first_keeps.pin_words index;
+  pins = λ number. second_keeps.pins number ∙ first_keeps.pins number;
+  count = second_keeps.count ∙ first_keeps.count;
+  wait = second_keeps.wait ∙ first_keeps.wait;
+  answer = second_keeps.answer ∙ first_keeps.answer;
+  state = second_keeps.state ∙ first_keeps.state;
+  asked = λ piece_there. second_keeps.asked (first_keeps.asked piece_there);
+  marks = marks_twice config seat world other_world next_world marking first_keeps.marks second_keeps.marks;
+  copies = copies_twice config seat world other_world next_world first_keeps.copies second_keeps.copies;
+  fields = fields_twice config world other_world next_world marking first_keeps.fields second_keeps.fields;
 }

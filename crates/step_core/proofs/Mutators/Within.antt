@@ -50,13 +50,13 @@ IsIn spot = is_within (standing_at spot) ≡ true
 
 -- one of two
 either_in : (holds : Bool) (spot other_spot : Spot) → IsIn spot → IsIn other_spot → IsIn (if holds then spot else other_spot)
-either_in true spot other_spot is_in other = is_in
-either_in false spot other_spot is_in other = other
+either_in true spot other_spot spot_in other_in = spot_in
+either_in false spot other_spot spot_in other_in = other_in
 
 -- one of two while it waits
 either_waits : (holds : Bool) (spot other_spot : WaitSpot) → is_within (wait_standing spot) ≡ true → is_within (wait_standing other_spot) ≡ true → is_within (wait_standing (if holds then spot else other_spot)) ≡ true
-either_waits true spot other_spot one other = one
-either_waits false spot other_spot one other = other
+either_waits true spot other_spot first_within second_within = first_within
+either_waits false spot other_spot first_within second_within = second_within
 
 first_in : (command : Command) → IsIn (first_spot command)
 first_in (New dst refs nums) = refl
@@ -66,7 +66,7 @@ first_in _ = refl
 
 roots_in_heap : (command : Command) (first second third : ℕ) → IsIn (after_roots command first second third)
 roots_in_heap (Copy dst src) first second third = refl
-roots_in_heap (Same a b) first second third = refl
+roots_in_heap (Same first_index second_index) first second third = refl
 roots_in_heap _ first second third = refl
 
 part_in : (phase : ℕ) (command : Command) (object second third shape : ℕ) → IsIn (with_part phase command object second third shape)
@@ -110,87 +110,87 @@ take_in _ = refl
 
 -- it goes on in the heap
 pub goes_on_in : (config : Config) (mutator : Mutating) (order : Order) (got : ℕ) (spot : Spot) → standing_at spot ≡ inside → IsIn (next_at config mutator order got spot).spot
-goes_on_in config mutator order got LoadPhase is = refl
-goes_on_in config mutator order got LoadSet is = first_in mutator.kept.command
-goes_on_in config mutator order got (Loading load.First) is =
+goes_on_in config mutator order got LoadPhase stands_inside = refl
+goes_on_in config mutator order got LoadSet stands_inside = first_in mutator.kept.command
+goes_on_in config mutator order got (Loading load.First) stands_inside =
     either_in (lacks_object mutator.kept.command got) (Leave reply.Bad) (after_first mutator.kept.command got) refl
     (either_in (nat_lt 1 (length (command_roots mutator.kept.command))) (Loading (load.Second got)) (after_roots mutator.kept.command got 0 0) refl (roots_in_heap mutator.kept.command got 0 0))
-goes_on_in config mutator order got (Loading (load.Second first)) is =
+goes_on_in config mutator order got (Loading (load.Second first)) stands_inside =
     either_in (nat_lt 2 (length (command_roots mutator.kept.command))) (Loading (load.Third first got)) (after_roots mutator.kept.command first got 0) refl (roots_in_heap mutator.kept.command first got 0)
-goes_on_in config mutator order got (Loading (load.Third first second)) is = roots_in_heap mutator.kept.command first second got
-goes_on_in config mutator order got (Loading (load.Shape object second third)) is =
+goes_on_in config mutator order got (Loading (load.Third first second)) stands_inside = roots_in_heap mutator.kept.command first second got
+goes_on_in config mutator order got (Loading (load.Shape object second third)) stands_inside =
     either_in (has_part mutator.kept.command got) (with_part mutator.kept.phase mutator.kept.command object second third got) (Leave reply.Bad) (part_in mutator.kept.phase mutator.kept.command object second third got) refl
-goes_on_in config mutator order got (OnField object fields.Load) is = loaded_in config mutator.kept.phase mutator.kept.cset got ForRoot
-goes_on_in config mutator order got (OnField object (fields.LoadExpected expect value)) is = loaded_in config mutator.kept.phase mutator.kept.cset got (ToCompare object expect value)
-goes_on_in config mutator order got (OnField object (fields.LoadOld value)) is = overwritten_in mutator.kept.phase got (overwrites.Set object value)
-goes_on_in config mutator order got (OnField object (fields.Store value)) is = refl
-goes_on_in config mutator order got (OnField object (fields.Swap value)) is =
+goes_on_in config mutator order got (OnField object fields.Load) stands_inside = loaded_in config mutator.kept.phase mutator.kept.cset got ForRoot
+goes_on_in config mutator order got (OnField object (fields.LoadExpected expect value)) stands_inside = loaded_in config mutator.kept.phase mutator.kept.cset got (ToCompare object expect value)
+goes_on_in config mutator order got (OnField object (fields.LoadOld value)) stands_inside = overwritten_in mutator.kept.phase got (overwrites.Set object value)
+goes_on_in config mutator order got (OnField object (fields.Store value)) stands_inside = refl
+goes_on_in config mutator order got (OnField object (fields.Swap value)) stands_inside =
     either_in (is_to_record mutator.kept.phase got) (Recording LoadCount got overwrites.Xchg) (with_loaded config mutator.kept.phase mutator.kept.cset got ForRoot) refl (loaded_in config mutator.kept.phase mutator.kept.cset got ForRoot)
-goes_on_in config mutator order got (OnField object (fields.Exchange found expect value)) is =
+goes_on_in config mutator order got (OnField object (fields.Exchange found expect value)) stands_inside =
     either_in (got == found) (overwritten mutator.kept.phase found overwrites.Cas) (OnField object (fields.LoadExpected expect value)) (overwritten_in mutator.kept.phase found overwrites.Cas) refl
-goes_on_in config mutator order got (Resolving address spot next) is = resolve_in address next (resolves.next_at config address mutator.kept.phase spot got)
-goes_on_in config mutator order got (Recording spot address next) is = remember_in address next (satb.next_at spot got)
-goes_on_in config mutator order got (OnNumber object refs numbers.Load) is = refl
-goes_on_in config mutator order got (OnNumber object refs numbers.Store) is = refl
-goes_on_in config mutator order got (Showing value show.LoadName) is = refl
-goes_on_in config mutator order got (Showing value (show.StoreRoot r)) is = refl
-goes_on_in config mutator order got (StoreRoot value) is = refl
-goes_on_in config mutator order got (Making (make.Taking spot)) is = take_in (take_next config mutator.kept.command spot got)
-goes_on_in config mutator order got (Making (make.StoreWord address done)) is = refl
-goes_on_in config mutator order got (Making (make.StoreRoot address)) is = refl
-goes_on_in config mutator order got AskCycle is = refl
-goes_on_in config mutator order got (Pinning value pins.Look) is = either_in (fits_slot mutator.kept.command got) (Pinning value pins.Store) (Leave reply.Bad) refl refl
-goes_on_in config mutator order got (Pinning value pins.Store) is = refl
-goes_on_in config mutator order got (Waiting wait.StoreRequest) is = refl
-goes_on_in config mutator order got (Waiting wait.AskRoom) is = refl
-goes_on_in config mutator order got (Waiting wait.StepOut) is = cc
-goes_on_in config mutator order got (Waiting wait.Poll) is = cc
-goes_on_in config mutator order got (Waiting wait.LoadAnswer) is = either_waits (got == 1) (wait.ClearAnswer reply.Full) (wait.StoreRoot got) refl refl
-goes_on_in config mutator order got (Waiting (wait.StoreRoot address)) is = refl
-goes_on_in config mutator order got (Waiting (wait.ClearAnswer r)) is = refl
-goes_on_in config mutator order got (Entering enter.Raise next) is = cc
-goes_on_in config mutator order got (Entering enter.Look next) is = cc
-goes_on_in config mutator order got (Entering enter.Lower next) is = cc
-goes_on_in config mutator order got (Entering enter.Await next) is = cc
-goes_on_in config mutator order got (Entering enter.Inside next) is = goes_in next
+goes_on_in config mutator order got (Resolving address spot next) stands_inside = resolve_in address next (resolves.next_at config address mutator.kept.phase spot got)
+goes_on_in config mutator order got (Recording spot address next) stands_inside = remember_in address next (satb.next_at spot got)
+goes_on_in config mutator order got (OnNumber object refs numbers.Load) stands_inside = refl
+goes_on_in config mutator order got (OnNumber object refs numbers.Store) stands_inside = refl
+goes_on_in config mutator order got (Showing value show.LoadName) stands_inside = refl
+goes_on_in config mutator order got (Showing value (show.StoreRoot reference)) stands_inside = refl
+goes_on_in config mutator order got (StoreRoot value) stands_inside = refl
+goes_on_in config mutator order got (Making (make.Taking spot)) stands_inside = take_in (take_next config mutator.kept.command spot got)
+goes_on_in config mutator order got (Making (make.StoreWord address done)) stands_inside = refl
+goes_on_in config mutator order got (Making (make.StoreRoot address)) stands_inside = refl
+goes_on_in config mutator order got AskCycle stands_inside = refl
+goes_on_in config mutator order got (Pinning value pins.Look) stands_inside = either_in (fits_slot mutator.kept.command got) (Pinning value pins.Store) (Leave reply.Bad) refl refl
+goes_on_in config mutator order got (Pinning value pins.Store) stands_inside = refl
+goes_on_in config mutator order got (Waiting wait.StoreRequest) stands_inside = refl
+goes_on_in config mutator order got (Waiting wait.AskRoom) stands_inside = refl
+goes_on_in config mutator order got (Waiting wait.StepOut) stands_inside = cc
+goes_on_in config mutator order got (Waiting wait.Poll) stands_inside = cc
+goes_on_in config mutator order got (Waiting wait.LoadAnswer) stands_inside = either_waits (got == 1) (wait.ClearAnswer reply.Full) (wait.StoreRoot got) refl refl
+goes_on_in config mutator order got (Waiting (wait.StoreRoot address)) stands_inside = refl
+goes_on_in config mutator order got (Waiting (wait.ClearAnswer reference)) stands_inside = refl
+goes_on_in config mutator order got (Entering enter.Raise next) stands_inside = cc
+goes_on_in config mutator order got (Entering enter.Look next) stands_inside = cc
+goes_on_in config mutator order got (Entering enter.Lower next) stands_inside = cc
+goes_on_in config mutator order got (Entering enter.Await next) stands_inside = cc
+goes_on_in config mutator order got (Entering enter.Inside next) stands_inside = goes_in next
   where
-    goes_in : (n : Entered) → IsIn (after_enter n enter.Inside)
+    goes_in : (next : Entered) → IsIn (after_enter next enter.Inside)
     goes_in Call = refl
     goes_in Waited = refl
-goes_on_in config mutator order got _ is = cc
+goes_on_in config mutator order got _ stands_inside = cc
 
 -- a mutator that is not in the heap has no room but free words of its buffer
-pub spares_outside : (seat : ℕ) (kept : Kept) (spot : Spot) (a : ℕ) (piece : Block) → is_within (standing_at spot) ≡ false → IsRoomOf seat kept spot a piece → IsSpare seat piece
-spares_outside seat kept Rest a piece out is = is
-spares_outside seat kept (Ended reply) a piece out is = is
-spares_outside seat kept (Entering spot then_on) a piece out is = is
-spares_outside seat kept (Waiting spot) a piece out is = is
-spares_outside seat kept Gone a piece out is = is
-spares_outside seat kept _ a piece out is = absurd (cc (out))
+pub spares_outside : (seat : ℕ) (kept : Kept) (spot : Spot) (address : ℕ) (piece : Block) → is_within (standing_at spot) ≡ false → IsRoomOf seat kept spot address piece → IsSpare seat piece
+spares_outside seat kept Rest address piece mutator_outside room_there = room_there
+spares_outside seat kept (Ended reply) address piece mutator_outside room_there = room_there
+spares_outside seat kept (Entering spot then_on) address piece mutator_outside room_there = room_there
+spares_outside seat kept (Waiting spot) address piece mutator_outside room_there = room_there
+spares_outside seat kept Gone address piece mutator_outside room_there = room_there
+spares_outside seat kept _ address piece mutator_outside room_there = absurd (cc (mutator_outside))
 
 -- and these it may have
-pub outside_spares : (seat : ℕ) (kept : Kept) (spot : Spot) (a : ℕ) (piece : Block) → is_within (standing_at spot) ≡ false → IsSpare seat piece → IsRoomOf seat kept spot a piece
-outside_spares seat kept Rest a piece out is = is
-outside_spares seat kept (Ended reply) a piece out is = is
-outside_spares seat kept (Entering spot then_on) a piece out is = is
-outside_spares seat kept (Waiting spot) a piece out is = is
-outside_spares seat kept Gone a piece out is = is
-outside_spares seat kept _ a piece out is = absurd (cc (out))
+pub outside_spares : (seat : ℕ) (kept : Kept) (spot : Spot) (address : ℕ) (piece : Block) → is_within (standing_at spot) ≡ false → IsSpare seat piece → IsRoomOf seat kept spot address piece
+outside_spares seat kept Rest address piece mutator_outside spare_there = spare_there
+outside_spares seat kept (Ended reply) address piece mutator_outside spare_there = spare_there
+outside_spares seat kept (Entering spot then_on) address piece mutator_outside spare_there = spare_there
+outside_spares seat kept (Waiting spot) address piece mutator_outside spare_there = spare_there
+outside_spares seat kept Gone address piece mutator_outside spare_there = spare_there
+outside_spares seat kept _ address piece mutator_outside spare_there = absurd (cc (mutator_outside))
 
 -- it is about to record nothing
 pub records_outside : (spot : Spot) → is_within (standing_at spot) ≡ false → recording_of spot ≡ None
-records_outside Rest out = refl
-records_outside (Ended reply) out = refl
-records_outside (Entering spot then_on) out = refl
-records_outside (Waiting spot) out = refl
-records_outside Gone out = refl
-records_outside _ out = absurd (cc (out))
+records_outside Rest mutator_outside = refl
+records_outside (Ended reply) mutator_outside = refl
+records_outside (Entering spot then_on) mutator_outside = refl
+records_outside (Waiting spot) mutator_outside = refl
+records_outside Gone mutator_outside = refl
+records_outside _ mutator_outside = absurd (cc (mutator_outside))
 
 -- and it copies nothing
 pub copies_outside : (spot : Spot) → is_within (standing_at spot) ≡ false → copies_at spot ≡ false
-copies_outside Rest out = refl
-copies_outside (Ended reply) out = refl
-copies_outside (Entering spot then_on) out = refl
-copies_outside (Waiting spot) out = refl
-copies_outside Gone out = refl
-copies_outside _ out = absurd (cc (out))
+copies_outside Rest mutator_outside = refl
+copies_outside (Ended reply) mutator_outside = refl
+copies_outside (Entering spot then_on) mutator_outside = refl
+copies_outside (Waiting spot) mutator_outside = refl
+copies_outside Gone mutator_outside = refl
+copies_outside _ mutator_outside = absurd (cc (mutator_outside))

@@ -21,8 +21,8 @@ use Rattle.heap_world.proofs.Roomless.{only_spares}
 
 -- an idle control holds no image
 idle_holds : (config : Config) (phase cset : ℕ) (graph : Graph) (machine : Machine) → HasNumber config (control_number config) machine → IsIdle phase cset graph (control_number config) machine → image_read machine ≡ None
-idle_holds config phase cset graph (controlling control) number calm = ap (λ spot. stored_image spot control.image) calm.0
-idle_holds config phase cset graph _ number calm = refl
+idle_holds config phase cset graph (controlling control) number machine_idle = ap (λ spot. stored_image spot control.image) machine_idle.0
+idle_holds config phase cset graph _ number machine_idle = refl
 
 -- What holds of a stage that begins a graph.
 module _ (config : Config) (stage : Stage Actor) (graph : Graph) (begins : Begins config stage graph) where
@@ -46,12 +46,12 @@ module _ (config : Config) (stage : Stage Actor) (graph : Graph) (begins : Begin
     entries = All-nil (IsSettled config.mutators);
     no_more = begins.stands.no_more;
     no_more_pins = begins.stands.no_more_pins;
-    shared = subst (λ memory. Shared config (record { memory = memory; block = begins.stands.block; ghost = begins.stands.ghost; graph = graph })) (sym whole_begins) begins.stands.shared;
+    shared = subst (λ any_memory. Shared config (record { memory = any_memory; block = begins.stands.block; ghost = begins.stands.ghost; graph = graph })) (sym whole_begins) begins.stands.shared;
     promised_to = begins.stands.promised_to;
-    machines = λ k a is.
-        let new = begins.machines k a is in
-        subst (λ memory. IsMachine config stage.words (record { memory = memory; block = begins.stands.block; ghost = begins.stands.ghost; graph = graph }) [] k a a.machine) (sym whole_begins)
-        (machine_begins config stage.words (record { memory = view config stage.words; block = begins.stands.block; ghost = begins.stands.ghost; graph = graph }) k a a.machine refl new.number_is new.idle new.calls new.valid
+    machines = λ number actor actor_there.
+        let new = begins.machines number actor actor_there in
+        subst (λ any_memory. IsMachine config stage.words (record { memory = any_memory; block = begins.stands.block; ghost = begins.stands.ghost; graph = graph }) [] number actor actor.machine) (sym whole_begins)
+        (machine_begins config stage.words (record { memory = view config stage.words; block = begins.stands.block; ghost = begins.stands.ghost; graph = graph }) number actor actor.machine refl new.number_is new.idle new.calls new.valid
         (record { roots = begins.stands.roots; spares = λ seat address. only_spares begins.stands.block begins.stands.none begins.stands.uncarved address seat; asked = begins.stands.asked; unmarking = begins.stands.unmarking; uncopying = begins.stands.uncopying; usable = begins.stands.usable }));
   }
 

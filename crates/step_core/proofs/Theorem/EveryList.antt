@@ -88,184 +88,184 @@ ends_at config seat made kept (Ended reply) takes = refl
 ends_at config seat made kept _ takes = absurd (cc (takes))
 
 -- What a stage says in which all goes as it should.
-module _ (change : Change) (law : PausesByParts change) (config : Config) (graph : Graph) (stage : Stage Actor) (entries : List Entry) (goes : Goes config graph stage entries) where
+module _ (change : Change) (law : PausesByParts change) (config : Config) (graph : Graph) (stage : Stage Actor) (entries : List Entry) (history_goes : Goes config graph stage entries) where
   abbrev the_world : World
-  the_world = world_of config stage goes.follows.block goes.follows.ghost (after graph entries)
+  the_world = world_of config stage history_goes.follows.block history_goes.follows.ghost (after graph entries)
 
   -- of a machine
   known : (number : ℕ) (actor : Actor) → slice_get stage.machines number ≡ Some actor → IsMachine config stage.words the_world (of_thread entries (number + 1)) number actor actor.machine
-  known = goes.follows.machines
+  known = history_goes.follows.machines
 
   -- of a mutator
   thread_of : (number : ℕ) (actor : Actor) (mutator : Mutating) → IsMutator stage number actor mutator → IsThread config stage.words the_world (of_thread entries (number + 1)) number actor mutator
-  thread_of = thread_there config graph stage entries goes
+  thread_of = thread_there config graph stage entries history_goes
 
   -- the machine of a number after its step, in the stage after it
   machine_next : (number : ℕ) (actor : Actor) (order : Order) → slice_get stage.machines number ≡ Some actor → takes_of actor.machine order ≡ true
-      → (world : World) × (words : List ℕ) × (es : List Entry)
-      × IsMachine config words world es number (took_of change config actor order (slice_index stage.words (table_index (plan_of config order actor.machine))) actor.machine)
+      → (world : World) × (words : List ℕ) × (own_entries : List Entry)
+      × IsMachine config words world own_entries number (took_of change config actor order (slice_index stage.words (table_index (plan_of config order actor.machine))) actor.machine)
       (machine_after change config order (slice_index stage.words (table_index (plan_of config order actor.machine))) actor.machine)
   unfolding kind
-  machine_next number actor order here takes =
+  machine_next number actor order actor_there takes =
       let event : Event Order = record { number = number; order = order } in
-      let next = goes_event change law config graph stage entries event goes in
-      let there : slice_get (act (kind change config) stage event).machines number ≡ Some (took_of change config actor order (slice_index stage.words (table_index (plan_of config order actor.machine))) actor.machine) =
-      ap (λ t. slice_get t.machines number) (act-event (kind change config) stage event actor (record { here = here; takes = takes })) ∙ slice_get-set_same stage.machines number actor _ here in (
-        world_of config (act (kind change config) stage event) next.follows.block next.follows.ghost (after graph (entries ++ told config stage event)),
+      let next_facts = goes_event change law config graph stage entries event history_goes in
+      let next_there : slice_get (act (kind change config) stage event).machines number ≡ Some (took_of change config actor order (slice_index stage.words (table_index (plan_of config order actor.machine))) actor.machine) =
+      ap (λ next_stage. slice_get next_stage.machines number) (act-event (kind change config) stage event actor (record { here = actor_there; takes = takes })) ∙ slice_get-set_same stage.machines number actor _ actor_there in (
+        world_of config (act (kind change config) stage event) next_facts.follows.block next_facts.follows.ghost (after graph (entries ++ told config stage event)),
         (act (kind change config) stage event).words,
         of_thread (entries ++ told config stage event) (number + 1),
-        next.follows.machines number _ there,
+        next_facts.follows.machines number _ next_there,
       )
 
   -- a mutator is outside while an image counts
   mutator_outside : (number : ℕ) (actor : Actor) (mutator : Mutating) → IsMutator stage number actor mutator → (image : Counting) → held_image config stage ≡ Some image → is_within (standing_at mutator.spot) ≡ false
-  mutator_outside number actor mutator here image held =
-      let thread = thread_of number actor mutator here in
-      let below : number < control_number config = (let less = subst (λ k. k < config.mutators) thread.number_is thread.mine.seated.below in omega (arith, less)) in
-      ap (λ machine. is_within (standing_of machine)) (sym here.is) ∙ outside_held config stage goes.shaken image held number actor below here.here
+  mutator_outside number actor mutator mutator_known image image_held =
+      let thread = thread_of number actor mutator mutator_known in
+      let number_below : number < control_number config = (let seat_less = subst (λ any_seat. any_seat < config.mutators) thread.number_is thread.mine.seated.below in omega (arith, seat_less)) in
+      ap (λ machine. is_within (standing_of machine)) (sym mutator_known.is) ∙ outside_held config stage history_goes.shaken image image_held number actor number_below mutator_known.here
 
   -- a word that a mutator finds is fit
   fit_mutator : (number : ℕ) (actor : Actor) (mutator : Mutating) (order : Order) → slice_get stage.machines number ≡ Some actor → actor.machine ≡ mutating mutator → takes_at mutator.spot mutator.made order ≡ true
       → IsFit config mutator order (slice_index stage.words (table_index (placed config (touch_of config mutator order))))
-  fit_mutator number actor mutator order here is takes = (ready, part order takes, ends order takes)
+  fit_mutator number actor mutator order actor_there mutator_machine takes = (ready, part order takes, ends order takes)
     where
       ready : IsReady config (next_of config mutator order (slice_index stage.words (table_index (placed config (touch_of config mutator order)))))
       ready =
-          let next = machine_next number actor order here (ap (λ machine. takes_of machine order) is ∙ takes) in
-          let thread = subst (λ machine. IsMachine config next.1 next.0 next.2 number (took_of change config actor order (slice_index stage.words (table_index (plan_of config order actor.machine))) actor.machine)
-          (machine_after change config order (slice_index stage.words (table_index (plan_of config order machine))) machine)) is next.3 in
+          let next_facts = machine_next number actor order actor_there (ap (λ machine. takes_of machine order) mutator_machine ∙ takes) in
+          let thread = subst (λ machine. IsMachine config next_facts.1 next_facts.0 next_facts.2 number (took_of change config actor order (slice_index stage.words (table_index (plan_of config order actor.machine))) actor.machine)
+          (machine_after change config order (slice_index stage.words (table_index (plan_of config order machine))) machine)) mutator_machine next_facts.3 in
           thread.mine.ready
 
       part : (other_order : Order) → takes_at mutator.spot mutator.made other_order ≡ true → PartFit config mutator.seat mutator.kept mutator.spot (slice_index stage.words (table_index (placed config (touch_of config mutator other_order))))
       part other_order takes_it = ⊎_elim
-          (λ (within : is_within (standing_at mutator.spot) ≡ true).
-          let thread = thread_of number actor mutator (record { here = here; is = is }) in
-          let called : other_order ≡ Nothing = in_call mutator.spot mutator.made other_order (within_call mutator.spot within) takes_it in
-          subst (λ x. PartFit config mutator.seat mutator.kept mutator.spot (slice_index stage.words (table_index (placed config (touch_of config mutator x))))) (sym called)
+          (λ (spot_within : is_within (standing_at mutator.spot) ≡ true).
+          let thread = thread_of number actor mutator (record { here = actor_there; is = mutator_machine }) in
+          let called : other_order ≡ Nothing = in_call mutator.spot mutator.made other_order (within_call mutator.spot spot_within) takes_it in
+          subst (λ some_order. PartFit config mutator.seat mutator.kept mutator.spot (slice_index stage.words (table_index (placed config (touch_of config mutator some_order))))) (sym called)
           (subst (λ got. PartFit config mutator.seat mutator.kept mutator.spot got) (sym (settled_found config stage.words (touch_of config mutator Nothing) (held_image config stage)
-          (order_word config mutator.seat mutator.made mutator.kept Nothing mutator.spot thread.mine.seated.below thread.mine.ready (subst (λ x. takes_at mutator.spot mutator.made x ≡ true) called takes_it))
-          (λ image held. absurd (false≢true (sym (mutator_outside number actor mutator (record { here = here; is = is }) image held) ∙ within)))))
-          (part_fits config the_world goes.follows.shared mutator.seat mutator.made mutator.kept actor.command thread.fixed mutator.spot thread.mine)))
-          (λ (out : is_within (standing_at mutator.spot) ≡ false). part_outside config mutator.seat mutator.kept mutator.spot _ out)
+          (order_word config mutator.seat mutator.made mutator.kept Nothing mutator.spot thread.mine.seated.below thread.mine.ready (subst (λ some_order. takes_at mutator.spot mutator.made some_order ≡ true) called takes_it))
+          (λ image image_held. absurd (false≢true (sym (mutator_outside number actor mutator (record { here = actor_there; is = mutator_machine }) image image_held) ∙ spot_within)))))
+          (part_fits config the_world history_goes.follows.shared mutator.seat mutator.made mutator.kept actor.command thread.fixed mutator.spot thread.mine)))
+          (λ (outside_now : is_within (standing_at mutator.spot) ≡ false). part_outside config mutator.seat mutator.kept mutator.spot _ outside_now)
           (cases_Bool (is_within (standing_at mutator.spot)))
 
       ends : (other_order : Order) → takes_at mutator.spot mutator.made other_order ≡ true → EndsFit other_order (slice_index stage.words (table_index (placed config (touch_of config mutator other_order))))
       ends Nothing takes_it = tt
       ends (Begin command) takes_it = tt
       ends (Hint address) takes_it = tt
-      ends End takes_it = subst (λ t. slice_index stage.words (table_index (placed config t)) ≢ 0) (sym (ends_at config mutator.seat mutator.made mutator.kept mutator.spot takes_it))
+      ends End takes_it = subst (λ some_touch. slice_index stage.words (table_index (placed config some_touch)) ≢ 0) (sym (ends_at config mutator.seat mutator.made mutator.kept mutator.spot takes_it))
           (subst (λ got. got ≢ 0) (sym (found-placed config stage.words (touch Left (subtracts 1)) refl))
-          (left_some config is_left stage number actor goes.counted here (ap (λ machine. is_left (record { machine = machine; command = actor.command; calls = actor.calls })) is ∙ ends_left mutator.spot mutator.made takes_it)))
+          (left_some config is_left stage number actor history_goes.counted actor_there (ap (λ machine. is_left (record { machine = machine; command = actor.command; calls = actor.calls })) mutator_machine ∙ ends_left mutator.spot mutator.made takes_it)))
 
   -- a machine finds a fit word
   finds_fit : (number : ℕ) (actor : Actor) → slice_get stage.machines number ≡ Some actor → FindsFit config stage actor
-  finds_fit number actor here = by_machine actor.machine refl
+  finds_fit number actor actor_there = by_machine actor.machine refl
     where
       named : {machine : Machine} → actor.machine ≡ machine → Some actor ≡ Some (record { machine = machine; command = actor.command; calls = actor.calls })
-      named is = ap (λ machine. Some (record { machine = machine; command = actor.command; calls = actor.calls })) is
+      named same_machine = ap (λ machine. Some (record { machine = machine; command = actor.command; calls = actor.calls })) same_machine
 
       by_machine : (machine : Machine) → actor.machine ≡ machine → FindsFit config stage actor
-      by_machine (mutating m) is =
-          let thread = thread_of number actor m (record { here = here; is = is }) in
+      by_machine (mutating m) same_machine =
+          let thread = thread_of number actor m (record { here = actor_there; is = same_machine }) in
           record {
-            inside = λ order takes.
-                subst (λ machine. table_index (plan_of config order machine) < table_words config) (sym is)
-                (subst (λ k. k < table_words config) (sym (table_index-access_at (word_at config (touch_of config m order).word) (touch_of config m order).form))
-                (word_inside config (touch_of config m order).word (is_word_true config (touch_of config m order).word
-                (order_word config m.seat m.made m.kept order m.spot thread.mine.seated.below thread.mine.ready (ap (λ machine. takes_of machine order) (sym is) ∙ takes)))));
-            fit = λ order takes.
-                subst (λ machine. IsFitFor config order (slice_index stage.words (table_index (plan_of config order machine))) machine) (sym is)
-                (fit_mutator number actor m order here is (ap (λ machine. takes_of machine order) (sym is) ∙ takes));
+            inside = λ any_order takes.
+                subst (λ machine. table_index (plan_of config any_order machine) < table_words config) (sym same_machine)
+                (subst (λ control. control < table_words config) (sym (table_index-access_at (word_at config (touch_of config m any_order).word) (touch_of config m any_order).form))
+                (word_inside config (touch_of config m any_order).word (is_word_true config (touch_of config m any_order).word
+                (order_word config m.seat m.made m.kept any_order m.spot thread.mine.seated.below thread.mine.ready (ap (λ machine. takes_of machine any_order) (sym same_machine) ∙ takes)))));
+            fit = λ any_order takes.
+                subst (λ machine. IsFitFor config any_order (slice_index stage.words (table_index (plan_of config any_order machine))) machine) (sym same_machine)
+                (fit_mutator number actor m any_order actor_there same_machine (ap (λ machine. takes_of machine any_order) (sym same_machine) ∙ takes));
           }
-      by_machine (helping m) is = record {
-        inside = λ order takes. subst (λ machine. table_index (plan_of config order machine) < table_words config) (sym is)
-            (helper_inside change law config graph stage entries goes.follows goes.shaken number order m actor.command actor.calls (here ∙ named is) (ap (λ machine. takes_of machine order) (sym is) ∙ takes));
-        fit = λ order takes. subst (λ machine. IsFitFor config order (slice_index stage.words (table_index (plan_of config order machine))) machine) (sym is)
-            (helper_fit change law config graph stage entries goes.follows goes.shaken number order m actor.command actor.calls (here ∙ named is) (ap (λ machine. takes_of machine order) (sym is) ∙ takes));
+      by_machine (helping m) same_machine = record {
+        inside = λ any_order takes. subst (λ machine. table_index (plan_of config any_order machine) < table_words config) (sym same_machine)
+            (helper_inside change law config graph stage entries history_goes.follows history_goes.shaken number any_order m actor.command actor.calls (actor_there ∙ named same_machine) (ap (λ machine. takes_of machine any_order) (sym same_machine) ∙ takes));
+        fit = λ any_order takes. subst (λ machine. IsFitFor config any_order (slice_index stage.words (table_index (plan_of config any_order machine))) machine) (sym same_machine)
+            (helper_fit change law config graph stage entries history_goes.follows history_goes.shaken number any_order m actor.command actor.calls (actor_there ∙ named same_machine) (ap (λ machine. takes_of machine any_order) (sym same_machine) ∙ takes));
       }
-      by_machine (controlling k) is = record {
-        inside = λ order takes. subst (λ machine. table_index (plan_of config order machine) < table_words config) (sym is)
-            (control_inside change law config graph stage entries goes.follows goes.shaken number order k actor.command actor.calls (here ∙ named is) (ap (λ machine. takes_of machine order) (sym is) ∙ takes));
-        fit = λ order takes. subst (λ machine. IsFitFor config order (slice_index stage.words (table_index (plan_of config order machine))) machine) (sym is)
-            (control_fit change law config graph stage entries goes.follows goes.shaken number order k actor.command actor.calls (here ∙ named is) (ap (λ machine. takes_of machine order) (sym is) ∙ takes));
+      by_machine (controlling control) same_machine = record {
+        inside = λ any_order takes. subst (λ machine. table_index (plan_of config any_order machine) < table_words config) (sym same_machine)
+            (control_inside change law config graph stage entries history_goes.follows history_goes.shaken number any_order control actor.command actor.calls (actor_there ∙ named same_machine) (ap (λ machine. takes_of machine any_order) (sym same_machine) ∙ takes));
+        fit = λ any_order takes. subst (λ machine. IsFitFor config any_order (slice_index stage.words (table_index (plan_of config any_order machine))) machine) (sym same_machine)
+            (control_fit change law config graph stage entries history_goes.follows history_goes.shaken number any_order control actor.command actor.calls (actor_there ∙ named same_machine) (ap (λ machine. takes_of machine any_order) (sym same_machine) ∙ takes));
       }
 
   -- of its machines
   of_heap : IsOfHeap config stage
   of_heap = record {
-    words = goes.follows.words;
-    machines = goes.follows.seats;
-    roles = λ number actor there. number_of config stage.words the_world (of_thread entries (number + 1)) number actor actor.machine (known number actor there);
-    mutators = λ number below.
-        let there = machine_there config stage.words the_world entries stage.machines goes.follows.seats number (omega (arith, below)) in
-        let role = mutator_of config number there.0.machine (number_of config stage.words the_world (of_thread entries (number + 1)) number there.0 there.0.machine (known number there.0 there.1)) below in
-        record { actor = there.0; mutator = role.0; here = record { here = there.1; is = role.1 } };
-    numbers = λ number actor mutator here. let thread = thread_of number actor mutator here in (thread.number_is, subst (λ k. k < config.mutators) thread.number_is thread.mine.seated.below);
+    words = history_goes.follows.words;
+    machines = history_goes.follows.seats;
+    roles = λ number actor machine_found. number_of config stage.words the_world (of_thread entries (number + 1)) number actor actor.machine (known number actor machine_found);
+    mutators = λ number number_below.
+        let machine_found = machine_there config stage.words the_world entries stage.machines history_goes.follows.seats number (omega (arith, number_below)) in
+        let role = mutator_of config number machine_found.0.machine (number_of config stage.words the_world (of_thread entries (number + 1)) number machine_found.0 machine_found.0.machine (known number machine_found.0 machine_found.1)) number_below in
+        record { actor = machine_found.0; mutator = role.0; here = record { here = machine_found.1; is = role.1 } };
+    numbers = λ number actor mutator mutator_known. let thread = thread_of number actor mutator mutator_known in (thread.number_is, subst (λ any_seat. any_seat < config.mutators) thread.number_is thread.mine.seated.below);
   }
 
   -- of all: it is sound
   sound : AreCrowded config.regions config.region_words graph (scripts_begun config stage) entries → IsSound config graph stage entries
   sound crowded = record {
     of_heap = of_heap;
-    stands = stands config graph stage entries goes;
-    legal = goes.follows.legal;
+    stands = stands config graph stage entries history_goes;
+    legal = history_goes.follows.legal;
     crowded = crowded;
-    entries = goes.follows.entries;
-    no_more = goes.follows.no_more;
-    no_more_pins = goes.follows.no_more_pins;
-    pinned = λ mutator slot below small. pin_held config the_world goes.follows.shared (the_world.memory (Pin mutator slot)) (the_world.graph.pin (mutator + 1) slot) (goes.follows.shared.pinned mutator slot below small);
-    threads = λ number a m here.
-        let thread = thread_of number a m here in
-        let seen = subst (λ mutator. IsSeen (view config stage.words (Answer number)) (the_world.memory (Answer mutator)) thread.fixed) (sym thread.number_is) thread.seen in
+    entries = history_goes.follows.entries;
+    no_more = history_goes.follows.no_more;
+    no_more_pins = history_goes.follows.no_more_pins;
+    pinned = λ mutator slot mutator_below small. pin_held config the_world history_goes.follows.shared (the_world.memory (Pin mutator slot)) (the_world.graph.pin (mutator + 1) slot) (history_goes.follows.shared.pinned mutator slot mutator_below small);
+    threads = λ number actor some_mutator mutator_known.
+        let thread = thread_of number actor some_mutator mutator_known in
+        let answer_seen = subst (λ mutator. IsSeen (view config stage.words (Answer number)) (the_world.memory (Answer mutator)) thread.fixed) (sym thread.number_is) thread.seen in
         record {
           fixed = thread.fixed;
           entries_are = thread.entries_are;
-          between_calls = λ rest. unsettled_at_rest config the_world m.seat m.made m.kept a.command thread.fixed m.spot rest thread.mine.facts;
-          before_it = λ before. unsettled_before config the_world m.seat m.made m.kept a.command thread.fixed (view config stage.words (Answer number)) seen goes.follows.shared m.spot before thread.mine.facts;
-          after_it = λ behind. settled_after config the_world m.seat m.made m.kept a.command thread.fixed (view config stage.words (Answer number)) seen goes.follows.shared m.spot behind thread.mine.facts;
-          gives = λ reply is. gives_settled config the_world m.seat m.kept a.command thread.fixed m.spot m.made reply thread.mine.facts is;
-          took = λ reply is. took_settled config the_world m.seat m.made m.kept a.command thread.fixed m.spot reply is thread.mine.facts;
+          between_calls = λ rest. unsettled_at_rest config the_world some_mutator.seat some_mutator.made some_mutator.kept actor.command thread.fixed some_mutator.spot rest thread.mine.facts;
+          before_it = λ before. unsettled_before config the_world some_mutator.seat some_mutator.made some_mutator.kept actor.command thread.fixed (view config stage.words (Answer number)) answer_seen history_goes.follows.shared some_mutator.spot before thread.mine.facts;
+          after_it = λ behind. settled_after config the_world some_mutator.seat some_mutator.made some_mutator.kept actor.command thread.fixed (view config stage.words (Answer number)) answer_seen history_goes.follows.shared some_mutator.spot behind thread.mine.facts;
+          gives = λ reply reply_is. gives_settled config the_world some_mutator.seat some_mutator.kept actor.command thread.fixed some_mutator.spot some_mutator.made reply thread.mine.facts reply_is;
+          took = λ reply reply_is. took_settled config the_world some_mutator.seat some_mutator.made some_mutator.kept actor.command thread.fixed some_mutator.spot reply reply_is thread.mine.facts;
         };
     fit = finds_fit;
   }
 
   -- of a machine that is about to look for a free region
   lacks_room : (number : ℕ) (actor : Actor) (words : ℕ) → slice_get stage.machines number ≡ Some actor → looks_for actor.machine ≡ Some words → HasLess (settled config stage) number words
-  lacks_room number actor words here looks = lacks the_world number words (taking_of actor.machine) looks (in_seat config stage.words the_world (of_thread entries (number + 1)) number actor actor.machine (known number actor here)).takes
+  lacks_room number actor words actor_there looks = lacks the_world number words (taking_of actor.machine) looks (in_seat config stage.words the_world (of_thread entries (number + 1)) number actor actor.machine (known number actor actor_there)).takes
 
   -- what the control has read of the image is as the table has it
   aims_of : (number : ℕ) (actor : Actor) (control : Controlling) → slice_get stage.machines number ≡ Some actor → actor.machine ≡ controlling control → (is_ready config control.spot ≡ true) × IsAim config stage.words control.spot control.image
-  aims_of number actor control here is =
-      let facts = subst (λ machine. IsMachine config stage.words the_world (of_thread entries (number + 1)) number actor machine) is (known number actor here) in
+  aims_of number actor control actor_there control_machine =
+      let facts = subst (λ any_machine. IsMachine config stage.words the_world (of_thread entries (number + 1)) number actor any_machine) control_machine (known number actor actor_there) in
       (facts.ready, facts.aims)
 
 -- In a pause no machine but the control is in the heap.
 pub outside_in_pause : (config : Config) (stage : Stage Actor) → IsKept config stage → IsInPause config stage → (number : ℕ) (actor : Actor) → number < control_number config → slice_get stage.machines number ≡ Some actor → is_within (standing_of actor.machine) ≡ false
-outside_in_pause config stage shaken pause number actor below here =
-    let same : shaken.control ≡ pause.actor = same_Some shaken.control pause.actor (sym shaken.there ∙ pause.here) in
-    pause_empty config standing stage shaken (ap is_pausing (ap standing same ∙ ap standing_of pause.is) ∙ pause.pausing) number actor below here
+outside_in_pause config stage shaken pause number actor number_below actor_there =
+    let same_control : shaken.control ≡ pause.actor = same_Some shaken.control pause.actor (sym shaken.there ∙ pause.here) in
+    pause_empty config standing stage shaken (ap is_pausing (ap standing same_control ∙ ap standing_of pause.is) ∙ pause.pausing) number actor number_below actor_there
 
 -- No mutator and no helper is, and each leaves the image alone.
 pause_is_empty : (change : Change) → PausesByParts change → (config : Config) (graph : Graph) (stage : Stage Actor) (entries : List Entry) → Goes config graph stage entries → IsInPause config stage → IsEmpty config stage
-pause_is_empty change law config graph stage entries goes pause = record {
+pause_is_empty change law config graph stage entries history_goes pause = record {
   nobody = out;
   no_helper = help_out;
-  no_access = λ number actor m order here.
-      let helper : Helping = helping_by config order m in
-      help_leaves_image config helper.seat helper.spot (ap is_within (help_hinted_stands config (hint_in order) m) ∙ help_out number actor m here);
-  only_polls = λ number actor mutator order here takes. outside_touch config mutator.seat mutator.made mutator.kept order mutator.spot (out number actor mutator here) takes;
+  no_access = λ number actor some_helper order machine_known.
+      let helper : Helping = helping_by config order some_helper in
+      help_leaves_image config helper.seat helper.spot (ap is_within (help_hinted_stands config (hint_in order) some_helper) ∙ help_out number actor some_helper machine_known);
+  only_polls = λ number actor mutator order machine_known takes. outside_touch config mutator.seat mutator.made mutator.kept order mutator.spot (out number actor mutator machine_known) takes;
 }
   where
-    out : (number : ℕ) (actor : Actor) (m : Mutating) → IsMutator stage number actor m → is_within (standing_at m.spot) ≡ false
-    out number actor m here =
-        let thread = thread_of change law config graph stage entries goes number actor m here in
-        let below : number < control_number config = (let less = subst (λ k. k < config.mutators) thread.number_is thread.mine.seated.below in omega (arith, less)) in
-        ap (λ machine. is_within (standing_of machine)) (sym here.is) ∙ outside_in_pause config stage goes.shaken pause number actor below here.here
+    out : (number : ℕ) (actor : Actor) (mutator : Mutating) → IsMutator stage number actor mutator → is_within (standing_at mutator.spot) ≡ false
+    out number actor mutator mutator_known =
+        let thread = thread_of change law config graph stage entries history_goes number actor mutator mutator_known in
+        let number_below : number < control_number config = (let seat_less = subst (λ any_seat. any_seat < config.mutators) thread.number_is thread.mine.seated.below in omega (arith, seat_less)) in
+        ap (λ machine. is_within (standing_of machine)) (sym mutator_known.is) ∙ outside_in_pause config stage history_goes.shaken pause number actor number_below mutator_known.here
 
-    help_out : (number : ℕ) (actor : Actor) (m : Helping) → IsHelper stage number actor m → is_within (help_standing m.spot) ≡ false
-    help_out number actor m here =
-        let facts = subst (λ machine. IsMachine config stage.words (world_of config stage goes.follows.block goes.follows.ghost (after graph entries)) (of_thread entries (number + 1)) number actor machine) here.is (goes.follows.machines number actor here.here) in
-        ap (λ machine. is_within (standing_of machine)) (sym here.is) ∙ outside_in_pause config stage goes.shaken pause number actor facts.below here.here
+    help_out : (number : ℕ) (actor : Actor) (helper : Helping) → IsHelper stage number actor helper → is_within (help_standing helper.spot) ≡ false
+    help_out number actor helper helper_known =
+        let facts = subst (λ machine. IsMachine config stage.words (world_of config stage history_goes.follows.block history_goes.follows.ghost (after graph entries)) (of_thread entries (number + 1)) number actor machine) helper_known.is (history_goes.follows.machines number actor helper_known.here) in
+        ap (λ machine. is_within (standing_of machine)) (sym helper_known.is) ∙ outside_in_pause config stage history_goes.shaken pause number actor facts.below helper_known.here
 
 module _ (change : Change) (law : PausesByParts change) (config : Config) (stage : Stage Actor) (graph : Graph) (begins : Begins config stage graph) where
   -- in each stage that events lead to all goes as it should
@@ -282,16 +282,16 @@ module _ (change : Change) (law : PausesByParts change) (config : Config) (stage
 
   -- a machine that is reached makes an access of the table
   pub reached_inside : (number : ℕ) (actor : Actor) (order : Order) → HasReached (kind change config) stage number actor → takes_of actor.machine order ≡ true → table_index (plan_of config order actor.machine) < table_words config
-  reached_inside number actor order has takes =
-      (reached_has (kind change config) (λ t. slice_get t.machines number ≡ Some actor → table_index (plan_of config order actor.machine) < table_words config) stage has.stage
-      (λ events here. ((every_run events).fit number actor here).inside order takes) has.reached) has.here
+  reached_inside number actor order has_reached takes =
+      (reached_has (kind change config) (λ some_stage. slice_get some_stage.machines number ≡ Some actor → table_index (plan_of config order actor.machine) < table_words config) stage has_reached.stage
+      (λ events actor_there. ((every_run events).fit number actor actor_there).inside order takes) has_reached.reached) has_reached.here
 
   -- a word that a machine finds in some run is fit
   pub found_fit : (number : ℕ) (actor : Actor) (order : Order) (told_it : ℕ) → Finds (kind change config) stage number actor order told_it → IsFitFor config order told_it actor.machine
   unfolding kind
   found_fit number actor order told_it finds =
-      (reached_has (kind change config) (λ t. slice_get t.machines number ≡ Some actor → told_it ≡ slice_index t.words (table_index (plan_of config order actor.machine)) → IsFitFor config order told_it actor.machine) stage finds.stage
-      (λ events here found. subst (λ n. IsFitFor config order n actor.machine) (sym found) (((every_run events).fit number actor here).fit order finds.takes))
+      (reached_has (kind change config) (λ some_stage. slice_get some_stage.machines number ≡ Some actor → told_it ≡ slice_index some_stage.words (table_index (plan_of config order actor.machine)) → IsFitFor config order told_it actor.machine) stage finds.stage
+      (λ events actor_there word_found. subst (λ found_word. IsFitFor config order found_word actor.machine) (sym word_found) (((every_run events).fit number actor actor_there).fit order finds.takes))
       finds.reached) finds.here finds.found
 
   -- what the control has read of the image is as the table has it
@@ -309,7 +309,7 @@ module _ (change : Change) (law : PausesByParts change) (config : Config) (stage
   run_lacks_room events = lacks_room change law config graph (go (kind change config) stage events) (history change config stage events) (goes_all events)
 
   -- a heap at rest
-  pub run_rests : (events : List (Event Order)) → IsAtRest config (go (kind change config) stage events) → Represents config (settled config (go (kind change config) stage events)) (after graph (history change config stage events)) (λ t. nothing)
+  pub run_rests : (events : List (Event Order)) → IsAtRest config (go (kind change config) stage events) → Represents config (settled config (go (kind change config) stage events)) (after graph (history change config stage events)) (λ thread. nothing)
   run_rests events = at_rest config graph (go (kind change config) stage events) (history change config stage events) (goes_all events)
 
 -- where a run leads is sound

@@ -40,36 +40,36 @@ use Rattle.step_core.proofs.Helpers.Stable.{help_word, help_fits, help_fits_outs
 use Rattle.step_core.proofs.Theorem.Hinted.{replaced, there, follows_replaced, kept_replaced, helper_takes_place, control_takes_place}
 
 -- Under no order.
-module _ (change : Change) (law : PausesByParts change) (config : Config) (graph : Graph) (stage : Stage Actor) (entries : List Entry) (follows : Follows config graph stage entries) (shaken : IsKept config stage)
+module _ (change : Change) (law : PausesByParts change) (config : Config) (graph : Graph) (stage : Stage Actor) (entries : List Entry) (stage_follows : Follows config graph stage entries) (shaken : IsKept config stage)
     (number : ℕ) (command : Command) (calls : List Entry) where
   abbrev the_world : World
-  the_world = world_of config stage follows.block follows.ghost (after graph entries)
+  the_world = world_of config stage stage_follows.block stage_follows.ghost (after graph entries)
 
   abbrev actor_of : Machine → Actor
   actor_of machine = record { machine = machine; command = command; calls = calls }
 
   helper_is : (helper : Helping) → slice_get stage.machines number ≡ Some (actor_of (helping helper)) → IsHelper config the_world number helper
-  helper_is helper here = follows.machines number (actor_of (helping helper)) here
+  helper_is helper helper_there = stage_follows.machines number (actor_of (helping helper)) helper_there
 
   helper_by_itself : (helper : Helping) → slice_get stage.machines number ≡ Some (actor_of (helping helper)) → table_index (placed config (help_touch config helper)) < table_words config
-  helper_by_itself helper here =
-      subst (λ k. k < table_words config) (sym (table_index-access_at (word_at config (help_touch config helper).word) (help_touch config helper).form))
-      (word_inside config (help_touch config helper).word (help_word config the_world number helper follows.shared (helper_is helper here)))
+  helper_by_itself helper helper_there =
+      subst (λ any_index. any_index < table_words config) (sym (table_index-access_at (word_at config (help_touch config helper).word) (help_touch config helper).form))
+      (word_inside config (help_touch config helper).word (help_word config the_world number helper stage_follows.shared (helper_is helper helper_there)))
 
   fit_by_itself : (helper : Helping) → slice_get stage.machines number ≡ Some (actor_of (helping helper)) → help.IsFit config helper (slice_index stage.words (table_index (placed config (help_touch config helper))))
-  fit_by_itself helper here = ⊎_elim
-      (λ (within : is_within (help_standing helper.spot) ≡ true).
-      subst (λ got. help.IsFit config helper got) (sym (settled_found config stage.words (help_touch config helper) (held_image config stage) (is_word_from config (help_touch config helper).word (help_word config the_world number helper follows.shared (helper_is helper here)))
-      (λ image held. absurd (false≢true (sym (outside_held config stage shaken image held number (actor_of (helping helper)) (helper_is helper here).below here) ∙ within)))))
-      (help_fits config the_world number helper follows.shared (helper_is helper here)))
-      (λ (out : is_within (help_standing helper.spot) ≡ false). help_fits_outside config helper.seat helper.spot _ out)
+  fit_by_itself helper helper_there = ⊎_elim
+      (λ (helper_within : is_within (help_standing helper.spot) ≡ true).
+      subst (λ got. help.IsFit config helper got) (sym (settled_found config stage.words (help_touch config helper) (held_image config stage) (is_word_from config (help_touch config helper).word (help_word config the_world number helper stage_follows.shared (helper_is helper helper_there)))
+      (λ image image_held. absurd (false≢true (sym (outside_held config stage shaken image image_held number (actor_of (helping helper)) (helper_is helper helper_there).below helper_there) ∙ helper_within)))))
+      (help_fits config the_world number helper stage_follows.shared (helper_is helper helper_there)))
+      (λ (helper_outside : is_within (help_standing helper.spot) ≡ false). help_fits_outside config helper.seat helper.spot _ helper_outside)
       (cases_Bool (is_within (help_standing helper.spot)))
 
   control_is : (control : Controlling) → slice_get stage.machines number ≡ Some (actor_of (controlling control)) → IsControl config stage.words the_world number control
-  control_is control here = follows.machines number (actor_of (controlling control)) here
+  control_is control control_there = stage_follows.machines number (actor_of (controlling control)) control_there
 
   control_by_itself : (control : Controlling) → slice_get stage.machines number ≡ Some (actor_of (controlling control)) → table_index (control_access config control) < table_words config
-  control_by_itself control here = accesses_inside config control.spot (word_stored control.spot control.image) (control_is control here).ready
+  control_by_itself control control_there = accesses_inside config control.spot (word_stored control.spot control.image) (control_is control control_there).ready
 
   -- the control at a spot
   module _ (seen phase cset hints : ℕ) (image : List ℕ) where
@@ -77,16 +77,16 @@ module _ (change : Change) (law : PausesByParts change) (config : Config) (graph
     control_at spot = record { spot = spot; seen = seen; phase = phase; cset = cset; hints = hints; image = image }
 
     fit_whole : (spot : ControlSpot) → slice_get stage.machines number ≡ Some (actor_of (controlling (control_at spot))) → IsWholeImage config phase spot image (slice_index stage.words (table_index (control_access config (control_at spot))))
-    fit_whole (LoadWord index extent) here = λ all. whole_stands change law config graph stage entries number seen phase cset hints image command calls follows shaken index extent here all
-    fit_whole _ here = tt
+    fit_whole (LoadWord index extent) control_there = λ all_words. whole_stands change law config graph stage entries number seen phase cset hints image command calls stage_follows shaken index extent control_there all_words
+    fit_whole _ control_there = tt
 
     fit_unit : (spot : ControlSpot) → slice_get stage.machines number ≡ Some (actor_of (controlling (control_at spot))) → UnitGoesOn config spot (slice_index stage.words (table_index (control_access config (control_at spot))))
-    fit_unit (Working spot) here = work_fit change law config graph stage entries number seen phase cset hints image command calls follows shaken spot here
-    fit_unit _ here = tt
+    fit_unit (Working spot) control_there = work_fit change law config graph stage entries number seen phase cset hints image command calls stage_follows shaken spot control_there
+    fit_unit _ control_there = tt
 
   control_fit_by_itself : (control : Controlling) → slice_get stage.machines number ≡ Some (actor_of (controlling control))
       → IsWholeImage config control.phase control.spot control.image (slice_index stage.words (table_index (control_access config control))) × UnitGoesOn config control.spot (slice_index stage.words (table_index (control_access config control)))
-  control_fit_by_itself control here = (fit_whole control.seen control.phase control.cset control.hints control.image control.spot here, fit_unit control.seen control.phase control.cset control.hints control.image control.spot here)
+  control_fit_by_itself control control_there = (fit_whole control.seen control.phase control.cset control.hints control.image control.spot control_there, fit_unit control.seen control.phase control.cset control.hints control.image control.spot control_there)
 
 -- who takes a hint loads no image
 whole_hinted : (config : Config) (phase : ℕ) (spot : ControlSpot) (image : List ℕ) (got : ℕ) → controls.takes_hint spot ≡ true → IsWholeImage config phase spot image got
@@ -94,59 +94,59 @@ whole_hinted config phase (Working spot) image got takes = tt
 whole_hinted config phase _ image got takes = absurd (cc (takes))
 
 -- Under each order: with a hint it is so in the stage in which the machine goes on with the hint.
-module _ (change : Change) (law : PausesByParts change) (config : Config) (graph : Graph) (stage : Stage Actor) (entries : List Entry) (follows : Follows config graph stage entries) (shaken : IsKept config stage) (number : ℕ) where
+module _ (change : Change) (law : PausesByParts change) (config : Config) (graph : Graph) (stage : Stage Actor) (entries : List Entry) (stage_follows : Follows config graph stage entries) (shaken : IsKept config stage) (number : ℕ) where
   abbrev named : Machine → Command → List Entry → Actor
   named machine command calls = record { machine = machine; command = command; calls = calls }
 
   pub helper_inside : (order : Order) (helper : Helping) (command : Command) (calls : List Entry) → slice_get stage.machines number ≡ Some (named (helping helper) command calls) → takes_of (helping helper) order ≡ true
       → table_index (plan_of config order (helping helper)) < table_words config
-  helper_inside Nothing helper command calls here takes = helper_by_itself change law config graph stage entries follows shaken number command calls helper here
-  helper_inside (Hint address) helper command calls here takes =
-      let place = helper_takes_place config number (Hint address) helper command calls in
-      let next : Helping = helping_by config (Hint address) helper in
-      helper_by_itself change law config graph (replaced config stage number (named (helping helper) command calls) (named (helping next) command calls) here place) entries
-      (follows_replaced config stage number (named (helping helper) command calls) (named (helping next) command calls) here place graph entries follows)
-      (kept_replaced config stage number (named (helping helper) command calls) (named (helping next) command calls) here place shaken) number command calls next
-      (there config stage number (named (helping helper) command calls) (named (helping next) command calls) here place)
-  helper_inside (Begin begun) helper command calls here takes = absurd (cc (takes))
-  helper_inside End helper command calls here takes = absurd (cc (takes))
+  helper_inside Nothing helper command calls helper_there takes = helper_by_itself change law config graph stage entries stage_follows shaken number command calls helper helper_there
+  helper_inside (Hint address) helper command calls helper_there takes =
+      let hint_place = helper_takes_place config number (Hint address) helper command calls in
+      let next_helper : Helping = helping_by config (Hint address) helper in
+      helper_by_itself change law config graph (replaced config stage number (named (helping helper) command calls) (named (helping next_helper) command calls) helper_there hint_place) entries
+      (follows_replaced config stage number (named (helping helper) command calls) (named (helping next_helper) command calls) helper_there hint_place graph entries stage_follows)
+      (kept_replaced config stage number (named (helping helper) command calls) (named (helping next_helper) command calls) helper_there hint_place shaken) number command calls next_helper
+      (there config stage number (named (helping helper) command calls) (named (helping next_helper) command calls) helper_there hint_place)
+  helper_inside (Begin begun) helper command calls helper_there takes = absurd (cc (takes))
+  helper_inside End helper command calls helper_there takes = absurd (cc (takes))
 
   pub helper_fit : (order : Order) (helper : Helping) (command : Command) (calls : List Entry) → slice_get stage.machines number ≡ Some (named (helping helper) command calls) → takes_of (helping helper) order ≡ true
       → IsFitFor config order (slice_index stage.words (table_index (plan_of config order (helping helper)))) (helping helper)
-  helper_fit Nothing helper command calls here takes = fit_by_itself change law config graph stage entries follows shaken number command calls helper here
-  helper_fit (Hint address) helper command calls here takes =
-      let place = helper_takes_place config number (Hint address) helper command calls in
-      let next : Helping = helping_by config (Hint address) helper in
-      fit_by_itself change law config graph (replaced config stage number (named (helping helper) command calls) (named (helping next) command calls) here place) entries
-      (follows_replaced config stage number (named (helping helper) command calls) (named (helping next) command calls) here place graph entries follows)
-      (kept_replaced config stage number (named (helping helper) command calls) (named (helping next) command calls) here place shaken) number command calls next
-      (there config stage number (named (helping helper) command calls) (named (helping next) command calls) here place)
-  helper_fit (Begin begun) helper command calls here takes = absurd (cc (takes))
-  helper_fit End helper command calls here takes = absurd (cc (takes))
+  helper_fit Nothing helper command calls helper_there takes = fit_by_itself change law config graph stage entries stage_follows shaken number command calls helper helper_there
+  helper_fit (Hint address) helper command calls helper_there takes =
+      let hint_place = helper_takes_place config number (Hint address) helper command calls in
+      let next_helper : Helping = helping_by config (Hint address) helper in
+      fit_by_itself change law config graph (replaced config stage number (named (helping helper) command calls) (named (helping next_helper) command calls) helper_there hint_place) entries
+      (follows_replaced config stage number (named (helping helper) command calls) (named (helping next_helper) command calls) helper_there hint_place graph entries stage_follows)
+      (kept_replaced config stage number (named (helping helper) command calls) (named (helping next_helper) command calls) helper_there hint_place shaken) number command calls next_helper
+      (there config stage number (named (helping helper) command calls) (named (helping next_helper) command calls) helper_there hint_place)
+  helper_fit (Begin begun) helper command calls helper_there takes = absurd (cc (takes))
+  helper_fit End helper command calls helper_there takes = absurd (cc (takes))
 
   pub control_inside : (order : Order) (control : Controlling) (command : Command) (calls : List Entry) → slice_get stage.machines number ≡ Some (named (controlling control) command calls) → takes_of (controlling control) order ≡ true
       → table_index (plan_of config order (controlling control)) < table_words config
-  control_inside Nothing control command calls here takes = control_by_itself change law config graph stage entries follows shaken number command calls control here
-  control_inside (Hint address) control command calls here takes =
-      let place = control_takes_place config number (Hint address) control command calls in
-      let next : Controlling = controlling_by config (Hint address) control in
-      control_by_itself change law config graph (replaced config stage number (named (controlling control) command calls) (named (controlling next) command calls) here place) entries
-      (follows_replaced config stage number (named (controlling control) command calls) (named (controlling next) command calls) here place graph entries follows)
-      (kept_replaced config stage number (named (controlling control) command calls) (named (controlling next) command calls) here place shaken) number command calls next
-      (there config stage number (named (controlling control) command calls) (named (controlling next) command calls) here place)
-  control_inside (Begin begun) control command calls here takes = absurd (cc (takes))
-  control_inside End control command calls here takes = absurd (cc (takes))
+  control_inside Nothing control command calls control_there takes = control_by_itself change law config graph stage entries stage_follows shaken number command calls control control_there
+  control_inside (Hint address) control command calls control_there takes =
+      let hint_place = control_takes_place config number (Hint address) control command calls in
+      let next_control : Controlling = controlling_by config (Hint address) control in
+      control_by_itself change law config graph (replaced config stage number (named (controlling control) command calls) (named (controlling next_control) command calls) control_there hint_place) entries
+      (follows_replaced config stage number (named (controlling control) command calls) (named (controlling next_control) command calls) control_there hint_place graph entries stage_follows)
+      (kept_replaced config stage number (named (controlling control) command calls) (named (controlling next_control) command calls) control_there hint_place shaken) number command calls next_control
+      (there config stage number (named (controlling control) command calls) (named (controlling next_control) command calls) control_there hint_place)
+  control_inside (Begin begun) control command calls control_there takes = absurd (cc (takes))
+  control_inside End control command calls control_there takes = absurd (cc (takes))
 
   pub control_fit : (order : Order) (control : Controlling) (command : Command) (calls : List Entry) → slice_get stage.machines number ≡ Some (named (controlling control) command calls) → takes_of (controlling control) order ≡ true
       → IsFitFor config order (slice_index stage.words (table_index (plan_of config order (controlling control)))) (controlling control)
-  control_fit Nothing control command calls here takes = control_fit_by_itself change law config graph stage entries follows shaken number command calls control here
-  control_fit (Hint address) control command calls here takes =
-      let place = control_takes_place config number (Hint address) control command calls in
-      let next : Controlling = controlling_by config (Hint address) control in
-      let fit = control_fit_by_itself change law config graph (replaced config stage number (named (controlling control) command calls) (named (controlling next) command calls) here place) entries
-      (follows_replaced config stage number (named (controlling control) command calls) (named (controlling next) command calls) here place graph entries follows)
-      (kept_replaced config stage number (named (controlling control) command calls) (named (controlling next) command calls) here place shaken) number command calls next
-      (there config stage number (named (controlling control) command calls) (named (controlling next) command calls) here place) in
-      (whole_hinted config control.phase control.spot control.image _ (and_parts _ _ takes).0, fit.1)
-  control_fit (Begin begun) control command calls here takes = absurd (cc (takes))
-  control_fit End control command calls here takes = absurd (cc (takes))
+  control_fit Nothing control command calls control_there takes = control_fit_by_itself change law config graph stage entries stage_follows shaken number command calls control control_there
+  control_fit (Hint address) control command calls control_there takes =
+      let hint_place = control_takes_place config number (Hint address) control command calls in
+      let next_control : Controlling = controlling_by config (Hint address) control in
+      let control_fits = control_fit_by_itself change law config graph (replaced config stage number (named (controlling control) command calls) (named (controlling next_control) command calls) control_there hint_place) entries
+      (follows_replaced config stage number (named (controlling control) command calls) (named (controlling next_control) command calls) control_there hint_place graph entries stage_follows)
+      (kept_replaced config stage number (named (controlling control) command calls) (named (controlling next_control) command calls) control_there hint_place shaken) number command calls next_control
+      (there config stage number (named (controlling control) command calls) (named (controlling next_control) command calls) control_there hint_place) in
+      (whole_hinted config control.phase control.spot control.image _ (and_parts _ _ takes).0, control_fits.1)
+  control_fit (Begin begun) control command calls control_there takes = absurd (cc (takes))
+  control_fit End control command calls control_there takes = absurd (cc (takes))

@@ -33,19 +33,19 @@ use Rattle.step_core.proofs.Control.Held.{IsKept}
 use Rattle.step_core.proofs.Machines.Hinting.{help_hinted_is, help_hinted_stands, control_hinted_is, control_hinted_stands, control_hinted_image}
 
 -- a list after two changes at one place
-pub set_twice : {A : Type 0} (xs : List A) (i : ℕ) (x y : A) → slice_set (slice_set xs i x) i y ≡ slice_set xs i y
-set_twice [] i x y = refl
-set_twice (z ∷ zs) zero x y = refl
-set_twice (z ∷ zs) (suc i) x y = ap (λ l. z ∷ l) (set_twice zs i x y)
+pub set_twice : {A : Type 0} (xs : List A) (index : ℕ) (x y : A) → slice_set (slice_set xs index x) index y ≡ slice_set xs index y
+set_twice [] index x y = refl
+set_twice (head ∷ rest) zero x y = refl
+set_twice (head ∷ rest) (suc index) x y = ap (λ tail. head ∷ tail) (set_twice rest index x y)
 
 -- the count of a list after one of its members has changed that counts as before
-count_same : {A : Type 0} (p : A → Bool) (xs : List A) (index : ℕ) (x y : A) → slice_get xs index ≡ Some x → p y ≡ p x → count_by p (slice_set xs index y) ≡ count_by p xs
-count_same p [] index x y here same = refl
-count_same p (z ∷ zs) zero x y here same =
-    let is : z ≡ x = cc (here) in
-    let as_before : p y ≡ p z = same ∙ ap p (sym is) in
-    count_by-cons p y zs ∙ ap (λ b. weight b + count_by p zs) as_before ∙ sym (count_by-cons p z zs)
-count_same p (z ∷ zs) (suc index) x y here same = count_by-cons p z (slice_set zs index y) ∙ ap (λ n. weight (p z) + n) (count_same p zs index x y here same) ∙ sym (count_by-cons p z zs)
+count_same : {A : Type 0} (p : A → Bool) (xs : List A) (index : ℕ) (old_element new_element : A) → slice_get xs index ≡ Some old_element → p new_element ≡ p old_element → count_by p (slice_set xs index new_element) ≡ count_by p xs
+count_same p [] index old_element new_element old_there counts_same = refl
+count_same p (head ∷ rest) zero old_element new_element old_there counts_same =
+    let same_element : head ≡ old_element = cc (old_there) in
+    let as_before : p new_element ≡ p head = counts_same ∙ ap p (sym same_element) in
+    count_by-cons p new_element rest ∙ ap (λ passes. weight passes + count_by p rest) as_before ∙ sym (count_by-cons p head rest)
+count_same p (head ∷ rest) (suc index) old_element new_element old_there counts_same = count_by-cons p head (slice_set rest index new_element) ∙ ap (λ count. weight (p head) + count) (count_same p rest index old_element new_element old_there counts_same) ∙ sym (count_by-cons p head rest)
 
 -- What is the same of a machine and of one in its place: where it stands, and the image that counts; and that is where it should be where
 -- the other is.
@@ -55,106 +55,106 @@ pub record TakesPlace (config : Config) (number : ℕ) (before next : Actor) : T
   pub left : is_left next ≡ is_left before
   pub own : (words : List ℕ) (world : World) (entries : List Entry) → IsMachine config words world entries number before before.machine → IsMachine config words world entries number next next.machine
 
-module _ (config : Config) (stage : Stage Actor) (number : ℕ) (before next : Actor) (here : slice_get stage.machines number ≡ Some before) (takes : TakesPlace config number before next) where
+module _ (config : Config) (stage : Stage Actor) (number : ℕ) (before next_actor : Actor) (before_there : slice_get stage.machines number ≡ Some before) (takes : TakesPlace config number before next_actor) where
   -- the stage with the other machine
   abbrev pub replaced : Stage Actor
-  replaced = record { words = stage.words; machines = slice_set stage.machines number next }
+  replaced = record { words = stage.words; machines = slice_set stage.machines number next_actor }
 
-  pub there : slice_get replaced.machines number ≡ Some next
-  there = slice_get-set_same stage.machines number before next here
+  pub there : slice_get replaced.machines number ≡ Some next_actor
+  there = slice_get-set_same stage.machines number before next_actor before_there
 
   -- each machine is one of the stage before that stands where it does
-  known : (index : ℕ) (actor : Actor) → slice_get replaced.machines index ≡ Some actor → (other_actor : Actor) × (slice_get stage.machines index ≡ Some other_actor) × (standing actor ≡ standing other_actor)
-  known index actor is = ⊎_elim
-      (λ (same : index ≡ number).
-      let new : next ≡ actor = same_Some next actor (sym there ∙ ap (slice_get replaced.machines) (sym same) ∙ is) in
-      (before, ap (slice_get stage.machines) same ∙ here, ap standing (sym new) ∙ takes.stands))
-      (λ (other : index ≢ number). (actor, sym (slice_get-set_other stage.machines number index next other) ∙ is, refl))
+  known : (index : ℕ) (actor : Actor) → slice_get replaced.machines index ≡ Some actor → (known_actor : Actor) × (slice_get stage.machines index ≡ Some known_actor) × (standing actor ≡ standing known_actor)
+  known index actor actor_there = ⊎_elim
+      (λ (same_number : index ≡ number).
+      let new : next_actor ≡ actor = same_Some next_actor actor (sym there ∙ ap (slice_get replaced.machines) (sym same_number) ∙ actor_there) in
+      (before, ap (slice_get stage.machines) same_number ∙ before_there, ap standing (sym new) ∙ takes.stands))
+      (λ (other_number : index ≢ number). (actor, sym (slice_get-set_other stage.machines number index next_actor other_number) ∙ actor_there, refl))
       (cases_eq index number)
 
   -- the image that counts is the same
   image_same : image_of (slice_get replaced.machines (control_number config)) ≡ image_of (slice_get stage.machines (control_number config))
   image_same = ⊎_elim
-      (λ (same : control_number config ≡ number). ap (λ k. image_of (slice_get replaced.machines k)) same ∙ ap image_of there ∙ takes.image ∙ sym (ap image_of here) ∙ ap (λ k. image_of (slice_get stage.machines k)) (sym same))
-      (λ (other : control_number config ≢ number). ap image_of (slice_get-set_other stage.machines number (control_number config) next other))
+      (λ (same_number : control_number config ≡ number). ap (λ any_place. image_of (slice_get replaced.machines any_place)) same_number ∙ ap image_of there ∙ takes.image ∙ sym (ap image_of before_there) ∙ ap (λ any_place. image_of (slice_get stage.machines any_place)) (sym same_number))
+      (λ (other_number : control_number config ≢ number). ap image_of (slice_get-set_other stage.machines number (control_number config) next_actor other_number))
       (cases_eq (control_number config) number)
 
   pub settled_same : settled config replaced ≡ settled config stage
   settled_same = ap (settled_by config stage.words) image_same
 
   -- it follows the same history
-  pub follows_replaced : (graph : Graph) (past : List Entry) → Follows config graph stage past → Follows config graph replaced past
-  follows_replaced graph past follows = record {
-    block = follows.block;
-    ghost = follows.ghost;
-    words = follows.words;
-    seats = length-set stage.machines number next ∙ follows.seats;
-    legal = follows.legal;
-    entries = follows.entries;
-    no_more = follows.no_more;
-    no_more_pins = follows.no_more_pins;
-    shared = subst (λ memory. Shared config (now memory)) (sym settled_same) follows.shared;
-    promised_to = follows.promised_to;
-    machines = λ k actor is. subst (λ memory. IsMachine config stage.words (now memory) (of_thread past (k + 1)) k actor actor.machine) (sym settled_same) (machine_of k actor is);
+  pub follows_replaced : (graph : Graph) (past_entries : List Entry) → Follows config graph stage past_entries → Follows config graph replaced past_entries
+  follows_replaced graph past_entries stage_follows = record {
+    block = stage_follows.block;
+    ghost = stage_follows.ghost;
+    words = stage_follows.words;
+    seats = length-set stage.machines number next_actor ∙ stage_follows.seats;
+    legal = stage_follows.legal;
+    entries = stage_follows.entries;
+    no_more = stage_follows.no_more;
+    no_more_pins = stage_follows.no_more_pins;
+    shared = subst (λ any_memory. Shared config (now any_memory)) (sym settled_same) stage_follows.shared;
+    promised_to = stage_follows.promised_to;
+    machines = λ place actor has_actor. subst (λ any_memory. IsMachine config stage.words (now any_memory) (of_thread past_entries (place + 1)) place actor actor.machine) (sym settled_same) (machine_of place actor has_actor);
   }
     where
       now : (Word → ℕ) → World
-      now memory = record { memory = memory; block = follows.block; ghost = follows.ghost; graph = after graph past }
+      now any_memory = record { memory = any_memory; block = stage_follows.block; ghost = stage_follows.ghost; graph = after graph past_entries }
 
-      machine_of : (k : ℕ) (actor : Actor) → slice_get replaced.machines k ≡ Some actor → IsMachine config stage.words (now (settled config stage)) (of_thread past (k + 1)) k actor actor.machine
-      machine_of k actor is = ⊎_elim
-          (λ (same : k ≡ number).
-          let new : next ≡ actor = same_Some next actor (sym there ∙ ap (slice_get replaced.machines) (sym same) ∙ is) in
-          subst (λ j. IsMachine config stage.words (now (settled config stage)) (of_thread past (j + 1)) j actor actor.machine) (sym same)
-          (subst (λ a. IsMachine config stage.words (now (settled config stage)) (of_thread past (number + 1)) number a a.machine) new
-          (takes.own stage.words (now (settled config stage)) (of_thread past (number + 1)) (follows.machines number before here))))
-          (λ (other : k ≢ number). follows.machines k actor (sym (slice_get-set_other stage.machines number k next other) ∙ is))
-          (cases_eq k number)
+      machine_of : (index : ℕ) (actor : Actor) → slice_get replaced.machines index ≡ Some actor → IsMachine config stage.words (now (settled config stage)) (of_thread past_entries (index + 1)) index actor actor.machine
+      machine_of index actor actor_there = ⊎_elim
+          (λ (same_number : index ≡ number).
+          let new : next_actor ≡ actor = same_Some next_actor actor (sym there ∙ ap (slice_get replaced.machines) (sym same_number) ∙ actor_there) in
+          subst (λ some_number. IsMachine config stage.words (now (settled config stage)) (of_thread past_entries (some_number + 1)) some_number actor actor.machine) (sym same_number)
+          (subst (λ some_actor. IsMachine config stage.words (now (settled config stage)) (of_thread past_entries (number + 1)) number some_actor some_actor.machine) new
+          (takes.own stage.words (now (settled config stage)) (of_thread past_entries (number + 1)) (stage_follows.machines number before before_there))))
+          (λ (other_number : index ≢ number). stage_follows.machines index actor (sym (slice_get-set_other stage.machines number index next_actor other_number) ∙ actor_there))
+          (cases_eq index number)
 
   -- and its handshake is kept
   pub kept_replaced : IsKept config stage → IsKept config replaced
-  kept_replaced kept = record {
-    words = kept.words;
+  kept_replaced handshake_kept = record {
+    words = handshake_kept.words;
     control = control_then.0;
     there = control_then.1;
-    seated = λ seat actor is. let a = known seat actor is in subst (HasSeat config seat) (sym a.2) (kept.seated seat a.0 a.1);
-    pause = kept.pause ∙ ap pause_word (sym control_then.2);
-    states = λ seat actor below is. let a = known seat actor is in kept.states seat a.0 below a.1 ∙ ap state_word (sym a.2);
-    checked = λ seat actor below is checks. let a = known seat actor is in
-        ap is_within a.2 ∙ kept.checked seat a.0 below a.1 (ap (λ x. is_checked x seat) (sym control_then.2) ∙ checks);
+    seated = λ seat actor actor_there. let known_before = known seat actor actor_there in subst (HasSeat config seat) (sym known_before.2) (handshake_kept.seated seat known_before.0 known_before.1);
+    pause = handshake_kept.pause ∙ ap pause_word (sym control_then.2);
+    states = λ seat actor seat_below actor_there. let known_before = known seat actor actor_there in handshake_kept.states seat known_before.0 seat_below known_before.1 ∙ ap state_word (sym known_before.2);
+    checked = λ seat actor seat_below actor_there checks. let known_before = known seat actor actor_there in
+        ap is_within known_before.2 ∙ handshake_kept.checked seat known_before.0 seat_below known_before.1 (ap (λ x. is_checked x seat) (sym control_then.2) ∙ checks);
   }
     where
-      control_then : (actor : Actor) × (slice_get replaced.machines (control_seat config) ≡ Some actor) × (standing actor ≡ standing kept.control)
+      control_then : (actor : Actor) × (slice_get replaced.machines (control_seat config) ≡ Some actor) × (standing actor ≡ standing handshake_kept.control)
       control_then = ⊎_elim
-          (λ (same : control_seat config ≡ number).
-          let is : before ≡ kept.control = same_Some before kept.control (sym here ∙ ap (slice_get stage.machines) (sym same) ∙ kept.there) in
-          (next, ap (slice_get replaced.machines) same ∙ there, takes.stands ∙ ap standing is))
-          (λ (other : control_seat config ≢ number). (kept.control, slice_get-set_other stage.machines number (control_seat config) next other ∙ kept.there, refl))
+          (λ (same_number : control_seat config ≡ number).
+          let same_control : before ≡ handshake_kept.control = same_Some before handshake_kept.control (sym before_there ∙ ap (slice_get stage.machines) (sym same_number) ∙ handshake_kept.there) in
+          (next_actor, ap (slice_get replaced.machines) same_number ∙ there, takes.stands ∙ ap standing same_control))
+          (λ (other_number : control_seat config ≢ number). (handshake_kept.control, slice_get-set_other stage.machines number (control_seat config) next_actor other_number ∙ handshake_kept.there, refl))
           (cases_eq (control_seat config) number)
 
   -- as many mutators have not ended
   pub counted_replaced : AreLeftCounted config is_left stage → AreLeftCounted config is_left replaced
   counted_replaced counted = record {
     words = counted.words;
-    few = subst (λ n. n ≤ 12) (sym (length-set stage.machines number next)) counted.few;
-    counts = counted.counts ∙ sym (count_same is_left stage.machines number before next here takes.left);
+    few = subst (λ any_size. any_size ≤ 12) (sym (length-set stage.machines number next_actor)) counted.few;
+    counts = counted.counts ∙ sym (count_same is_left stage.machines number before next_actor before_there takes.left);
   }
 
   -- an event of the other machine without an order is one of this machine with its order, where the access is the same, and what it is then
-  pub moved_replaced : (change : Change) (order : Order) → plan_of config Nothing next.machine ≡ plan_of config order before.machine
-      → ((got : ℕ) → took_of change config next Nothing got next.machine ≡ took_of change config before order got before.machine)
-      → moved (kind change config) replaced number next Nothing ≡ moved (kind change config) stage number before order
+  pub moved_replaced : (change : Change) (order : Order) → plan_of config Nothing next_actor.machine ≡ plan_of config order before.machine
+      → ((got : ℕ) → took_of change config next_actor Nothing got next_actor.machine ≡ took_of change config before order got before.machine)
+      → moved (kind change config) replaced number next_actor Nothing ≡ moved (kind change config) stage number before order
   unfolding kind
   moved_replaced change order plan took =
-      ap (λ machines. record { words = accessed (plan_of config Nothing next.machine) stage.words; machines = machines }) (set_twice stage.machines number next _)
+      ap (λ machines. record { words = accessed (plan_of config Nothing next_actor.machine) stage.words; machines = machines }) (set_twice stage.machines number next_actor _)
       ∙ ap moved_by plan
-      ∙ ap (λ a. record { words = accessed (plan_of config order before.machine) stage.words; machines = slice_set stage.machines number a }) (took (found (plan_of config order before.machine)))
+      ∙ ap (λ some_actor. record { words = accessed (plan_of config order before.machine) stage.words; machines = slice_set stage.machines number some_actor }) (took (found (plan_of config order before.machine)))
     where
       found : Access → ℕ
       found access = got_of access (slice_index stage.words (table_index access))
 
       moved_by : Access → Stage Actor
-      moved_by access = record { words = accessed access stage.words; machines = slice_set stage.machines number (took_of change config next Nothing (found access) next.machine) }
+      moved_by access = record { words = accessed access stage.words; machines = slice_set stage.machines number (took_of change config next_actor Nothing (found access) next_actor.machine) }
 
 -- a helper, and the control, takes the place of itself before its hint
 pub helper_takes_place : (config : Config) (number : ℕ) (order : Order) (helper : Helping) (command : Command) (calls : List Entry)
@@ -163,7 +163,7 @@ helper_takes_place config number order helper command calls = record {
   stands = help_hinted_stands config (hint_in order) helper;
   image = refl;
   left = refl;
-  own = λ words w entries is. help_hinted_is config w number (hint_in order) helper is;
+  own = λ words world entries stands_before. help_hinted_is config world number (hint_in order) helper stands_before;
 }
 
 pub control_takes_place : (config : Config) (number : ℕ) (order : Order) (control : Controlling) (command : Command) (calls : List Entry)
@@ -172,5 +172,5 @@ control_takes_place config number order control command calls = record {
   stands = control_hinted_stands config (hint_in order) control;
   image = control_hinted_image config (hint_in order) control;
   left = refl;
-  own = λ words w entries is. control_hinted_is config w number words (hint_in order) control is;
+  own = λ words world entries stands_before. control_hinted_is config world number words (hint_in order) control stands_before;
 }

@@ -5,6 +5,6 @@ use Rattle.alloc_buffers.proofs.spot.after_free.Goals as goal
 
 pub unreachable-requires : goal.unreachable-requires
 unreachable-requires c =
-    let none : c.args.free ≡ 0 = c.in-None.ensures.none.0 refl in
-    let size : c.size.result ≡ 0 = c.size.ensures ∙ ap (λ s. members_below s 64) none ∙ no_members in
-    omega (arith, size, c.if-size-kept_back.false)
+    let none_free : c.args.free ≡ 0 = c.in-None.ensures.none.0 refl in
+    let no_size : c.size.result ≡ 0 = c.size.ensures ∙ ap (λ members. members_below members 64) none_free ∙ no_members in
+    omega (arith, no_size, c.if-size-kept_back.false)

@@ -5,4 +5,4 @@ use Rattle.churn.specs.Script.{round, shared_hub, own_box}
 use Rattle.churn.proofs.script.churn_script.Given as goal
 
 abbrev pub invariant-loop-i : goal.invariant-loop-i
-invariant-loop-i l = l.script ≡ New own_box 16 0 ∷ Set shared_hub l.thread own_box ∷ flat_map (round l.seed) (range_with_len 0 l.i)
+invariant-loop-i locals = locals.script ≡ New own_box 16 0 ∷ Set shared_hub locals.thread own_box ∷ flat_map (round locals.seed) (range_with_len 0 locals.i)

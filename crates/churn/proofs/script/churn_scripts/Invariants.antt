@@ -4,4 +4,4 @@ use Rattle.churn.specs.Script.{churn_script}
 use Rattle.churn.proofs.script.churn_scripts.Given as goal
 
 abbrev pub invariant-loop-thread : goal.invariant-loop-thread
-invariant-loop-thread l = l.scripts.items ≡ map (churn_script l.seed l.count) (range_with_len 1 (l.thread - 1))
+invariant-loop-thread locals = locals.scripts.items ≡ map (churn_script locals.seed locals.count) (range_with_len 1 (locals.thread - 1))

@@ -4,4 +4,4 @@ use Rattle.std.proofs.lemmas.Nat.Bits.{shr_and_one}
 use Rattle.collector_rows.proofs.control_spot.is_set.Goals as goal
 
 pub returns : goal.returns
-returns c = ap (λ n. n == 1) (shr_and_one c.args.word c.args.bit)
+returns c = ap (λ lowest_bit. lowest_bit == 1) (shr_and_one c.args.word c.args.bit)

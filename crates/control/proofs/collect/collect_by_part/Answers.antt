@@ -19,11 +19,11 @@ returns-in-2-clause-words c =
 pub returns-in_default-clause-words : goal.returns-in_default-clause-words
 returns-in_default-clause-words c =
     c.final_update.ensures.words
-    ∙ final_update-next (config_of c.args.image.now) (memory_of c.args.image.now) (λ e. not_idle (c.phase.ensures ∙ e)) c.requires.unmarked (λ e. not_evac (c.phase.ensures ∙ e))
+    ∙ final_update-next (config_of c.args.image.now) (memory_of c.args.image.now) (λ same_phase. not_idle (c.phase.ensures ∙ same_phase)) c.requires.unmarked (λ same_phase. not_evac (c.phase.ensures ∙ same_phase))
     ∙ cycle-collected (config_of c.args.image.now) (memory_of c.args.image.now) c.requires.calm
   where
     not_idle : c.phase.result ≡ 0 → ⊥
-    not_idle is = grind (arith)
+    not_idle phase_zero = grind (arith)
 
     not_evac : c.phase.result ≡ 2 → ⊥
-    not_evac is = grind (arith)
+    not_evac phase_two = grind (arith)

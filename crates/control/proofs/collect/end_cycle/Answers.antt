@@ -11,15 +11,15 @@ use Rattle.control.proofs.Collecting.{of-same, whole-ended, short-ended}
 use Rattle.control.proofs.collect.end_cycle.Goals as goal
 
 -- what is short is not whole
-not_whole : (result : Finished) (whole : (result ≡ Finished.Whole) → ⊥) (config : Config) (memory : Word → ℕ) → ((is_whole config memory ≡ true) → result ≡ Finished.Whole) → is_whole config memory ≡ false
-not_whole result other config memory tells = ⊎_elim (λ (is : is_whole config memory ≡ true). absurd (other (tells is))) (λ (none : is_whole config memory ≡ false). none) (cases_Bool (is_whole config memory))
+not_whole : (result : Finished) (not_whole_result : (result ≡ Finished.Whole) → ⊥) (config : Config) (memory : Word → ℕ) → ((is_whole config memory ≡ true) → result ≡ Finished.Whole) → is_whole config memory ≡ false
+not_whole result result_short config memory tells = ⊎_elim (λ (memory_whole : is_whole config memory ≡ true). absurd (result_short (tells memory_whole))) (λ (memory_short : is_whole config memory ≡ false). memory_short) (cases_Bool (is_whole config memory))
 
 pub full-requires : goal.full-requires
 full-requires c =
     of-same HoldsSized (config_of c.args.image.now) (config_of c.finish.new.image) (finished (config_of c.args.image.now) (memory_of c.args.image.now)) (memory_of c.finish.new.image)
     c.finish.ensures.config c.finish.ensures.words
     (c.requires.holds
-    (not_whole c.finish.result (λ is. (let differ = sym is ∙ c.in-Short.is in cc)) (config_of c.args.image.now) (memory_of c.args.image.now) c.finish.ensures.whole.1))
+    (not_whole c.finish.result (λ whole_result. (let differ = sym whole_result ∙ c.in-Short.is in cc)) (config_of c.args.image.now) (memory_of c.args.image.now) c.finish.ensures.whole.1))
 
 pub returns-in-Whole-clause-words : goal.returns-in-Whole-clause-words
 returns-in-Whole-clause-words c =
@@ -31,4 +31,4 @@ returns-in-Short-clause-words c =
     ∙ ap (λ (config : Config). full config (memory_of c.finish.new.image)) c.finish.ensures.config
     ∙ ap (full (config_of c.args.image.now)) c.finish.ensures.words
     ∙ short-ended (config_of c.args.image.now) (memory_of c.args.image.now)
-    (not_whole c.finish.result (λ is. (let differ = sym is ∙ c.in-Short.is in cc)) (config_of c.args.image.now) (memory_of c.args.image.now) c.finish.ensures.whole.1)
+    (not_whole c.finish.result (λ whole_result. (let differ = sym whole_result ∙ c.in-Short.is in cc)) (config_of c.args.image.now) (memory_of c.args.image.now) c.finish.ensures.whole.1)

@@ -11,8 +11,8 @@ use Rattle.control.proofs.collect.end_mark.Goals as goal
 -- evacuation can begin from the image in which marking has ended
 begins : (old new : Image) → config_of new ≡ config_of old → memory_of new ≡ final_marked (config_of old) (memory_of old) → CanBegin (config_of old) (final_marked (config_of old) (memory_of old))
     → CanBegin (config_of new) (memory_of new)
-begins old new config words can =
-    subst (λ (config : Config). CanBegin config (memory_of new)) (sym config) (subst (λ (memory : Word → ℕ). CanBegin (config_of old) memory) (sym words) can)
+begins old new config words can_begin =
+    subst (λ (config : Config). CanBegin config (memory_of new)) (sym config) (subst (λ (memory : Word → ℕ). CanBegin (config_of old) memory) (sym words) can_begin)
 
 pub choose-set-requires : goal.choose-set-requires
 choose-set-requires c = begins c.args.image.now c.final_mark.new.image c.final_mark.ensures.config c.final_mark.ensures.words c.requires.can

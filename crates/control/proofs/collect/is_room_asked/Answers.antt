@@ -7,5 +7,5 @@ use Rattle.control.proofs.collect.is_room_asked.Goals as goal
 
 pub returns : goal.returns
 returns c =
-    let asked = c.word.ensures.named Ask tt (sym (c.ask_at.ensures ∙ ap (λ d. word_at d Ask) c.config.ensures)) in
-    ap (λ n. n == 1) (shr_and_one c.word.result 1 ∙ ap (λ word. bit_at word 1) asked)
+    let asked = c.word.ensures.named Ask tt (sym (c.ask_at.ensures ∙ ap (λ config. word_at config Ask) c.config.ensures)) in
+    ap (λ lowest_bit. lowest_bit == 1) (shr_and_one c.word.result 1 ∙ ap (λ word. bit_at word 1) asked)

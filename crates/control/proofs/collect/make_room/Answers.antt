@@ -21,21 +21,21 @@ end_mark-requires-clause-can c =
 
 pub end_cycle-requires : goal.end_cycle-requires
 end_cycle-requires c =
-    let on = sym c.phase.ensures ∙ c.in-1.is in
+    let phase_one = sym c.phase.ensures ∙ c.in-1.is in
     of-same CanEnd (config_of c.args.image.now) (config_of c.end_mark.new.image) (past_marking (config_of c.args.image.now) (memory_of c.args.image.now)) (memory_of c.end_mark.new.image)
-    c.end_mark.ensures.config (c.end_mark.ensures.words ∙ marking-past (config_of c.args.image.now) (memory_of c.args.image.now) on)
-    (running_can_end (config_of c.args.image.now) (memory_of c.args.image.now) c.requires.can c.requires.needed (λ idle. omega (arith, on, idle)))
+    c.end_mark.ensures.config (c.end_mark.ensures.words ∙ marking-past (config_of c.args.image.now) (memory_of c.args.image.now) phase_one)
+    (running_can_end (config_of c.args.image.now) (memory_of c.args.image.now) c.requires.can c.requires.needed (λ idle. omega (arith, phase_one, idle)))
 
 pub end_cycle-requires-in_default : goal.end_cycle-requires-in_default
 end_cycle-requires-in_default c =
-    subst (CanEnd (config_of c.args.image.now)) (sym (others-past (config_of c.args.image.now) (memory_of c.args.image.now) (λ e. not_mark (c.phase.ensures ∙ e))))
-    (running_can_end (config_of c.args.image.now) (memory_of c.args.image.now) c.requires.can c.requires.needed (λ e. not_idle (c.phase.ensures ∙ e)))
+    subst (CanEnd (config_of c.args.image.now)) (sym (others-past (config_of c.args.image.now) (memory_of c.args.image.now) (λ same_phase. not_mark (c.phase.ensures ∙ same_phase))))
+    (running_can_end (config_of c.args.image.now) (memory_of c.args.image.now) c.requires.can c.requires.needed (λ same_phase. not_idle (c.phase.ensures ∙ same_phase)))
   where
     not_idle : c.phase.result ≡ 0 → ⊥
-    not_idle is = grind (arith)
+    not_idle phase_zero = grind (arith)
 
     not_mark : c.phase.result ≡ 1 → ⊥
-    not_mark is = grind (arith)
+    not_mark phase_one = grind (arith)
 
 pub returns-in-0-clause-words : goal.returns-in-0-clause-words
 returns-in-0-clause-words c =
@@ -43,20 +43,20 @@ returns-in-0-clause-words c =
 
 pub returns-in-1-clause-words : goal.returns-in-1-clause-words
 returns-in-1-clause-words c =
-    let on = sym c.phase.ensures ∙ c.in-1.is in
+    let phase_one = sym c.phase.ensures ∙ c.in-1.is in
     c.end_cycle.ensures.words
     ∙ ap (λ (config : Config). ended config (memory_of c.end_mark.new.image)) c.end_mark.ensures.config
-    ∙ ap (ended (config_of c.args.image.now)) (c.end_mark.ensures.words ∙ marking-past (config_of c.args.image.now) (memory_of c.args.image.now) on)
-    ∙ ended-made (config_of c.args.image.now) (memory_of c.args.image.now) (λ idle. omega (arith, on, idle))
+    ∙ ap (ended (config_of c.args.image.now)) (c.end_mark.ensures.words ∙ marking-past (config_of c.args.image.now) (memory_of c.args.image.now) phase_one)
+    ∙ ended-made (config_of c.args.image.now) (memory_of c.args.image.now) (λ idle. omega (arith, phase_one, idle))
 
 pub returns-in_default-clause-words : goal.returns-in_default-clause-words
 returns-in_default-clause-words c =
     c.end_cycle-in_default.ensures.words
-    ∙ ap (ended (config_of c.args.image.now)) (others-past (config_of c.args.image.now) (memory_of c.args.image.now) (λ e. not_mark (c.phase.ensures ∙ e)))
-    ∙ ended-made (config_of c.args.image.now) (memory_of c.args.image.now) (λ e. not_idle (c.phase.ensures ∙ e))
+    ∙ ap (ended (config_of c.args.image.now)) (others-past (config_of c.args.image.now) (memory_of c.args.image.now) (λ same_phase. not_mark (c.phase.ensures ∙ same_phase)))
+    ∙ ended-made (config_of c.args.image.now) (memory_of c.args.image.now) (λ same_phase. not_idle (c.phase.ensures ∙ same_phase))
   where
     not_idle : c.phase.result ≡ 0 → ⊥
-    not_idle is = grind (arith)
+    not_idle phase_zero = grind (arith)
 
     not_mark : c.phase.result ≡ 1 → ⊥
-    not_mark is = grind (arith)
+    not_mark phase_one = grind (arith)

@@ -18,8 +18,8 @@ use Rattle.control.proofs.ByPart.{CanGoOn, goes_by, part_of_all, part_of_cleared
 use Rattle.control.proofs.pause.collect_part.Goals as goal
 
 -- an image as it was loaded
-module _ (old : Image) (extent : Extent) (part : extent ≢ Whole) (clear : IsClear old)
-    (can : CanCollectPart (config_of old) extent (image_view (config_of old) (part_in (config_of old) extent (image_in old)))) where
+module _ (old : Image) (extent : Extent) (not_whole : extent ≢ Whole) (clear : IsClear old)
+    (can_collect : CanCollectPart (config_of old) extent (image_view (config_of old) (part_in (config_of old) extent (image_in old)))) where
   abbrev d : Config
   d = config_of old
 
@@ -29,53 +29,53 @@ module _ (old : Image) (extent : Extent) (part : extent ≢ Whole) (clear : IsCl
   goes_old : CanGoOn d (memory_of old) loaded
   goes_old =
       subst (λ memory. CanGoOn d memory loaded) (sym (memory-image_in old clear))
-      (goes_by d extent part (image_in old) (part_in d extent (image_in old)) (part_of_all d extent (image_in old)) can)
+      (goes_by d extent not_whole (image_in old) (part_in d extent (image_in old)) (part_of_all d extent (image_in old)) can_collect)
 
   -- and once the words are 0 there at which free words begin
-  module _ (mid : Image) (starts : List ℕ) (config : config_of mid ≡ config_of old) (cleared : (k : ℕ) → slice_index (image_in mid) k ≡ (if has starts k then 0 else slice_index (image_in old) k))
+  module _ (mid : Image) (starts : List ℕ) (config : config_of mid ≡ config_of old) (cleared : (index : ℕ) → slice_index (image_in mid) index ≡ (if has starts index then 0 else slice_index (image_in old) index))
       (still_clear : IsClear mid) (of_heap : AreHeapIndices (config_of old) starts) where
     memory_is : memory_of mid ≡ image_view d (image_in mid)
-    memory_is = memory-image_in mid still_clear ∙ ap (λ k. image_view k (image_in mid)) config
+    memory_is = memory-image_in mid still_clear ∙ ap (λ index. image_view index (image_in mid)) config
 
     goes_mid : CanGoOn (config_of mid) (memory_of mid) loaded
     goes_mid =
         subst (λ config. CanGoOn config (memory_of mid) loaded) (sym config) (subst (λ memory. CanGoOn d memory loaded) (sym memory_is)
-        (goes_by d extent part (image_in mid) (part_in d extent (image_in old)) (part_of_cleared d extent part (image_in old) (image_in mid) starts (length-image_in old) cleared of_heap) can))
+        (goes_by d extent not_whole (image_in mid) (part_in d extent (image_in old)) (part_of_cleared d extent not_whole (image_in old) (image_in mid) starts (length-image_in old) cleared of_heap) can_collect))
 
     -- and collected
     made : (new : Image) → config_of new ≡ config_of mid → memory_of new ≡ collected (config_of mid) (memory_of mid) → AreStarts d (memory_of old) starts
         → image_shown d extent starts (image_in new) ≡ collect_image d (part_in d extent (image_in old))
-    made new config_then words are =
-        ap (image_shown d extent starts) (image-collected mid new still_clear config_then words ∙ ap (λ k. collect_image k (image_in mid)) config)
-        ∙ shown_is_made d extent part (image_in old) (image_in mid) starts (length-image_in old) cleared of_heap can
-        (record { long = are.long; of_seat = λ seat below. are.of_seat seat below ∙ ap (start_index d) (goes_old.same_buffers seat) })
+    made new config_then words starts_right =
+        ap (image_shown d extent starts) (image-collected mid new still_clear config_then words ∙ ap (λ index. collect_image index (image_in mid)) config)
+        ∙ shown_is_made d extent not_whole (image_in old) (image_in mid) starts (length-image_in old) cleared of_heap can_collect
+        (record { long = starts_right.long; of_seat = λ seat seat_below. starts_right.of_seat seat seat_below ∙ ap (start_index d) (goes_old.same_buffers seat) })
 
 pub starts_in-starts-requires : goal.starts_in-starts-requires
-starts_in-starts-requires c = let goes = goes_old c.args.image.now c.args.extent c.requires.part c.requires.clear c.requires.can in goes.buffers
+starts_in-starts-requires c = let collect_facts = goes_old c.args.image.now c.args.extent c.requires.part c.requires.clear c.requires.can in collect_facts.buffers
 
 pub collect_by_part-requires-clause-calm : goal.collect_by_part-requires-clause-calm
 collect_by_part-requires-clause-calm c =
-    let goes = goes_mid c.args.image.now c.args.extent c.requires.part c.requires.clear c.requires.can c.clear_starts.new.image c.starts_in-starts.result
+    let collect_facts = goes_mid c.args.image.now c.args.extent c.requires.part c.requires.clear c.requires.can c.clear_starts.new.image c.starts_in-starts.result
     c.clear_starts.ensures.config c.clear_starts.ensures.image c.clear_starts.ensures.clear c.starts_in-starts.ensures.heap in
-    goes.calm
+    collect_facts.calm
 
 pub collect_by_part-requires-clause-unmarked : goal.collect_by_part-requires-clause-unmarked
 collect_by_part-requires-clause-unmarked c =
-    let goes = goes_mid c.args.image.now c.args.extent c.requires.part c.requires.clear c.requires.can c.clear_starts.new.image c.starts_in-starts.result
+    let collect_facts = goes_mid c.args.image.now c.args.extent c.requires.part c.requires.clear c.requires.can c.clear_starts.new.image c.starts_in-starts.result
     c.clear_starts.ensures.config c.clear_starts.ensures.image c.clear_starts.ensures.clear c.starts_in-starts.ensures.heap in
-    goes.unmarked
+    collect_facts.unmarked
 
 pub collect_by_part-requires-clause-roots : goal.collect_by_part-requires-clause-roots
 collect_by_part-requires-clause-roots c =
-    let goes = goes_mid c.args.image.now c.args.extent c.requires.part c.requires.clear c.requires.can c.clear_starts.new.image c.starts_in-starts.result
+    let collect_facts = goes_mid c.args.image.now c.args.extent c.requires.part c.requires.clear c.requires.can c.clear_starts.new.image c.starts_in-starts.result
     c.clear_starts.ensures.config c.clear_starts.ensures.image c.clear_starts.ensures.clear c.starts_in-starts.ensures.heap in
-    goes.roots
+    collect_facts.roots
 
 pub collect_by_part-requires-clause-buffers : goal.collect_by_part-requires-clause-buffers
 collect_by_part-requires-clause-buffers c =
-    let goes = goes_mid c.args.image.now c.args.extent c.requires.part c.requires.clear c.requires.can c.clear_starts.new.image c.starts_in-starts.result
+    let collect_facts = goes_mid c.args.image.now c.args.extent c.requires.part c.requires.clear c.requires.can c.clear_starts.new.image c.starts_in-starts.result
     c.clear_starts.ensures.config c.clear_starts.ensures.image c.clear_starts.ensures.clear c.starts_in-starts.ensures.heap in
-    goes.buffers
+    collect_facts.buffers
 
 pub returns-clause-image : goal.returns-clause-image
 returns-clause-image c =

@@ -9,4 +9,4 @@ returns-clause-image c =
     let config = config_of c.args.image.now in
     let count : c.image_words-index-end.result ≡ image_words config = c.image_words-index-end.ensures ∙ ap image_words c.config-config.ensures in
     image-loaded config c.loop-index.image c.args.words.now c.loop-index.invariant.config c.requires.words
-    (λ k below. c.loop-index.invariant.loaded k (omega (arith, below, count, c.loop-index-test.false)))
+    (λ index index_below. c.loop-index.invariant.loaded index (omega (arith, index_below, count, c.loop-index-test.false)))

@@ -6,8 +6,8 @@ use Rattle.control.specs.Image.{image_in}
 use Rattle.control.proofs.pause.load.Given as goal
 
 abbrev pub invariant-loop-index : goal.invariant-loop-index
-invariant-loop-index l = record {
-  config : config_of l.image ≡ config_of l.initial.image;
-  clear : IsClear l.image;
-  loaded : (index : ℕ) → index < l.index → get_or (image_in l.image) index 0 ≡ get_or l.words (image_start (config_of l.initial.image) + index) 0;
+invariant-loop-index loop = record {
+  config : config_of loop.image ≡ config_of loop.initial.image;
+  clear : IsClear loop.image;
+  loaded : (index : ℕ) → index < loop.index → get_or (image_in loop.image) index 0 ≡ get_or loop.words (image_start (config_of loop.initial.image) + index) 0;
 }

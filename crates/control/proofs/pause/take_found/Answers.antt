@@ -14,19 +14,19 @@ use Rattle.control.proofs.Going.{load_own, next_own, others_seen}
 use Rattle.control.proofs.pause.take_found.Goals as goal
 
 pub take_word-requires-clause-own : goal.take_word-requires-clause-own
-take_word-requires-clause-own c = subst (λ s. SeesOwn (config_of c.args.image.now) s c.args.starts.now) c.in-LoadWord.is c.requires.own
+take_word-requires-clause-own c = subst (λ spot. SeesOwn (config_of c.args.image.now) spot c.args.starts.now) c.in-LoadWord.is c.requires.own
 
 pub take_word-requires-clause-fit : goal.take_word-requires-clause-fit
 take_word-requires-clause-fit c =
     let config = config_of c.args.image.now in
-    let Fits : ControlSpot → Type 0 = λ s. fits_with config s c.args.last.phase (words_seen config s c.args.starts.now (image_in c.args.image.now)) c.args.got in
+    let Fits : ControlSpot → Type 0 = λ spot. fits_with config spot c.args.last.phase (words_seen config spot c.args.starts.now (image_in c.args.image.now)) c.args.got in
     subst Fits c.in-LoadWord.is c.requires.fit
 
 pub returns-in-LoadWord-clause-image : goal.returns-in-LoadWord-clause-image
 returns-in-LoadWord-clause-image c =
     let config = config_of c.args.image.now in
-    let seen : ControlSpot → List ℕ = λ s. words_seen config s c.args.starts.now (image_in c.args.image.now) in
-    let Made : ControlSpot → Type 0 = λ s. words_seen config (next_spot config c.args.last.phase c.args.last.cset c.args.last.seen (stored_next config s (seen s)) s c.args.got) c.take_word.new.starts (image_in c.take_word.new.image) ≡ next_image collect_image config s (seen s) c.args.last.phase c.args.got in
+    let seen_words : ControlSpot → List ℕ = λ spot. words_seen config spot c.args.starts.now (image_in c.args.image.now) in
+    let Made : ControlSpot → Type 0 = λ spot. words_seen config (next_spot config c.args.last.phase c.args.last.cset c.args.last.seen (stored_next config spot (seen_words spot)) spot c.args.got) c.take_word.new.starts (image_in c.take_word.new.image) ≡ next_image collect_image config spot (seen_words spot) c.args.last.phase c.args.got in
     subst Made (sym c.in-LoadWord.is) c.take_word.ensures.image
 
 pub returns-in-LoadWord-clause-own : goal.returns-in-LoadWord-clause-own
@@ -35,7 +35,7 @@ returns-in-LoadWord-clause-own c =
     let index = c.in-LoadWord.index in
     let extent = c.in-LoadWord.extent in
     let ready : is_ready config (LoadWord index extent) ≡ true = ap (is_ready config) (sym c.in-LoadWord.is) ∙ c.requires.ready in
-    let Own : ControlSpot → Type 0 = λ s. SeesOwn config (next_spot config c.args.last.phase c.args.last.cset c.args.last.seen (stored_next config s (words_seen config s c.args.starts.now (image_in c.args.image.now))) s c.args.got) c.take_word.new.starts in
+    let Own : ControlSpot → Type 0 = λ spot. SeesOwn config (next_spot config c.args.last.phase c.args.last.cset c.args.last.seen (stored_next config spot (words_seen config spot c.args.starts.now (image_in c.args.image.now))) spot c.args.got) c.take_word.new.starts in
     subst Own (sym c.in-LoadWord.is) (load_own config c.take_word.new.starts (extent_after c.args.last.phase index extent c.args.got) index (ltb-true index (image_words config) ready))
 
 pub returns-in_default-clause-image : goal.returns-in_default-clause-image

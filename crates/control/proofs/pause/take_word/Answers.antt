@@ -19,8 +19,8 @@ use Rattle.control.proofs.Loaded.{goes_on, stays, can_collect, image_made, phase
 use Rattle.control.proofs.pause.take_word.Goals as goal
 
 -- an image into which a word was put, and the extent then
-module _ (old mid : Image) (extent now : Extent) (phase index word : ℕ) (less : index < image_words (config_of old)) (own : is_of_extent (config_of old) extent index ≡ true)
-    (config : config_of mid ≡ config_of old) (put : image_in mid ≡ set (image_in old) index word) (now_is : now ≡ extent_after phase index extent word) where
+module _ (old mid : Image) (extent new_extent : Extent) (phase index word : ℕ) (index_below : index < image_words (config_of old)) (in_extent : is_of_extent (config_of old) extent index ≡ true)
+    (config : config_of mid ≡ config_of old) (word_put : image_in mid ≡ set (image_in old) index word) (now_is : new_extent ≡ extent_after phase index extent word) where
   abbrev d : Config
   d = config_of old
 
@@ -37,127 +37,127 @@ module _ (old mid : Image) (extent now : Extent) (phase index word : ℕ) (less 
   long = length-image_in old
 
   pub image_on : (starts : List ℕ) → next < image_words d → words_seen d (after_load d then_of index) starts (image_in mid) ≡ next_image collect_image d (LoadWord index extent) before phase word
-  image_on starts there =
-      ap (words_seen d (after_load d then_of index) starts) put ∙ goes_on collect_image d extent phase index word (image_in old) long less own starts there
+  image_on starts next_below =
+      ap (words_seen d (after_load d then_of index) starts) word_put ∙ goes_on collect_image d extent phase index word (image_in old) long index_below in_extent starts next_below
 
   -- the word that was last stays as well
   pub last_on : (before_it then_it : ℕ) → next < image_words d → before_it ≡ (if nat_lt next (image_words d) then before_it else then_it)
-  last_on before_it then_it there = sym (stays collect_image d extent phase index word (image_in old) long less own before_it then_it there)
+  last_on before_it then_it next_below = sym (stays collect_image d extent phase index word (image_in old) long index_below in_extent before_it then_it next_below)
 
-  module _ (last : image_words d ≤ next) where
-    pub can : fits_with d (LoadWord index extent) phase before word → CanCollectPart (config_of mid) now (image_view (config_of mid) (part_in (config_of mid) now (image_in mid)))
+  module _ (next_past : image_words d ≤ next) where
+    pub can : fits_with d (LoadWord index extent) phase before word → CanCollectPart (config_of mid) new_extent (image_view (config_of mid) (part_in (config_of mid) new_extent (image_in mid)))
     can fit =
-        let Can : Config → Extent → List ℕ → Type 0 = λ k e ys. CanCollectPart k e (image_view k (part_in k e ys)) in
-        subst (λ k. Can k now (image_in mid)) (sym config) (subst (λ e. Can d e (image_in mid)) (sym now_is) (subst (Can d then_of) (sym put)
-        (can_collect collect_image d extent phase index word (image_in old) long less own last fit)))
+        let Can : Config → Extent → List ℕ → Type 0 = λ asked_config asked_extent image_list. CanCollectPart asked_config asked_extent (image_view asked_config (part_in asked_config asked_extent image_list)) in
+        subst (λ asked_config. Can asked_config new_extent (image_in mid)) (sym config) (subst (λ asked_extent. Can d asked_extent (image_in mid)) (sym now_is) (subst (Can d then_of) (sym word_put)
+        (can_collect collect_image d extent phase index word (image_in old) long index_below in_extent next_past fit)))
 
     -- and the image that a pause has made of it
     module _ (new : Image) (starts : List ℕ) (config_then : config_of new ≡ config_of mid) (clear : IsClear new)
-        (made : image_shown (config_of mid) now starts (image_in new) ≡ collect_image (config_of mid) (part_in (config_of mid) now (image_in mid))) where
+        (made : image_shown (config_of mid) new_extent starts (image_in new) ≡ collect_image (config_of mid) (part_in (config_of mid) new_extent (image_in mid))) where
       made_then : image_shown d then_of starts (image_in new) ≡ collect_image d (part_in d then_of (set (image_in old) index word))
       made_then =
-          let Made : Config → Extent → List ℕ → Type 0 = λ k e ys. image_shown k e starts (image_in new) ≡ collect_image k (part_in k e ys) in
-          subst (Made d then_of) put (subst (λ e. Made d e (image_in mid)) now_is (subst (λ k. Made k now (image_in mid)) config made))
+          let Made : Config → Extent → List ℕ → Type 0 = λ asked_config asked_extent image_list. image_shown asked_config asked_extent starts (image_in new) ≡ collect_image asked_config (part_in asked_config asked_extent image_list) in
+          subst (Made d then_of) word_put (subst (λ asked_extent. Made d asked_extent (image_in mid)) now_is (subst (λ asked_config. Made asked_config new_extent (image_in mid)) config made))
 
       memory_then : memory_of new ≡ image_view d (image_in new)
-      memory_then = memory-image_in new clear ∙ ap (λ k. image_view k (image_in new)) (config_then ∙ config)
+      memory_then = memory-image_in new clear ∙ ap (λ asked_config. image_view asked_config (image_in new)) (config_then ∙ config)
 
       pub image_then : words_seen d (after_load d then_of index) starts (image_in new) ≡ next_image collect_image d (LoadWord index extent) before phase word
-      image_then = image_made collect_image d extent phase index word (image_in old) long less own last starts (image_in new) made_then
+      image_then = image_made collect_image d extent phase index word (image_in old) long index_below in_extent next_past starts (image_in new) made_then
 
       pub phase_then : memory_of new Phase ≡ next_phase collect_image d (LoadWord index extent) before phase word
-      phase_then = ap (λ (memory : Word → ℕ). memory Phase) memory_then ∙ phase_made collect_image d extent phase index word (image_in old) long less own last starts (image_in new) made_then
+      phase_then = ap (λ (memory : Word → ℕ). memory Phase) memory_then ∙ phase_made collect_image d extent phase index word (image_in old) long index_below in_extent next_past starts (image_in new) made_then
 
       pub cset_then : (cset : ℕ) → memory_of new Cset ≡ next_set collect_image d (LoadWord index extent) before cset phase word
-      cset_then cset = ap (λ (memory : Word → ℕ). memory Cset) memory_then ∙ cset_made collect_image d extent phase index word (image_in old) long less own last starts (image_in new) made_then cset
+      cset_then cset = ap (λ (memory : Word → ℕ). memory Cset) memory_then ∙ cset_made collect_image d extent phase index word (image_in old) long index_below in_extent next_past starts (image_in new) made_then cset
 
       pub seen_then : (seen : ℕ) → seen_after seen (memory_of new) ≡ next_seen collect_image d (LoadWord index extent) before seen phase word
-      seen_then seen = ap (seen_after seen) memory_then ∙ seen_made collect_image d extent phase index word (image_in old) long less own last starts (image_in new) made_then seen
+      seen_then seen = ap (seen_after seen) memory_then ∙ seen_made collect_image d extent phase index word (image_in old) long index_below in_extent next_past starts (image_in new) made_then seen
 
 -- the index of the next word, and that of the end
-next_is : (old mid : Image) (extent now : Extent) (phase index word n : ℕ) (config : Config) → config ≡ config_of mid → config_of mid ≡ config_of old → now ≡ extent_after phase index extent word → n ≡ next_loaded config now index
-    → n ≡ next_loaded (config_of old) (extent_after phase index extent word) index
-next_is old mid extent now phase index word n k read config now_is is =
-    is ∙ ap (λ e. next_loaded e now index) (read ∙ config) ∙ ap (λ e. next_loaded (config_of old) e index) now_is
+next_is : (old mid : Image) (extent new_extent : Extent) (phase index word next_index : ℕ) (config : Config) → config ≡ config_of mid → config_of mid ≡ config_of old → new_extent ≡ extent_after phase index extent word → next_index ≡ next_loaded config new_extent index
+    → next_index ≡ next_loaded (config_of old) (extent_after phase index extent word) index
+next_is old mid extent new_extent phase index word next_index given_config read config now_is is_next =
+    is_next ∙ ap (λ e. next_loaded e new_extent index) (read ∙ config) ∙ ap (λ e. next_loaded (config_of old) e index) now_is
 
 pub collect_loaded-requires-clause-can : goal.collect_loaded-requires-clause-can
 collect_loaded-requires-clause-can c =
-    let next = next_is c.args.image.now c.put_word.new.image c.args.extent c.after-extent_now.result c.args.last.phase c.args.index c.args.word c.next-next.result c.config-config.result
+    let next_right = next_is c.args.image.now c.put_word.new.image c.args.extent c.after-extent_now.result c.args.last.phase c.args.index c.args.word c.next-next.result c.config-config.result
     c.config-config.ensures c.put_word.ensures.config c.after-extent_now.ensures c.next-next.ensures in
     let end = c.image_words-end.ensures ∙ ap image_words (c.config-config.ensures ∙ c.put_word.ensures.config) in
     can c.args.image.now c.put_word.new.image c.args.extent c.after-extent_now.result c.args.last.phase c.args.index c.args.word c.requires.index c.requires.own
-    c.put_word.ensures.config c.put_word.ensures.image c.after-extent_now.ensures (omega (arith, next, end, c.if-next-end.false)) c.requires.fit
+    c.put_word.ensures.config c.put_word.ensures.image c.after-extent_now.ensures (omega (arith, next_right, end, c.if-next-end.false)) c.requires.fit
 
 pub collect_loaded-requires-clause-heap : goal.collect_loaded-requires-clause-heap
-collect_loaded-requires-clause-heap c = subst (λ d. AreHeapIndices d c.args.starts.now) (sym c.put_word.ensures.config) c.requires.heap
+collect_loaded-requires-clause-heap c = subst (λ config. AreHeapIndices config c.args.starts.now) (sym c.put_word.ensures.config) c.requires.heap
 
 pub returns-clause-heap : goal.returns-clause-heap
-returns-clause-heap c = subst (λ d. AreHeapIndices d c.collect_loaded.result) c.put_word.ensures.config c.collect_loaded.ensures.heap
+returns-clause-heap c = subst (λ config. AreHeapIndices config c.collect_loaded.result) c.put_word.ensures.config c.collect_loaded.ensures.heap
 
 pub returns-then-next-end-clause-image : goal.returns-then-next-end-clause-image
 returns-then-next-end-clause-image c =
-    let next = next_is c.args.image.now c.put_word.new.image c.args.extent c.after-extent_now.result c.args.last.phase c.args.index c.args.word c.next-next.result c.config-config.result
+    let next_right = next_is c.args.image.now c.put_word.new.image c.args.extent c.after-extent_now.result c.args.last.phase c.args.index c.args.word c.next-next.result c.config-config.result
     c.config-config.ensures c.put_word.ensures.config c.after-extent_now.ensures c.next-next.ensures in
     let end = c.image_words-end.ensures ∙ ap image_words (c.config-config.ensures ∙ c.put_word.ensures.config) in
     image_on c.args.image.now c.put_word.new.image c.args.extent c.after-extent_now.result c.args.last.phase c.args.index c.args.word c.requires.index c.requires.own
-    c.put_word.ensures.config c.put_word.ensures.image c.after-extent_now.ensures c.args.starts.now (omega (arith, next, end, c.if-next-end.true))
+    c.put_word.ensures.config c.put_word.ensures.image c.after-extent_now.ensures c.args.starts.now (omega (arith, next_right, end, c.if-next-end.true))
 
 pub returns-then-next-end-clause-seen : goal.returns-then-next-end-clause-seen
 returns-then-next-end-clause-seen c =
-    let next = next_is c.args.image.now c.put_word.new.image c.args.extent c.after-extent_now.result c.args.last.phase c.args.index c.args.word c.next-next.result c.config-config.result
+    let next_right = next_is c.args.image.now c.put_word.new.image c.args.extent c.after-extent_now.result c.args.last.phase c.args.index c.args.word c.next-next.result c.config-config.result
     c.config-config.ensures c.put_word.ensures.config c.after-extent_now.ensures c.next-next.ensures in
     let end = c.image_words-end.ensures ∙ ap image_words (c.config-config.ensures ∙ c.put_word.ensures.config) in
     last_on c.args.image.now c.put_word.new.image c.args.extent c.after-extent_now.result c.args.last.phase c.args.index c.args.word c.requires.index c.requires.own
-    c.put_word.ensures.config c.put_word.ensures.image c.after-extent_now.ensures c.args.last.seen _ (omega (arith, next, end, c.if-next-end.true))
+    c.put_word.ensures.config c.put_word.ensures.image c.after-extent_now.ensures c.args.last.seen _ (omega (arith, next_right, end, c.if-next-end.true))
 
 pub returns-then-next-end-clause-phase : goal.returns-then-next-end-clause-phase
 returns-then-next-end-clause-phase c =
-    let next = next_is c.args.image.now c.put_word.new.image c.args.extent c.after-extent_now.result c.args.last.phase c.args.index c.args.word c.next-next.result c.config-config.result
+    let next_right = next_is c.args.image.now c.put_word.new.image c.args.extent c.after-extent_now.result c.args.last.phase c.args.index c.args.word c.next-next.result c.config-config.result
     c.config-config.ensures c.put_word.ensures.config c.after-extent_now.ensures c.next-next.ensures in
     let end = c.image_words-end.ensures ∙ ap image_words (c.config-config.ensures ∙ c.put_word.ensures.config) in
     last_on c.args.image.now c.put_word.new.image c.args.extent c.after-extent_now.result c.args.last.phase c.args.index c.args.word c.requires.index c.requires.own
-    c.put_word.ensures.config c.put_word.ensures.image c.after-extent_now.ensures c.args.last.phase _ (omega (arith, next, end, c.if-next-end.true))
+    c.put_word.ensures.config c.put_word.ensures.image c.after-extent_now.ensures c.args.last.phase _ (omega (arith, next_right, end, c.if-next-end.true))
 
 pub returns-then-next-end-clause-cset : goal.returns-then-next-end-clause-cset
 returns-then-next-end-clause-cset c =
-    let next = next_is c.args.image.now c.put_word.new.image c.args.extent c.after-extent_now.result c.args.last.phase c.args.index c.args.word c.next-next.result c.config-config.result
+    let next_right = next_is c.args.image.now c.put_word.new.image c.args.extent c.after-extent_now.result c.args.last.phase c.args.index c.args.word c.next-next.result c.config-config.result
     c.config-config.ensures c.put_word.ensures.config c.after-extent_now.ensures c.next-next.ensures in
     let end = c.image_words-end.ensures ∙ ap image_words (c.config-config.ensures ∙ c.put_word.ensures.config) in
     last_on c.args.image.now c.put_word.new.image c.args.extent c.after-extent_now.result c.args.last.phase c.args.index c.args.word c.requires.index c.requires.own
-    c.put_word.ensures.config c.put_word.ensures.image c.after-extent_now.ensures c.args.last.cset _ (omega (arith, next, end, c.if-next-end.true))
+    c.put_word.ensures.config c.put_word.ensures.image c.after-extent_now.ensures c.args.last.cset _ (omega (arith, next_right, end, c.if-next-end.true))
 
 pub returns-clause-image : goal.returns-clause-image
 returns-clause-image c =
-    let next = next_is c.args.image.now c.put_word.new.image c.args.extent c.after-extent_now.result c.args.last.phase c.args.index c.args.word c.next-next.result c.config-config.result
+    let next_right = next_is c.args.image.now c.put_word.new.image c.args.extent c.after-extent_now.result c.args.last.phase c.args.index c.args.word c.next-next.result c.config-config.result
     c.config-config.ensures c.put_word.ensures.config c.after-extent_now.ensures c.next-next.ensures in
     let end = c.image_words-end.ensures ∙ ap image_words (c.config-config.ensures ∙ c.put_word.ensures.config) in
     image_then c.args.image.now c.put_word.new.image c.args.extent c.after-extent_now.result c.args.last.phase c.args.index c.args.word c.requires.index c.requires.own
-    c.put_word.ensures.config c.put_word.ensures.image c.after-extent_now.ensures (omega (arith, next, end, c.if-next-end.false))
+    c.put_word.ensures.config c.put_word.ensures.image c.after-extent_now.ensures (omega (arith, next_right, end, c.if-next-end.false))
     c.collect_loaded.new.image c.collect_loaded.result c.collect_loaded.ensures.config c.collect_loaded.ensures.clear c.collect_loaded.ensures.image
 
 pub returns-clause-phase : goal.returns-clause-phase
 returns-clause-phase c =
-    let next = next_is c.args.image.now c.put_word.new.image c.args.extent c.after-extent_now.result c.args.last.phase c.args.index c.args.word c.next-next.result c.config-config.result
+    let next_right = next_is c.args.image.now c.put_word.new.image c.args.extent c.after-extent_now.result c.args.last.phase c.args.index c.args.word c.next-next.result c.config-config.result
     c.config-config.ensures c.put_word.ensures.config c.after-extent_now.ensures c.next-next.ensures in
     let end = c.image_words-end.ensures ∙ ap image_words (c.config-config.ensures ∙ c.put_word.ensures.config) in
     c.ended_with.ensures.phase ∙ phase_then c.args.image.now c.put_word.new.image c.args.extent c.after-extent_now.result c.args.last.phase c.args.index c.args.word c.requires.index c.requires.own
-    c.put_word.ensures.config c.put_word.ensures.image c.after-extent_now.ensures (omega (arith, next, end, c.if-next-end.false))
+    c.put_word.ensures.config c.put_word.ensures.image c.after-extent_now.ensures (omega (arith, next_right, end, c.if-next-end.false))
     c.collect_loaded.new.image c.collect_loaded.result c.collect_loaded.ensures.config c.collect_loaded.ensures.clear c.collect_loaded.ensures.image
 
 pub returns-clause-cset : goal.returns-clause-cset
 returns-clause-cset c =
-    let next = next_is c.args.image.now c.put_word.new.image c.args.extent c.after-extent_now.result c.args.last.phase c.args.index c.args.word c.next-next.result c.config-config.result
+    let next_right = next_is c.args.image.now c.put_word.new.image c.args.extent c.after-extent_now.result c.args.last.phase c.args.index c.args.word c.next-next.result c.config-config.result
     c.config-config.ensures c.put_word.ensures.config c.after-extent_now.ensures c.next-next.ensures in
     let end = c.image_words-end.ensures ∙ ap image_words (c.config-config.ensures ∙ c.put_word.ensures.config) in
     c.ended_with.ensures.cset ∙ cset_then c.args.image.now c.put_word.new.image c.args.extent c.after-extent_now.result c.args.last.phase c.args.index c.args.word c.requires.index c.requires.own
-    c.put_word.ensures.config c.put_word.ensures.image c.after-extent_now.ensures (omega (arith, next, end, c.if-next-end.false))
+    c.put_word.ensures.config c.put_word.ensures.image c.after-extent_now.ensures (omega (arith, next_right, end, c.if-next-end.false))
     c.collect_loaded.new.image c.collect_loaded.result c.collect_loaded.ensures.config c.collect_loaded.ensures.clear c.collect_loaded.ensures.image c.args.last.cset
 
 pub returns-clause-seen : goal.returns-clause-seen
 returns-clause-seen c =
-    let next = next_is c.args.image.now c.put_word.new.image c.args.extent c.after-extent_now.result c.args.last.phase c.args.index c.args.word c.next-next.result c.config-config.result
+    let next_right = next_is c.args.image.now c.put_word.new.image c.args.extent c.after-extent_now.result c.args.last.phase c.args.index c.args.word c.next-next.result c.config-config.result
     c.config-config.ensures c.put_word.ensures.config c.after-extent_now.ensures c.next-next.ensures in
     let end = c.image_words-end.ensures ∙ ap image_words (c.config-config.ensures ∙ c.put_word.ensures.config) in
     c.ended_with.ensures.seen ∙ seen_then c.args.image.now c.put_word.new.image c.args.extent c.after-extent_now.result c.args.last.phase c.args.index c.args.word c.requires.index c.requires.own
-    c.put_word.ensures.config c.put_word.ensures.image c.after-extent_now.ensures (omega (arith, next, end, c.if-next-end.false))
+    c.put_word.ensures.config c.put_word.ensures.image c.after-extent_now.ensures (omega (arith, next_right, end, c.if-next-end.false))
     c.collect_loaded.new.image c.collect_loaded.result c.collect_loaded.ensures.config c.collect_loaded.ensures.clear c.collect_loaded.ensures.image c.args.last.seen

@@ -7,8 +7,8 @@ use Rattle.control.specs.Image.{image_in}
 use Rattle.control.proofs.starts.clear_starts.Given as goal
 
 abbrev pub invariant-loop-number : goal.invariant-loop-number
-invariant-loop-number l = record {
-  config : config_of l.image ≡ config_of l.initial.image;
-  clear : IsClear l.image;
-  cleared : (index : ℕ) → slice_index (image_in l.image) index ≡ (if has (take l.number l.starts) index then 0 else slice_index (image_in l.initial.image) index);
+invariant-loop-number loop = record {
+  config : config_of loop.image ≡ config_of loop.initial.image;
+  clear : IsClear loop.image;
+  cleared : (index : ℕ) → slice_index (image_in loop.image) index ≡ (if has (take loop.number loop.starts) index then 0 else slice_index (image_in loop.initial.image) index);
 }

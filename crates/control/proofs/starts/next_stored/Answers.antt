@@ -8,14 +8,14 @@ use Rattle.control.proofs.starts.next_stored.Goals as goal
 pub loop-number-init : goal.loop-number-init
 loop-number-init c =
     let config = config_of c.args.image.now in
-    let next : c.next-next.result ≡ next_loaded config c.args.extent c.args.index = c.next-next.ensures ∙ ap (λ k. next_loaded k c.args.extent c.args.index) c.config.ensures in
-    subst (IsLeast config c.args.extent c.args.starts.now (image_in c.args.image.now) c.args.index 0) (sym next)
+    let next_right : c.next-next.result ≡ next_loaded config c.args.extent c.args.index = c.next-next.ensures ∙ ap (λ any_config. next_loaded any_config c.args.extent c.args.index) c.config.ensures in
+    subst (IsLeast config c.args.extent c.args.starts.now (image_in c.args.image.now) c.args.index 0) (sym next_right)
     (least_first config c.args.extent c.args.starts.now (image_in c.args.image.now) c.args.index c.requires.index)
 
 pub lesser-next-requires : goal.lesser-next-requires
 lesser-next-requires c =
-    let of = c.requires.heap c.loop-number.number (omega (arith, c.loop-number-test.true)) in
-    omega (arith, of.1)
+    let of_heap = c.requires.heap c.loop-number.number (omega (arith, c.loop-number-test.true)) in
+    omega (arith, of_heap.1)
 
 pub loop-number-preserved : goal.loop-number-preserved
 loop-number-preserved c =

@@ -4,4 +4,4 @@ use Rattle.control.proofs.Storing.{IsLeast}
 use Rattle.control.proofs.starts.next_stored.Given as goal
 
 abbrev pub invariant-loop-number : goal.invariant-loop-number
-invariant-loop-number l = IsLeast (config_of l.image) l.fn.extent l.starts (image_in l.image) l.index l.number l.next
+invariant-loop-number loop = IsLeast (config_of loop.image) loop.fn.extent loop.starts (image_in loop.image) loop.index loop.number loop.next

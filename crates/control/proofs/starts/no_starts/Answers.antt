@@ -5,7 +5,7 @@ use Rattle.control.proofs.Starting.{first_of_heap}
 use Rattle.control.proofs.starts.no_starts.Goals as goal
 
 pub returns : goal.returns
-returns c = λ i less.
+returns c = λ index index_less.
     let config = c.args.config in
-    let below : i < 12 = omega (arith, less) in
-    subst (IsHeapIndex config) (sym (get_or-replicate 12 i c.heap_index.result 0 below)) (subst (IsHeapIndex config) (sym c.heap_index.ensures) (first_of_heap config))
+    let index_below : index < 12 = omega (arith, index_less) in
+    subst (IsHeapIndex config) (sym (get_or-replicate 12 index c.heap_index.result 0 index_below)) (subst (IsHeapIndex config) (sym c.heap_index.ensures) (first_of_heap config))

@@ -6,8 +6,8 @@ use Rattle.control.specs.Starts.{start_index, AreHeapIndices}
 use Rattle.control.proofs.starts.starts_in.Given as goal
 
 abbrev pub invariant-loop-seat : goal.invariant-loop-seat
-invariant-loop-seat l = record {
-  long : length l.starts ≡ 12;
-  of_seat : (seat : ℕ) → seat < l.seat → slice_index l.starts seat ≡ start_index (config_of l.image) (memory_of l.image (Current seat));
-  heap : AreHeapIndices (config_of l.image) l.starts;
+invariant-loop-seat loop = record {
+  long : length loop.starts ≡ 12;
+  of_seat : (seat : ℕ) → seat < loop.seat → slice_index loop.starts seat ≡ start_index (config_of loop.image) (memory_of loop.image (Current seat));
+  heap : AreHeapIndices (config_of loop.image) loop.starts;
 }

@@ -3,4 +3,4 @@ use Rattle.covremuj.specs.OpenedHandles.{seats_held}
 use Rattle.covremuj.proofs.closing.all_of.Given as goal
 
 abbrev pub invariant-loop-at : goal.invariant-loop-at
-invariant-loop-at l = seats_held l.handles ≡ seats_held l.initial.handles
+invariant-loop-at loop = seats_held loop.handles ≡ seats_held loop.initial.handles

@@ -8,9 +8,9 @@ use Rattle.covremuj.proofs.GivenUp.{make_up}
 use Rattle.covremuj.proofs.closing.cvm_close_all.Goals as goal
 
 pub returns-clause-history : goal.returns-clause-history
-returns-clause-history c done one =
-    let held = seats_held c.args.handles.now in
+returns-clause-history c is_done one_heap =
+    let held_seats = seats_held c.args.handles.now in
     let asked = c.if-why-ne-DONE.false in
-    let why : c.refuses-why.result ≡ 0 = grind (arith, nat_tests, asked) in
-    subst (λ (os : List (Option Seat)). MakeUpHeap (seats_in os) → HaveHistory (seats_in os)) c.refuses-why.ensures.held c.give_up_all.ensures.history
-    (make_up held (subst (AnswersClosing held) why c.refuses-why.ensures.answer) one)
+    let refused_none : c.refuses-why.result ≡ 0 = grind (arith, nat_tests, asked) in
+    subst (λ (some_seats : List (Option Seat)). MakeUpHeap (seats_in some_seats) → HaveHistory (seats_in some_seats)) c.refuses-why.ensures.held c.give_up_all.ensures.history
+    (make_up held_seats (subst (AnswersClosing held_seats) refused_none c.refuses-why.ensures.answer) one_heap)

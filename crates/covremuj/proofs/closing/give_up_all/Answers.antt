@@ -12,26 +12,26 @@ use Rattle.covremuj.proofs.closing.give_up_all.Goals as goal
 
 pub loop-at-preserved : goal.loop-at-preserved
 loop-at-preserved c =
-    let l = c.loop-at in
-    let d = c.index-handles-at.result in
-    let before = l.invariant.1 in
-    let held : Option Seat = (get_or l.handles l.at d).held in
-    let below = c.loop-at-test.true in
-    let long = l.auto.handles in (
-      emptied_more l.handles l.at c.take.new.self (omega (arith, below, long)) c.take.ensures.empty l.invariant.0,
-      before ++ seat_in held,
-      subst (λ (found : Option Seat). AreGathered (before ++ seat_in found) c.with_next-gathering.result) (given_is_held c.take.result held c.take.ensures.taken) (c.with_next-gathering.ensures before l.invariant.2),
-      append_assoc before (seat_in held) (seats_in (seats_held (slice_set l.handles l.at c.take.new.self)))
-          ∙ ap (λ (ys : List Seat). before ++ ys) (sym (taken_next l.handles l.at d c.take.new.self (omega (arith, below, long)) c.take.ensures.empty l.invariant.0)) ∙ l.invariant.3,
+    let loop = c.loop-at in
+    let default_handle = c.index-handles-at.result in
+    let before = loop.invariant.1 in
+    let held_seat : Option Seat = (get_or loop.handles loop.at default_handle).held in
+    let index_below = c.loop-at-test.true in
+    let same_length = loop.auto.handles in (
+      emptied_more loop.handles loop.at c.take.new.self (omega (arith, index_below, same_length)) c.take.ensures.empty loop.invariant.0,
+      before ++ seat_in held_seat,
+      subst (λ (found : Option Seat). AreGathered (before ++ seat_in found) c.with_next-gathering.result) (given_is_held c.take.result held_seat c.take.ensures.taken) (c.with_next-gathering.ensures before loop.invariant.2),
+      append_assoc before (seat_in held_seat) (seats_in (seats_held (slice_set loop.handles loop.at c.take.new.self)))
+          ∙ ap (λ (later_seats : List Seat). before ++ later_seats) (sym (taken_next loop.handles loop.at default_handle c.take.new.self (omega (arith, index_below, same_length)) c.take.ensures.empty loop.invariant.0)) ∙ loop.invariant.3,
     )
 
 pub returns-clause-history : goal.returns-clause-history
-returns-clause-history c up =
-    let l = c.loop-at in
-    let before = l.invariant.1 in
-    let long : length (seats_held l.handles) ≡ length l.handles = length-map l.handles (λ (handle : Handle). handle.held) in
-    let past = c.loop-at-test.false in
-    let same = l.auto.handles in
-    let none : any_held (seats_held l.handles) ≡ false = ap any_held (sym (take_all l.at (seats_held l.handles) (omega (arith, long, past, same)))) ∙ l.invariant.0 in
-    let whole : before ≡ seats_in (seats_held c.args.handles.now) = sym (append-nil before) ∙ ap (λ (ys : List Seat). before ++ ys) (sym (none_left (seats_held l.handles) none)) ∙ l.invariant.3 in
-    c.end.ensures (seats_in (seats_held c.args.handles.now)) (subst (λ (xs : List Seat). AreGathered xs l.gathering) whole l.invariant.2) up
+returns-clause-history c make_up =
+    let loop = c.loop-at in
+    let before = loop.invariant.1 in
+    let seats_length : length (seats_held loop.handles) ≡ length loop.handles = length-map loop.handles (λ (handle : Handle). handle.held) in
+    let all_passed = c.loop-at-test.false in
+    let same_length = loop.auto.handles in
+    let none_held : any_held (seats_held loop.handles) ≡ false = ap any_held (sym (take_all loop.at (seats_held loop.handles) (omega (arith, seats_length, all_passed, same_length)))) ∙ loop.invariant.0 in
+    let all_gathered : before ≡ seats_in (seats_held c.args.handles.now) = sym (append-nil before) ∙ ap (λ (later_seats : List Seat). before ++ later_seats) (sym (none_left (seats_held loop.handles) none_held)) ∙ loop.invariant.3 in
+    c.end.ensures (seats_in (seats_held c.args.handles.now)) (subst (λ (seats : List Seat). AreGathered seats loop.gathering) all_gathered loop.invariant.2) make_up

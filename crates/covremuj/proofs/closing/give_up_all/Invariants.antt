@@ -6,4 +6,4 @@ use Rattle.covremuj.specs.ClosedHandles.{seats_in}
 use Rattle.covremuj.proofs.closing.give_up_all.Given as goal
 
 abbrev pub invariant-loop-at : goal.invariant-loop-at
-invariant-loop-at l = (any_held (take l.at (seats_held l.handles)) ≡ false) × (before : List Seat) × AreGathered before l.gathering × (before ++ seats_in (seats_held l.handles) ≡ seats_in (seats_held l.initial.handles))
+invariant-loop-at loop = (any_held (take loop.at (seats_held loop.handles)) ≡ false) × (before : List Seat) × AreGathered before loop.gathering × (before ++ seats_in (seats_held loop.handles) ≡ seats_in (seats_held loop.initial.handles))

@@ -13,6 +13,6 @@ returns-in_default-Some c =
 pub returns-in-Some-None : goal.returns-in-Some-None
 returns-in-Some-None c =
     let seat = c.args.seat.now in
-    let said = c.begin.ensures in
+    let begin_said = c.begin.ensures in
     subst (λ command. BeginsBy (is_mutator seat) seat (Some c.begin.new.self) command c.of_order.result) (sym c.in-Some-None.is-0)
-    (begins_command seat c.begin.new.self c.in-Some-None.command c.begin.result c.of_order.result (sym c.is_mutator.ensures ∙ c.if-not-is_mutator.false) said.refused said.unchanged said.ordered c.of_order.ensures)
+    (begins_command seat c.begin.new.self c.in-Some-None.command c.begin.result c.of_order.result (sym c.is_mutator.ensures ∙ c.if-not-is_mutator.false) begin_said.refused begin_said.unchanged begin_said.ordered c.of_order.ensures)

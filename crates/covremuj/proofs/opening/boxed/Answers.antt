@@ -9,6 +9,6 @@ loop-seat-init c = ap (λ boxes. c.args.seats.items ++ reverse (seats_of boxes))
 
 pub loop-seat-preserved : goal.loop-seat-preserved
 loop-seat-preserved c =
-    let l = c.loop-seat in
+    let loop = c.loop-seat in
     ap (λ boxes. c.pop.new.self.items ++ reverse (seats_of boxes)) c.in-Ok-push.ensures.items
-    ∙ boxed_more l.seats.items c.pop.new.self.items c.in-Some.seat l.boxes.items c.in-Ok-new.boxed c.args.seats.items c.in-Some.ensures.items c.in-Ok-new.ensures.ok l.invariant
+    ∙ boxed_more loop.seats.items c.pop.new.self.items c.in-Some.seat loop.boxes.items c.in-Ok-new.boxed c.args.seats.items c.in-Some.ensures.items c.in-Ok-new.ensures.ok loop.invariant

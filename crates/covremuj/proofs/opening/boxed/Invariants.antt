@@ -4,7 +4,7 @@ use Rattle.covremuj.proofs.opening.boxed.Given as goal
 
 -- those that are left come before those in boxes, the last one first
 abbrev pub invariant-loop-seat : goal.invariant-loop-seat
-invariant-loop-seat l = l.seats.items ++ reverse (map (λ b. b.value) l.boxes.items) ≡ l.initial.seats.items
+invariant-loop-seat loop = loop.seats.items ++ reverse (map (λ box. box.value) loop.boxes.items) ≡ loop.initial.seats.items
 
 abbrev pub decreases-loop-seat : goal.decreases-loop-seat
-decreases-loop-seat l = vec_len l.seats
+decreases-loop-seat loop = vec_len loop.seats

@@ -6,9 +6,9 @@ use Rattle.covremuj.proofs.opening.fill_all.Goals as goal
 
 pub loop-at-preserved : goal.loop-at-preserved
 loop-at-preserved c =
-    let l = c.loop-at in
+    let loop = c.loop-at in
     let split = c.in-Some.ensures.items in
-    let long = ap length split ∙ length-append c.pop.new.self.items (c.in-Some.seat ∷ []) in (
-      omega (arith, long, l.invariant.0, length-set l.handles l.at c.fill.new.self),
-      filled_more l.handles l.at c.fill.new.self l.seats.items c.pop.new.self.items c.in-Some.seat (map Some (reverse (seats_of c.args.seats.items))) (omega (arith, c.loop-at-test.true, l.auto.handles)) split c.fill.ensures l.invariant.1,
+    let split_length = ap length split ∙ length-append c.pop.new.self.items (c.in-Some.seat ∷ []) in (
+      omega (arith, split_length, loop.invariant.0, length-set loop.handles loop.at c.fill.new.self),
+      filled_more loop.handles loop.at c.fill.new.self loop.seats.items c.pop.new.self.items c.in-Some.seat (map Some (reverse (seats_of c.args.seats.items))) (omega (arith, c.loop-at-test.true, loop.auto.handles)) split c.fill.ensures loop.invariant.1,
     )

@@ -5,6 +5,6 @@ use Rattle.covremuj.proofs.opening.fill_all.Given as goal
 
 -- the handles before this one hold the seats that are gone, the last one first
 abbrev pub invariant-loop-at : goal.invariant-loop-at
-invariant-loop-at l =
-    (length l.seats.items + l.at ≡ length l.handles)
-    × (take l.at (seats_held l.handles) ++ map Some (reverse (map (λ b. b.value) l.seats.items)) ≡ map Some (reverse (map (λ b. b.value) l.initial.seats.items)))
+invariant-loop-at loop =
+    (length loop.seats.items + loop.at ≡ length loop.handles)
+    × (take loop.at (seats_held loop.handles) ++ map Some (reverse (map (λ box. box.value) loop.seats.items)) ≡ map Some (reverse (map (λ box. box.value) loop.initial.seats.items)))

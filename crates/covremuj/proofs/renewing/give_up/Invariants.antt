@@ -6,4 +6,4 @@ use Rattle.covremuj.specs.RenewedHandles.{AreGivenIn}
 use Rattle.covremuj.proofs.renewing.give_up.Given as goal
 
 abbrev pub invariant-loop-at : goal.invariant-loop-at
-invariant-loop-at l = (any_held (take l.at (seats_held l.handles)) ≡ false) × (before : List Seat) × AreGivenIn before l.closing × (before ++ seats_in (seats_held l.handles) ≡ seats_in (seats_held l.initial.handles))
+invariant-loop-at loop = (any_held (take loop.at (seats_held loop.handles)) ≡ false) × (before : List Seat) × AreGivenIn before loop.closing × (before ++ seats_in (seats_held loop.handles) ≡ seats_in (seats_held loop.initial.handles))

@@ -10,10 +10,10 @@ use Rattle.covremuj.proofs.renewing.renewed.Goals as goal
 
 pub renew-requires-clause-room : goal.renew-requires-clause-room
 renew-requires-clause-room c =
-    let all = c.in_ok-closing.ensures.given.all in
-    let count = all.count in
-    let s = element_at (seats_in (seats_held c.args.handles.now)) 0 (omega (arith, count)) in
-    c.requires.room s.0 s.1 ∙ all.config 0 s.0 s.1
+    let all_given = c.in_ok-closing.ensures.given.all in
+    let count = all_given.count in
+    let first_seat = element_at (seats_in (seats_held c.args.handles.now)) 0 (omega (arith, count)) in
+    c.requires.room first_seat.0 first_seat.1 ∙ all_given.config 0 first_seat.0 first_seat.1
 
 pub returns-clause-goes_on : goal.returns-clause-goes_on
 returns-clause-goes_on c =
@@ -24,7 +24,7 @@ returns-clause-goes_on c =
       sizes = sizes_closing closing;
       start = start_closing closing;
       config = to_be.all.config;
-      begun = λ address s there. ap (λ (heap : Heap). start_of_heap heap) (to_be.all.heap address s there);
+      begun = λ address seat seat_there. ap (λ (heap : Heap). start_of_heap heap) (to_be.all.heap address seat seat_there);
       followed = followed;
     })
     (c.renew.ensures (seats_in (seats_held c.args.handles.now)) to_be)

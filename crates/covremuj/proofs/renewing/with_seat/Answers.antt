@@ -11,19 +11,19 @@ use Rattle.covremuj.proofs.Renewals.{given_first, given_more}
 use Rattle.covremuj.proofs.renewing.with_seat.Goals as goal
 
 pub returns-in-None : goal.returns-in-None
-returns-in-None c before given absent =
-    let s = c.into_inner-seat.result in
-    let is : option_map (λ (box : Box Seat). box.value) c.args.seat ≡ Some s = ap (option_map (λ (box : Box Seat). box.value)) c.in-Some.is ∙ ap (λ (seat : Seat). Some seat) (sym c.into_inner-seat.ensures) in
-    let none : before ≡ [] = subst (AreGivenIn before) c.in-None.is given in
-    let path : before ++ seat_in (option_map (λ (box : Box Seat). box.value) c.args.seat) ≡ s ∷ [] = ap (λ (found : Option Seat). before ++ seat_in found) is ∙ ap (λ (xs : List Seat). xs ++ s ∷ []) none in
-    subst (λ (xs : List Seat). AreGivenAs xs c.of.result) (sym path) (given_first s c.of.result c.of.ensures.given c.of.ensures.heap)
+returns-in-None c before seats_given absent =
+    let inner_seat = c.into_inner-seat.result in
+    let seat_boxed : option_map (λ (box : Box Seat). box.value) c.args.seat ≡ Some inner_seat = ap (option_map (λ (box : Box Seat). box.value)) c.in-Some.is ∙ ap (λ (seat : Seat). Some seat) (sym c.into_inner-seat.ensures) in
+    let none_before : before ≡ [] = subst (AreGivenIn before) c.in-None.is seats_given in
+    let path : before ++ seat_in (option_map (λ (box : Box Seat). box.value) c.args.seat) ≡ inner_seat ∷ [] = ap (λ (found : Option Seat). before ++ seat_in found) seat_boxed ∙ ap (λ (seats : List Seat). seats ++ inner_seat ∷ []) none_before in
+    subst (λ (seats : List Seat). AreGivenAs seats c.of.result) (sym path) (given_first inner_seat c.of.result c.of.ensures.given c.of.ensures.heap)
 
 pub returns-in-Some-closing : goal.returns-in-Some-closing
-returns-in-Some-closing c before given absent =
-    let s = c.into_inner-seat.result in
-    let is : option_map (λ (box : Box Seat). box.value) c.args.seat ≡ Some s = ap (option_map (λ (box : Box Seat). box.value)) c.in-Some.is ∙ ap (λ (seat : Seat). Some seat) (sym c.into_inner-seat.ensures) in
+returns-in-Some-closing c before seats_given absent =
+    let inner_seat = c.into_inner-seat.result in
+    let seat_boxed : option_map (λ (box : Box Seat). box.value) c.args.seat ≡ Some inner_seat = ap (option_map (λ (box : Box Seat). box.value)) c.in-Some.is ∙ ap (λ (seat : Seat). Some seat) (sym c.into_inner-seat.ensures) in
     let old : Closing = c.in-Some-closing.closing in
-    let was : AreGivenAs before old = subst (AreGivenIn before) c.in-Some-closing.is given in
-    let none : HaveNot before (number_of s) = subst (AreAbsent before) is absent in
-    let path : before ++ seat_in (option_map (λ (box : Box Seat). box.value) c.args.seat) ≡ before ++ s ∷ [] = ap (λ (found : Option Seat). before ++ seat_in found) is in
-    subst (λ (xs : List Seat). AreGivenAs xs c.with.result) (sym path) (given_more before s old c.with.result was (c.with.ensures.given before was.given none) c.with.ensures.heap)
+    let given_before : AreGivenAs before old = subst (AreGivenIn before) c.in-Some-closing.is seats_given in
+    let seat_absent : HaveNot before (number_of inner_seat) = subst (AreAbsent before) seat_boxed absent in
+    let path : before ++ seat_in (option_map (λ (box : Box Seat). box.value) c.args.seat) ≡ before ++ inner_seat ∷ [] = ap (λ (found : Option Seat). before ++ seat_in found) seat_boxed in
+    subst (λ (seats : List Seat). AreGivenAs seats c.with.result) (sym path) (given_more before inner_seat old c.with.result given_before (c.with.ensures.given before given_before.given seat_absent) c.with.ensures.heap)

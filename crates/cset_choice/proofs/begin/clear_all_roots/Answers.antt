@@ -15,22 +15,22 @@ clear_roots-requires-clause-can c =
     let config = config_of c.args.image.now in
     let memory : Word → ℕ = memory_of c.args.image.now in
     let mutator = c.loop-mutator.mutator in
-    let is = c.loop-mutator.invariant in
-    let below : mutator < config.mutators = omega (arith, c.loop-mutator-test.true, c.mutators-mutator-end.ensures, ap (λ (config : Config). config.mutators) c.config-config.ensures) in
-    subst (λ (config : Config). CanClearInTurn config (memory_of c.loop-mutator.image) (map (Root mutator) (range_with_len 0 16))) (sym is.config)
-    (subst (λ (memory : Word → ℕ). CanClearInTurn config memory (map (Root mutator) (range_with_len 0 16))) (sym is.words) (rows_can config memory config.mutators mutator below c.requires))
+    let cleared_so_far = c.loop-mutator.invariant in
+    let mutator_below : mutator < config.mutators = omega (arith, c.loop-mutator-test.true, c.mutators-mutator-end.ensures, ap (λ (config : Config). config.mutators) c.config-config.ensures) in
+    subst (λ (config : Config). CanClearInTurn config (memory_of c.loop-mutator.image) (map (Root mutator) (range_with_len 0 16))) (sym cleared_so_far.config)
+    (subst (λ (memory : Word → ℕ). CanClearInTurn config memory (map (Root mutator) (range_with_len 0 16))) (sym cleared_so_far.words) (rows_can config memory config.mutators mutator mutator_below c.requires))
 
 pub loop-mutator-preserved : goal.loop-mutator-preserved
 loop-mutator-preserved c =
     let config = config_of c.args.image.now in
     let memory : Word → ℕ = memory_of c.args.image.now in
     let mutator = c.loop-mutator.mutator in
-    let is = c.loop-mutator.invariant in
+    let cleared_so_far = c.loop-mutator.invariant in
     let places = map (Root mutator) (range_with_len 0 16) in
     record {
-      config = c.clear_roots.ensures.config ∙ is.config;
+      config = c.clear_roots.ensures.config ∙ cleared_so_far.config;
       words = c.clear_roots.ensures.words
-          ∙ ap (λ (config : Config). cleared_in_turn config (memory_of c.loop-mutator.image) places) is.config
-          ∙ ap (λ (memory : Word → ℕ). cleared_in_turn config memory places) is.words
+          ∙ ap (λ (config : Config). cleared_in_turn config (memory_of c.loop-mutator.image) places) cleared_so_far.config
+          ∙ ap (λ (memory : Word → ℕ). cleared_in_turn config memory places) cleared_so_far.words
           ∙ rows_next config memory mutator;
     }

@@ -4,7 +4,7 @@ use Rattle.cycle_words.specs.Evacuation.Begun.{cleared_in_turn, root_places}
 use Rattle.cset_choice.proofs.begin.clear_all_roots.Given as goal
 
 abbrev pub invariant-loop-mutator : goal.invariant-loop-mutator
-invariant-loop-mutator l = record {
-  config : config_of l.image ≡ config_of l.fn.image;
-  words : memory_of l.image ≡ cleared_in_turn (config_of l.fn.image) (memory_of l.fn.image) (root_places l.mutator);
+invariant-loop-mutator loop = record {
+  config : config_of loop.image ≡ config_of loop.fn.image;
+  words : memory_of loop.image ≡ cleared_in_turn (config_of loop.fn.image) (memory_of loop.fn.image) (root_places loop.mutator);
 }

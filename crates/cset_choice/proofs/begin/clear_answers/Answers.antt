@@ -15,33 +15,33 @@ clear-requires-clause-can c =
     let config = config_of c.args.image.now in
     let memory : Word → ℕ = memory_of c.args.image.now in
     let mutator = c.loop-mutator.mutator in
-    let below : mutator < config.mutators = omega (arith, c.loop-mutator-test.true, c.mutators-mutator-end.ensures, ap (λ (config : Config). config.mutators) c.config-config.ensures) in
-    let now = c.loop-mutator.image in
-    let is = c.loop-mutator.invariant in
-    let word : IsWord (config_of now) (Answer mutator) = subst (λ (config : Config). IsWord config (Answer mutator)) (sym is.config) below in
-    let at : c.answer_at.result ≡ word_at (config_of now) (Answer mutator) = c.answer_at.ensures ∙ ap (λ (config : Config). word_at config (Answer mutator)) (c.config-config.ensures ∙ sym is.config) in
-    let value : slice_index (words_of now) c.answer_at.result ≡ memory_of now (Answer mutator) =
-    ap (slice_index (words_of now)) at ∙ sym (view_word (config_of now) (words_of now) (Answer mutator) word) in
-    let here : CanClear config (row config memory Answer mutator) (memory_of now (Answer mutator)) =
-    subst (λ (other_memory : Word → ℕ). CanClear config (row config memory Answer mutator) (other_memory (Answer mutator))) (sym is.words) (row_can config memory Answer config.mutators mutator below c.requires) in
-    subst (λ (config : Config). CanClear config (memory_of now) (slice_index (words_of now) c.answer_at.result)) (sym is.config)
-    (subst (λ (memory : Word → ℕ). CanClear config memory (slice_index (words_of now) c.answer_at.result)) (sym is.words)
-    (subst (CanClear config (row config memory Answer mutator)) (sym value) here))
+    let mutator_below : mutator < config.mutators = omega (arith, c.loop-mutator-test.true, c.mutators-mutator-end.ensures, ap (λ (config : Config). config.mutators) c.config-config.ensures) in
+    let image_now = c.loop-mutator.image in
+    let cleared_so_far = c.loop-mutator.invariant in
+    let word : IsWord (config_of image_now) (Answer mutator) = subst (λ (config : Config). IsWord config (Answer mutator)) (sym cleared_so_far.config) mutator_below in
+    let answer_place : c.answer_at.result ≡ word_at (config_of image_now) (Answer mutator) = c.answer_at.ensures ∙ ap (λ (config : Config). word_at config (Answer mutator)) (c.config-config.ensures ∙ sym cleared_so_far.config) in
+    let value : slice_index (words_of image_now) c.answer_at.result ≡ memory_of image_now (Answer mutator) =
+    ap (slice_index (words_of image_now)) answer_place ∙ sym (view_word (config_of image_now) (words_of image_now) (Answer mutator) word) in
+    let can_clear : CanClear config (row config memory Answer mutator) (memory_of image_now (Answer mutator)) =
+    subst (λ (some_memory : Word → ℕ). CanClear config (row config memory Answer mutator) (some_memory (Answer mutator))) (sym cleared_so_far.words) (row_can config memory Answer config.mutators mutator mutator_below c.requires) in
+    subst (λ (config : Config). CanClear config (memory_of image_now) (slice_index (words_of image_now) c.answer_at.result)) (sym cleared_so_far.config)
+    (subst (λ (memory : Word → ℕ). CanClear config memory (slice_index (words_of image_now) c.answer_at.result)) (sym cleared_so_far.words)
+    (subst (CanClear config (row config memory Answer mutator)) (sym value) can_clear))
 
 pub loop-mutator-preserved : goal.loop-mutator-preserved
 loop-mutator-preserved c =
     let config = config_of c.args.image.now in
     let memory : Word → ℕ = memory_of c.args.image.now in
     let mutator = c.loop-mutator.mutator in
-    let below : mutator < config.mutators = omega (arith, c.loop-mutator-test.true, c.mutators-mutator-end.ensures, ap (λ (config : Config). config.mutators) c.config-config.ensures) in
-    let now = c.loop-mutator.image in
-    let is = c.loop-mutator.invariant in
-    let word : IsWord (config_of now) (Answer mutator) = subst (λ (config : Config). IsWord config (Answer mutator)) (sym is.config) below in
-    let at : c.answer_at.result ≡ word_at (config_of now) (Answer mutator) = c.answer_at.ensures ∙ ap (λ (config : Config). word_at config (Answer mutator)) (c.config-config.ensures ∙ sym is.config) in
+    let mutator_below : mutator < config.mutators = omega (arith, c.loop-mutator-test.true, c.mutators-mutator-end.ensures, ap (λ (config : Config). config.mutators) c.config-config.ensures) in
+    let image_now = c.loop-mutator.image in
+    let cleared_so_far = c.loop-mutator.invariant in
+    let word : IsWord (config_of image_now) (Answer mutator) = subst (λ (config : Config). IsWord config (Answer mutator)) (sym cleared_so_far.config) mutator_below in
+    let answer_place : c.answer_at.result ≡ word_at (config_of image_now) (Answer mutator) = c.answer_at.ensures ∙ ap (λ (config : Config). word_at config (Answer mutator)) (c.config-config.ensures ∙ sym cleared_so_far.config) in
     record {
-      config = c.clear.ensures.config ∙ is.config;
-      words = c.clear.ensures.words (Answer mutator) word (sym at)
-          ∙ ap (λ (config : Config). cleared_at config (memory_of now) (Answer mutator)) is.config
-          ∙ ap (λ (memory : Word → ℕ). cleared_at config memory (Answer mutator)) is.words
+      config = c.clear.ensures.config ∙ cleared_so_far.config;
+      words = c.clear.ensures.words (Answer mutator) word (sym answer_place)
+          ∙ ap (λ (config : Config). cleared_at config (memory_of image_now) (Answer mutator)) cleared_so_far.config
+          ∙ ap (λ (memory : Word → ℕ). cleared_at config memory (Answer mutator)) cleared_so_far.words
           ∙ row_next config memory Answer mutator;
     }

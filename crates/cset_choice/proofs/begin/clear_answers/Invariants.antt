@@ -5,7 +5,7 @@ use Rattle.cset_choice.proofs.ClearedInTurn.{row}
 use Rattle.cset_choice.proofs.begin.clear_answers.Given as goal
 
 abbrev pub invariant-loop-mutator : goal.invariant-loop-mutator
-invariant-loop-mutator l = record {
-  config : config_of l.image ≡ config_of l.fn.image;
-  words : memory_of l.image ≡ row (config_of l.fn.image) (memory_of l.fn.image) Answer l.mutator;
+invariant-loop-mutator loop = record {
+  config : config_of loop.image ≡ config_of loop.fn.image;
+  words : memory_of loop.image ≡ row (config_of loop.fn.image) (memory_of loop.fn.image) Answer loop.mutator;
 }

@@ -16,17 +16,17 @@ clear-requires-clause-can c =
     let memory : Word → ℕ = memory_of c.args.image.now in
     let mutator = c.args.mutator in
     let index = c.loop-index.index in
-    let now = c.loop-index.image in
-    let is = c.loop-index.invariant in
-    let word : IsWord (config_of now) (Root mutator index) = subst (λ (config : Config). IsWord config (Root mutator index)) (sym is.config) (c.requires.mutator, c.loop-index-test.true) in
-    let at : c.root_at.result ≡ word_at (config_of now) (Root mutator index) = c.root_at.ensures ∙ ap (λ (config : Config). word_at config (Root mutator index)) (c.config-config.ensures ∙ sym is.config) in
-    let value : slice_index (words_of now) c.root_at.result ≡ memory_of now (Root mutator index) =
-    ap (slice_index (words_of now)) at ∙ sym (view_word (config_of now) (words_of now) (Root mutator index) word) in
-    let here : CanClear config (row config memory (Root mutator) index) (memory_of now (Root mutator index)) =
-    subst (λ (other_memory : Word → ℕ). CanClear config (row config memory (Root mutator) index) (other_memory (Root mutator index))) (sym is.words) (row_can config memory (Root mutator) 16 index c.loop-index-test.true c.requires.can) in
-    subst (λ (config : Config). CanClear config (memory_of now) (slice_index (words_of now) c.root_at.result)) (sym is.config)
-    (subst (λ (memory : Word → ℕ). CanClear config memory (slice_index (words_of now) c.root_at.result)) (sym is.words)
-    (subst (CanClear config (row config memory (Root mutator) index)) (sym value) here))
+    let image_now = c.loop-index.image in
+    let cleared_so_far = c.loop-index.invariant in
+    let word : IsWord (config_of image_now) (Root mutator index) = subst (λ (config : Config). IsWord config (Root mutator index)) (sym cleared_so_far.config) (c.requires.mutator, c.loop-index-test.true) in
+    let root_place : c.root_at.result ≡ word_at (config_of image_now) (Root mutator index) = c.root_at.ensures ∙ ap (λ (config : Config). word_at config (Root mutator index)) (c.config-config.ensures ∙ sym cleared_so_far.config) in
+    let value : slice_index (words_of image_now) c.root_at.result ≡ memory_of image_now (Root mutator index) =
+    ap (slice_index (words_of image_now)) root_place ∙ sym (view_word (config_of image_now) (words_of image_now) (Root mutator index) word) in
+    let can_clear : CanClear config (row config memory (Root mutator) index) (memory_of image_now (Root mutator index)) =
+    subst (λ (some_memory : Word → ℕ). CanClear config (row config memory (Root mutator) index) (some_memory (Root mutator index))) (sym cleared_so_far.words) (row_can config memory (Root mutator) 16 index c.loop-index-test.true c.requires.can) in
+    subst (λ (config : Config). CanClear config (memory_of image_now) (slice_index (words_of image_now) c.root_at.result)) (sym cleared_so_far.config)
+    (subst (λ (memory : Word → ℕ). CanClear config memory (slice_index (words_of image_now) c.root_at.result)) (sym cleared_so_far.words)
+    (subst (CanClear config (row config memory (Root mutator) index)) (sym value) can_clear))
 
 pub loop-index-preserved : goal.loop-index-preserved
 loop-index-preserved c =
@@ -34,14 +34,14 @@ loop-index-preserved c =
     let memory : Word → ℕ = memory_of c.args.image.now in
     let mutator = c.args.mutator in
     let index = c.loop-index.index in
-    let now = c.loop-index.image in
-    let is = c.loop-index.invariant in
-    let word : IsWord (config_of now) (Root mutator index) = subst (λ (config : Config). IsWord config (Root mutator index)) (sym is.config) (c.requires.mutator, c.loop-index-test.true) in
-    let at : c.root_at.result ≡ word_at (config_of now) (Root mutator index) = c.root_at.ensures ∙ ap (λ (config : Config). word_at config (Root mutator index)) (c.config-config.ensures ∙ sym is.config) in
+    let image_now = c.loop-index.image in
+    let cleared_so_far = c.loop-index.invariant in
+    let word : IsWord (config_of image_now) (Root mutator index) = subst (λ (config : Config). IsWord config (Root mutator index)) (sym cleared_so_far.config) (c.requires.mutator, c.loop-index-test.true) in
+    let root_place : c.root_at.result ≡ word_at (config_of image_now) (Root mutator index) = c.root_at.ensures ∙ ap (λ (config : Config). word_at config (Root mutator index)) (c.config-config.ensures ∙ sym cleared_so_far.config) in
     record {
-      config = c.clear.ensures.config ∙ is.config;
-      words = c.clear.ensures.words (Root mutator index) word (sym at)
-          ∙ ap (λ (config : Config). cleared_at config (memory_of now) (Root mutator index)) is.config
-          ∙ ap (λ (memory : Word → ℕ). cleared_at config memory (Root mutator index)) is.words
+      config = c.clear.ensures.config ∙ cleared_so_far.config;
+      words = c.clear.ensures.words (Root mutator index) word (sym root_place)
+          ∙ ap (λ (config : Config). cleared_at config (memory_of image_now) (Root mutator index)) cleared_so_far.config
+          ∙ ap (λ (memory : Word → ℕ). cleared_at config memory (Root mutator index)) cleared_so_far.words
           ∙ row_next config memory (Root mutator) index;
     }

@@ -5,7 +5,7 @@ use Rattle.cset_choice.proofs.ClearedInTurn.{row}
 use Rattle.cset_choice.proofs.begin.clear_roots.Given as goal
 
 abbrev pub invariant-loop-index : goal.invariant-loop-index
-invariant-loop-index l = record {
-  config : config_of l.image ≡ config_of l.fn.image;
-  words : memory_of l.image ≡ row (config_of l.fn.image) (memory_of l.fn.image) (Root l.mutator) l.index;
+invariant-loop-index loop = record {
+  config : config_of loop.image ≡ config_of loop.fn.image;
+  words : memory_of loop.image ≡ row (config_of loop.fn.image) (memory_of loop.fn.image) (Root loop.mutator) loop.index;
 }

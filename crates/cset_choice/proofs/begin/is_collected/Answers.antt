@@ -9,4 +9,4 @@ use Rattle.cset_choice.proofs.begin.is_collected.Goals as goal
 pub returns-then-not-is_address : goal.returns-then-not-is_address
 returns-then-not-is_address c =
     sym (not_of_heap (config_of c.args.image.now) (memory_of c.args.image.now) c.args.word c.requires
-    (λ is. true≢false (sym (c.is_address.ensures.1 (subst (λ (config : Config). IsWord config (Heap c.args.word)) (sym c.config-config.ensures) is)) ∙ c.if-not-is_address.true)))
+    (λ address_inside. true≢false (sym (c.is_address.ensures.1 (subst (λ (config : Config). IsWord config (Heap c.args.word)) (sym c.config-config.ensures) address_inside)) ∙ c.if-not-is_address.true)))

@@ -26,10 +26,10 @@ returns-clause-words c =
     let config = config_of c.args.image.now in
     let memory : Word → ℕ = memory_of c.args.image.now in
     let address = c.args.address in
-    let header : c.word-header.result ≡ memory (Heap address) =
+    let header_read : c.word-header.result ≡ memory (Heap address) =
     c.word-header.ensures.named (Heap address) (collected_of_heap config memory address c.requires.can.set c.requires.collected) (ap (λ (config : Config). word_at config (Heap address)) (sym c.config.ensures) ∙ sym c.heap_at.ensures) in
-    let plain : is_forwarded (memory (Heap address)) ≡ false = ap is_forwarded (sym header) ∙ sym c.forwarded.ensures ∙ c.if-forwarded.false in
-    c.copy_out.ensures.words ∙ moved_now config memory address plain
+    let header_plain : is_forwarded (memory (Heap address)) ≡ false = ap is_forwarded (sym header_read) ∙ sym c.forwarded.ensures ∙ c.if-forwarded.false in
+    c.copy_out.ensures.words ∙ moved_now config memory address header_plain
 
 pub returns-clause-copy : goal.returns-clause-copy
 returns-clause-copy c =
@@ -46,30 +46,30 @@ copy_out-requires c =
     let config = config_of c.args.image.now in
     let memory : Word → ℕ = memory_of c.args.image.now in
     let address = c.args.address in
-    let header : c.word-header.result ≡ memory (Heap address) =
+    let header_read : c.word-header.result ≡ memory (Heap address) =
     read config _ memory (Heap address) _ _ c.config.ensures (collected_of_heap config memory address c.requires.can.set c.requires.collected) c.heap_at.ensures c.word-header.ensures.named in
-    c.requires.can.object c.requires.collected (ap is_forwarded (sym header) ∙ sym c.forwarded.ensures ∙ c.if-forwarded.false)
+    c.requires.can.object c.requires.collected (ap is_forwarded (sym header_read) ∙ sym c.forwarded.ensures ∙ c.if-forwarded.false)
 
 pub unwrap-requires : goal.unwrap-requires
 unwrap-requires c =
     let config = config_of c.args.image.now in
     let memory : Word → ℕ = memory_of c.args.image.now in
     let address = c.args.address in
-    let header : c.word-header.result ≡ memory (Heap address) =
+    let header_read : c.word-header.result ≡ memory (Heap address) =
     read config _ memory (Heap address) _ _ c.config.ensures (collected_of_heap config memory address c.requires.can.set c.requires.collected) c.heap_at.ensures c.word-header.ensures.named in
     subst (λ (found : Option ℕ). IsSome found) (sym c.copy_out.ensures.copy)
-    (some_copy config memory (copy_room config memory address) (c.requires.can.room c.requires.collected (ap is_forwarded (sym header) ∙ sym c.forwarded.ensures ∙ c.if-forwarded.false)))
+    (some_copy config memory (copy_room config memory address) (c.requires.can.room c.requires.collected (ap is_forwarded (sym header_read) ∙ sym c.forwarded.ensures ∙ c.if-forwarded.false)))
 
 pub returns-then-forwarded : goal.returns-then-forwarded
 returns-then-forwarded c =
     let config = config_of c.args.image.now in
     let memory : Word → ℕ = memory_of c.args.image.now in
     let address = c.args.address in
-    let header : c.word-header.result ≡ memory (Heap address) =
+    let header_read : c.word-header.result ≡ memory (Heap address) =
     read config _ memory (Heap address) _ _ c.config.ensures (collected_of_heap config memory address c.requires.can.set c.requires.collected) c.heap_at.ensures c.word-header.ensures.named in
-    let moved : is_forwarded (memory (Heap address)) ≡ true = ap is_forwarded (sym header) ∙ sym c.forwarded.ensures ∙ c.if-forwarded.true in
+    let object_moved : is_forwarded (memory (Heap address)) ≡ true = ap is_forwarded (sym header_read) ∙ sym c.forwarded.ensures ∙ c.if-forwarded.true in
     record {
       config = refl;
-      words = moved_before config memory address moved;
-      copy = c.forwardee.ensures ∙ ap forwardee_in header ∙ sym (cond-true (is_forwarded (memory (Heap address))) (forwardee_in (memory (Heap address))) address moved);
+      words = moved_before config memory address object_moved;
+      copy = c.forwardee.ensures ∙ ap forwardee_in header_read ∙ sym (cond-true (is_forwarded (memory (Heap address))) (forwardee_in (memory (Heap address))) address object_moved);
     }

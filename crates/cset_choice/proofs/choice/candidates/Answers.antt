@@ -17,38 +17,38 @@ loop-region-init c =
 
 pub with_if-set-requires-clause-below : goal.with_if-set-requires-clause-below
 with_if-set-requires-clause-below c =
-    let small = bits_small (is_candidate (config_of c.args.image.now) (memory_of c.args.image.now)) 0 c.loop-region.region in
-    omega (arith, small, c.loop-region.invariant.set)
+    let bits_are_small = bits_small (is_candidate (config_of c.args.image.now) (memory_of c.args.image.now)) 0 c.loop-region.region in
+    omega (arith, bits_are_small, c.loop-region.invariant.set)
 
 pub loop-region-preserved : goal.loop-region-preserved
 loop-region-preserved c =
     let config = config_of c.args.image.now in
     let memory : Word → ℕ = memory_of c.args.image.now in
     let region = c.loop-region.region in
-    let most = config.in_range.most_regions in
-    let few : region < 64 = omega (arith, c.loop-region-test.true, c.regions-region-end.ensures, ap (λ (config : Config). config.regions) c.config.ensures, most) in
+    let few_regions = config.in_range.most_regions in
+    let region_few : region < 64 = omega (arith, c.loop-region-test.true, c.regions-region-end.ensures, ap (λ (config : Config). config.regions) c.config.ensures, few_regions) in
     let counted = c.live_of_candidate-counted.result in
-    let told = c.live_of_candidate-counted.ensures in
+    let live_told = c.live_of_candidate-counted.ensures in
     let words : ℕ = c.unwrap_or-words.result in
     record {
-      live = live_more config memory c.loop-region.live region words few
-          (counted_words counted words (live_words config memory region) (is_candidate config memory region) c.unwrap_or-words.ensures told.candidate told.live)
-          (counted_few counted words most_live c.unwrap_or-words.ensures told.bound) c.loop-region.invariant.live;
-      set = bits_next (is_candidate config memory) region c.loop-region.set c.with_if-set.result c.is_some-member.result c.loop-region.invariant.set (c.is_some-member.ensures ∙ told.candidate) c.with_if-set.ensures;
+      live = live_more config memory c.loop-region.live region words region_few
+          (counted_words counted words (live_words config memory region) (is_candidate config memory region) c.unwrap_or-words.ensures live_told.candidate live_told.live)
+          (counted_few counted words most_live c.unwrap_or-words.ensures live_told.bound) c.loop-region.invariant.live;
+      set = bits_next (is_candidate config memory) region c.loop-region.set c.with_if-set.result c.is_some-member.result c.loop-region.invariant.set (c.is_some-member.ensures ∙ live_told.candidate) c.with_if-set.ensures;
     }
 
 pub returns-clause-live : goal.returns-clause-live
 returns-clause-live c =
     let config = config_of c.args.image.now in
-    let all : c.loop-region.region ≡ config.regions =
+    let all_regions : c.loop-region.region ≡ config.regions =
     omega (arith, c.loop-region-test.false, c.loop-region.auto.region-end, c.regions-region-end.ensures, ap (λ (config : Config). config.regions) c.config.ensures) in
     let live = c.loop-region.invariant.live in
-    record { long = live.long; small = live.small; is = λ r below told. live.is r (omega (arith, below, all)) told }
+    record { long = live.long; small = live.small; is = λ asked_region region_below candidate_told. live.is asked_region (omega (arith, region_below, all_regions)) candidate_told }
 
 pub returns-clause-set : goal.returns-clause-set
 returns-clause-set c =
     let config = config_of c.args.image.now in
     let memory : Word → ℕ = memory_of c.args.image.now in
-    let all : c.loop-region.region ≡ config.regions =
+    let all_regions : c.loop-region.region ≡ config.regions =
     omega (arith, c.loop-region-test.false, c.loop-region.auto.region-end, c.regions-region-end.ensures, ap (λ (config : Config). config.regions) c.config.ensures) in
-    c.loop-region.invariant.set ∙ ap (bits_of (is_candidate config memory) 0) all
+    c.loop-region.invariant.set ∙ ap (bits_of (is_candidate config memory) 0) all_regions

@@ -6,7 +6,7 @@ use Rattle.cset_choice.proofs.Choosing.{AreLiveBelow}
 use Rattle.cset_choice.proofs.choice.candidates.Given as goal
 
 abbrev pub invariant-loop-region : goal.invariant-loop-region
-invariant-loop-region l = record {
-  live : AreLiveBelow (config_of l.image) (memory_of l.image) l.live l.region;
-  set : l.set ≡ bits_of (is_candidate (config_of l.image) (memory_of l.image)) 0 l.region;
+invariant-loop-region loop = record {
+  live : AreLiveBelow (config_of loop.image) (memory_of loop.image) loop.live loop.region;
+  set : loop.set ≡ bits_of (is_candidate (config_of loop.image) (memory_of loop.image)) 0 loop.region;
 }

@@ -24,8 +24,8 @@ loop-region-init c = bits_none_yet (taken (config_of c.args.image.now) (memory_o
 
 pub with_if-set-requires-clause-below : goal.with_if-set-requires-clause-below
 with_if-set-requires-clause-below c =
-    let small = bits_small (taken (config_of c.args.image.now) (memory_of c.args.image.now)) 0 c.loop-region.region in
-    omega (arith, small, c.loop-region.invariant)
+    let bits_are_small = bits_small (taken (config_of c.args.image.now) (memory_of c.args.image.now)) 0 c.loop-region.region in
+    omega (arith, bits_are_small, c.loop-region.invariant)
 
 pub loop-region-preserved : goal.loop-region-preserved
 loop-region-preserved c =
@@ -33,30 +33,30 @@ loop-region-preserved c =
     let memory : Word → ℕ = memory_of c.args.image.now in
     let region = c.loop-region.region in
     let live = c.candidates-counted.result.live in
-    let below : region < config.regions = omega (arith, c.loop-region-test.true, c.regions-region-end.ensures, ap (λ (config : Config). config.regions) c.config-config.ensures) in
-    let set : ℕ = bits_of (is_candidate config memory) 0 config.regions in
-    let told : c.is_taken.result ≡ taken config memory region =
+    let region_below : region < config.regions = omega (arith, c.loop-region-test.true, c.regions-region-end.ensures, ap (λ (config : Config). config.regions) c.config-config.ensures) in
+    let candidate_set : ℕ = bits_of (is_candidate config memory) 0 config.regions in
+    let taken_told : c.is_taken.result ≡ taken config memory region =
     c.is_taken.ensures
-    ∙ ap (λ set. (bit_at set region == 1) && nat_le (up_to live set c.config-config.result.regions region) c.copy_limit-limit.result) c.candidates-counted.ensures.set
-    ∙ ap (λ (config : Config). (bit_at set region == 1) && nat_le (up_to live set config.regions region) c.copy_limit-limit.result) c.config-config.ensures
-    ∙ ap (λ n. (bit_at set region == 1) && nat_le (up_to live set config.regions region) n) c.copy_limit-limit.ensures
-    ∙ fits_is config memory live c.candidates-counted.ensures.live region (copy_limit config memory) below in
-    bits_next (taken config memory) region c.loop-region.set c.with_if-set.result c.is_taken.result c.loop-region.invariant told c.with_if-set.ensures
+    ∙ ap (λ candidate_set. (bit_at candidate_set region == 1) && nat_le (up_to live candidate_set c.config-config.result.regions region) c.copy_limit-limit.result) c.candidates-counted.ensures.set
+    ∙ ap (λ (config : Config). (bit_at candidate_set region == 1) && nat_le (up_to live candidate_set config.regions region) c.copy_limit-limit.result) c.config-config.ensures
+    ∙ ap (λ limit. (bit_at candidate_set region == 1) && nat_le (up_to live candidate_set config.regions region) limit) c.copy_limit-limit.ensures
+    ∙ fits_is config memory live c.candidates-counted.ensures.live region (copy_limit config memory) region_below in
+    bits_next (taken config memory) region c.loop-region.set c.with_if-set.result c.is_taken.result c.loop-region.invariant taken_told c.with_if-set.ensures
 
 pub returns-clause-choice : goal.returns-clause-choice
 returns-clause-choice c =
     let config = config_of c.args.image.now in
     let memory : Word → ℕ = memory_of c.args.image.now in
-    let all : c.loop-region.region ≡ config.regions =
+    let all_regions : c.loop-region.region ≡ config.regions =
     omega (arith, c.loop-region-test.false, c.loop-region.auto.region-end, c.regions-region-end.ensures, ap (λ (config : Config). config.regions) c.config-config.ensures) in
-    let value : c.loop-region.set ≡ chosen config memory = c.loop-region.invariant ∙ ap (bits_of (taken config memory) 0) all in
+    let value : c.loop-region.set ≡ chosen config memory = c.loop-region.invariant ∙ ap (bits_of (taken config memory) 0) all_regions in
     subst (IsChoice config memory) (sym value) (front_is_longest config.regions (copy_limit config memory) (live_words config memory) (is_candidate config memory))
 
 pub returns-clause-live : goal.returns-clause-live
 returns-clause-live c =
     let config = config_of c.args.image.now in
     let memory : Word → ℕ = memory_of c.args.image.now in
-    let all : c.loop-region.region ≡ config.regions =
+    let all_regions : c.loop-region.region ≡ config.regions =
     omega (arith, c.loop-region-test.false, c.loop-region.auto.region-end, c.regions-region-end.ensures, ap (λ (config : Config). config.regions) c.config-config.ensures) in
-    let value : c.loop-region.set ≡ chosen config memory = c.loop-region.invariant ∙ ap (bits_of (taken config memory) 0) all in
+    let value : c.loop-region.set ≡ chosen config memory = c.loop-region.invariant ∙ ap (bits_of (taken config memory) 0) all_regions in
     subst (ReachableAreLive config memory) (sym value) (chosen_are_live config memory)

@@ -7,5 +7,5 @@ use Rattle.cycle_words.specs.Evacuation.Front.{is_in_front}
 use Rattle.cset_choice.proofs.choice.choose.Given as goal
 
 abbrev pub invariant-loop-region : goal.invariant-loop-region
-invariant-loop-region l =
-    l.set ≡ bits_of (is_in_front (config_of l.image).regions (copy_limit (config_of l.image) (memory_of l.image)) (live_words (config_of l.image) (memory_of l.image)) (is_candidate (config_of l.image) (memory_of l.image))) 0 l.region
+invariant-loop-region loop =
+    loop.set ≡ bits_of (is_in_front (config_of loop.image).regions (copy_limit (config_of loop.image) (memory_of loop.image)) (live_words (config_of loop.image) (memory_of loop.image)) (is_candidate (config_of loop.image) (memory_of loop.image))) 0 loop.region

@@ -10,8 +10,8 @@ pub returns : goal.returns
 returns c =
     let config = config_of c.args.image.now in
     let memory : Word → ℕ = memory_of c.args.image.now in
-    let free : c.word.result ≡ memory Free = c.word.ensures.named Free tt (ap (λ (config : Config). word_at config Free) (sym c.config-config.ensures) ∙ sym c.free_at.ensures) in
-    let few = config.in_range.most_regions in
-    let count : c.size-free.result ≡ members_below (memory Free) config.regions = c.size-free.ensures ∙ ap (λ s. members_below s 64) free ∙ members_all (memory Free) config.regions few c.requires in
-    let words : c.region_words.result ≡ config.region_words = c.region_words.ensures ∙ ap (λ (config : Config). config.region_words) c.config-config.ensures in
-    ap (λ n. n * (c.region_words.result - 35)) count ∙ ap (λ w. members_below (memory Free) config.regions * (w - 35)) words
+    let free_bits : c.word.result ≡ memory Free = c.word.ensures.named Free tt (ap (λ (config : Config). word_at config Free) (sym c.config-config.ensures) ∙ sym c.free_at.ensures) in
+    let few_regions = config.in_range.most_regions in
+    let count : c.size-free.result ≡ members_below (memory Free) config.regions = c.size-free.ensures ∙ ap (λ set. members_below set 64) free_bits ∙ members_all (memory Free) config.regions few_regions c.requires in
+    let words_read : c.region_words.result ≡ config.region_words = c.region_words.ensures ∙ ap (λ (config : Config). config.region_words) c.config-config.ensures in
+    ap (λ members. members * (c.region_words.result - 35)) count ∙ ap (λ size. members_below (memory Free) config.regions * (size - 35)) words_read

@@ -17,12 +17,12 @@ use Rattle.cset_choice.proofs.copy.copy_out.Goals as goal
 -- the room that was found is that of the object's words
 same_room : (config : Config) (memory : Word → ℕ) (address shape words : ℕ) (found room : Option ℕ) → shape ≡ memory (Heap (address + 1)) → words ≡ object_words shape
     → found ≡ lowest_room config.region_words (tops_outside config.region_words (memory Cset) (λ region. memory (Top region))) words config.regions → found ≡ room → copy_room config memory address ≡ room
-same_room config memory address shape words found room read long is same =
-    ap (λ words. lowest_room config.region_words (tops_outside config.region_words (memory Cset) (λ region. memory (Top region))) words config.regions) (sym (long ∙ ap object_words read)) ∙ sym is ∙ same
+same_room config memory address shape words found room read same_words room_found same_found =
+    ap (λ words. lowest_room config.region_words (tops_outside config.region_words (memory Cset) (λ region. memory (Top region))) words config.regions) (sym (same_words ∙ ap object_words read)) ∙ sym room_found ∙ same_found
 
-module _ (config : Config) (memory : Word → ℕ) (address : ℕ) (can : CanCopyOut config memory address) where
+module _ (config : Config) (memory : Word → ℕ) (address : ℕ) (can_copy_out : CanCopyOut config memory address) where
   pub shape_is : IsWord config (Heap (address + 1))
-  shape_is = word_of_heap config address (words_at memory address) 1 (object_in_heap config address (words_at memory address) can.above can.of_region can.lies) (omega arith)
+  shape_is = word_of_heap config address (words_at memory address) 1 (object_in_heap config address (words_at memory address) can_copy_out.above can_copy_out.of_region can_copy_out.lies) (omega arith)
 
 pub copy_to-requires-clause-region : goal.copy_to-requires-clause-region
 copy_to-requires-clause-region c =
@@ -86,10 +86,10 @@ pub returns-in-Some-clause-holds : goal.returns-in-Some-clause-holds
 returns-in-Some-clause-holds c =
     let config = config_of c.args.image.now in
     let memory : Word → ℕ = memory_of c.args.image.now in
-    subst (λ (other_memory : Word → ℕ). CopyingHolds config memory other_memory c.args.address) (sym (returns-in-Some-clause-words c)) (copying_holds config memory c.args.address c.requires)
+    subst (λ (some_memory : Word → ℕ). CopyingHolds config memory some_memory c.args.address) (sym (returns-in-Some-clause-words c)) (copying_holds config memory c.args.address c.requires)
 
 pub returns-in-None-clause-holds : goal.returns-in-None-clause-holds
 returns-in-None-clause-holds c =
     let config = config_of c.args.image.now in
     let memory : Word → ℕ = memory_of c.args.image.now in
-    subst (λ (other_memory : Word → ℕ). CopyingHolds config memory other_memory c.args.address) (sym (returns-in-None-clause-words c)) (copying_holds config memory c.args.address c.requires)
+    subst (λ (some_memory : Word → ℕ). CopyingHolds config memory some_memory c.args.address) (sym (returns-in-None-clause-words c)) (copying_holds config memory c.args.address c.requires)

@@ -18,32 +18,32 @@ loop-index-preserved c =
     let config = config_of c.args.image.now in
     let memory : Word → ℕ = memory_of c.args.image.now in
     let from = c.args.from in
-    let to = c.args.to in
+    let copy = c.args.to in
     let index = c.loop-index.index in
-    let now = c.loop-index.image in
-    let is = c.loop-index.invariant in
-    let same : c.config-config.result ≡ config = c.config-config.ensures in
+    let image_now = c.loop-index.image in
+    let copied_so_far = c.loop-index.invariant in
+    let same_config : c.config-config.result ≡ config = c.config-config.ensures in
     let source : IsWord config (Heap (from + index)) = word_of_heap config from c.args.words index c.requires.from c.loop-index-test.true in
-    let target : IsWord config (Heap (to + index)) = word_of_heap config to c.args.words index c.requires.to c.loop-index-test.true in
+    let target : IsWord config (Heap (copy + index)) = word_of_heap config copy c.args.words index c.requires.to c.loop-index-test.true in
     let read : c.word-word.result ≡ memory (Heap (from + index)) =
-    c.word-word.ensures.named (Heap (from + index)) (subst (λ (config : Config). IsWord config (Heap (from + index))) (sym is.config) source)
-    (ap (λ (config : Config). word_at config (Heap (from + index))) (is.config ∙ sym same) ∙ sym c.heap_at.ensures)
-    ∙ ap (λ (memory : Word → ℕ). memory (Heap (from + index))) is.words
-    ∙ still_there from to index c.args.words memory c.loop-index-test.true c.requires.apart in
-    let one = stored (config_of now) c.config-config.result (memory_of now) (memory_of c.set_word.new.self) (Heap (to + index)) c.heap_at-in-loop-index.result c.word-word.result
-    (is.config ∙ sym same) (subst (λ (config : Config). IsWord config (Heap (to + index))) (sym same) target) c.heap_at-in-loop-index.ensures c.set_word.ensures.named in
+    c.word-word.ensures.named (Heap (from + index)) (subst (λ (config : Config). IsWord config (Heap (from + index))) (sym copied_so_far.config) source)
+    (ap (λ (config : Config). word_at config (Heap (from + index))) (copied_so_far.config ∙ sym same_config) ∙ sym c.heap_at.ensures)
+    ∙ ap (λ (memory : Word → ℕ). memory (Heap (from + index))) copied_so_far.words
+    ∙ still_there from copy index c.args.words memory c.loop-index-test.true c.requires.apart in
+    let stored_word = stored (config_of image_now) c.config-config.result (memory_of image_now) (memory_of c.set_word.new.self) (Heap (copy + index)) c.heap_at-in-loop-index.result c.word-word.result
+    (copied_so_far.config ∙ sym same_config) (subst (λ (config : Config). IsWord config (Heap (copy + index))) (sym same_config) target) c.heap_at-in-loop-index.ensures c.set_word.ensures.named in
     record {
-      config = c.set_word.ensures.config ∙ is.config;
-      words = one
-          ∙ ap (λ n. write n (Heap (to + index)) c.word-word.result) is.words
-          ∙ ap (write (words_copied from to index memory) (Heap (to + index))) read
-          ∙ copied_next from to index c.args.words memory c.loop-index-test.true c.requires.apart;
+      config = c.set_word.ensures.config ∙ copied_so_far.config;
+      words = stored_word
+          ∙ ap (λ written. write written (Heap (copy + index)) c.word-word.result) copied_so_far.words
+          ∙ ap (write (words_copied from copy index memory) (Heap (copy + index))) read
+          ∙ copied_next from copy index c.args.words memory c.loop-index-test.true c.requires.apart;
     }
 
 pub returns-clause-words : goal.returns-clause-words
 returns-clause-words c =
-    let all : c.loop-index.index ≡ c.args.words = omega (arith, c.loop-index-test.false, c.loop-index.auto.index-end) in
-    c.loop-index.invariant.words ∙ ap (λ words. words_copied c.args.from c.args.to words (memory_of c.args.image.now)) all
+    let all_words : c.loop-index.index ≡ c.args.words = omega (arith, c.loop-index-test.false, c.loop-index.auto.index-end) in
+    c.loop-index.invariant.words ∙ ap (λ words. words_copied c.args.from c.args.to words (memory_of c.args.image.now)) all_words
 
 pub overflow_add-from : goal.overflow_add-from
 overflow_add-from c = omega (arith, low_in _ _ _ c.requires.from, c.loop-index-test.true)

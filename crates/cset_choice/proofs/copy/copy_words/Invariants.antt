@@ -4,7 +4,7 @@ use Rattle.cset_choice.specs.Steps.{words_copied}
 use Rattle.cset_choice.proofs.copy.copy_words.Given as goal
 
 abbrev pub invariant-loop-index : goal.invariant-loop-index
-invariant-loop-index l = record {
-  config : config_of l.image ≡ config_of l.fn.image;
-  words : memory_of l.image ≡ words_copied l.from l.to l.index (memory_of l.fn.image);
+invariant-loop-index loop = record {
+  config : config_of loop.image ≡ config_of loop.fn.image;
+  words : memory_of loop.image ≡ words_copied loop.from loop.to loop.index (memory_of loop.fn.image);
 }

@@ -14,9 +14,9 @@ returns-then-has_room c =
     let region_words = config.region_words in
     let tops : ℕ → ℕ = tops_outside region_words (memory Cset) (λ region. memory (Top region)) in
     let region = c.loop-region.region in
-    let below : region < config.regions = omega (arith, c.loop-region-test.true, c.regions-region-end.ensures, ap (λ (config : Config). config.regions) c.config.ensures) in
+    let region_below : region < config.regions = omega (arith, c.loop-region-test.true, c.regions-region-end.ensures, ap (λ (config : Config). config.regions) c.config.ensures) in
     sym (lowest_is region_words tops c.args.words config.regions region (record {
-      below = below;
+      below = region_below;
       room = leb-true (tops region + c.args.words) region_words (sym c.has_room.ensures ∙ c.if-has_room.true);
       none_lower = c.loop-region.invariant;
     }))
@@ -25,6 +25,6 @@ pub returns : goal.returns
 returns c =
     let config = config_of c.args.image.now in
     let memory : Word → ℕ = memory_of c.args.image.now in
-    let all : c.loop-region.region ≡ config.regions =
+    let all_regions : c.loop-region.region ≡ config.regions =
     omega (arith, c.loop-region-test.false, c.loop-region.auto.region-end, c.regions-region-end.ensures, ap (λ (config : Config). config.regions) c.config.ensures) in
-    sym (all_full config.region_words (tops_outside config.region_words (memory Cset) (λ region. memory (Top region))) c.args.words config.regions (λ r below. c.loop-region.invariant r (omega (arith, below, all))))
+    sym (all_full config.region_words (tops_outside config.region_words (memory Cset) (λ region. memory (Top region))) c.args.words config.regions (λ asked_region region_below. c.loop-region.invariant asked_region (omega (arith, region_below, all_regions))))

@@ -5,5 +5,5 @@ use Rattle.cycle_words.specs.Evacuation.Copying.{tops_outside}
 use Rattle.cset_choice.proofs.copy.room_outside.Given as goal
 
 abbrev pub invariant-loop-region : goal.invariant-loop-region
-invariant-loop-region l =
-    (q : ℕ) → q < l.region → (config_of l.image).region_words < tops_outside (config_of l.image).region_words (memory_of l.image Cset) (λ region. memory_of l.image (Top region)) q + l.words
+invariant-loop-region loop =
+    (earlier_region : ℕ) → earlier_region < loop.region → (config_of loop.image).region_words < tops_outside (config_of loop.image).region_words (memory_of loop.image Cset) (λ region. memory_of loop.image (Top region)) earlier_region + loop.words

@@ -19,18 +19,18 @@ loop-address-init c =
     let config = config_of c.args.image.now in
     let memory : Word → ℕ = memory_of c.args.image.now in
     let base : ℕ = base_of config c.args.region in
-    let lives : ℕ → ℕ = λ k. marked_words config memory (base + k) in
-    let is = c.next_black-address.ensures in
-    let first : c.base-first.result ≡ base = c.base-first.ensures ∙ ap (λ (config : Config). base_of config c.args.region) c.config.ensures in
-    let n : ℕ = c.next_black-address.result - base in
-    let plain : 0 + n ≡ n = omega arith in
+    let lives : ℕ → ℕ = λ offset. marked_words config memory (base + offset) in
+    let black_found = c.next_black-address.ensures in
+    let base_is : c.base-first.result ≡ base = c.base-first.ensures ∙ ap (λ (config : Config). base_of config c.args.region) c.config.ensures in
+    let skipped : ℕ = c.next_black-address.result - base in
+    let sum_plain : 0 + skipped ≡ skipped = omega arith in
     record {
-      first = omega (arith, is.from, first);
-      last = is.end;
-      black = is.black;
+      first = omega (arith, black_found.from, base_is);
+      last = black_found.end;
+      black = black_found.black;
       value = sym (sum_none lives)
-          ∙ sum_pass lives 0 n (λ k _ below. cond-false (is_black config memory (base + k)) (words_at memory (base + k)) 0 (is.none (base + k) (omega (arith, first)) (omega (arith, below))))
-          ∙ ap (sum_below lives) plain;
+          ∙ sum_pass lives 0 skipped (λ offset _ offset_below. cond-false (is_black config memory (base + offset)) (words_at memory (base + offset)) 0 (black_found.none (base + offset) (omega (arith, base_is)) (omega (arith, offset_below))))
+          ∙ ap (sum_below lives) sum_plain;
       bound = omega arith;
     }
 
@@ -38,35 +38,35 @@ pub marked_words-words-requires-clause-inside : goal.marked_words-words-requires
 marked_words-words-requires-clause-inside c =
     let config = config_of c.args.image.now in
     let base : ℕ = base_of config c.args.region in
-    let first : c.base-first.result ≡ base = c.base-first.ensures ∙ ap (λ (config : Config). base_of config c.args.region) c.config.ensures in
-    let words : c.region_words.result ≡ config.region_words = c.region_words.ensures ∙ ap (λ (config : Config). config.region_words) c.config-2.ensures in
-    let was = c.loop-address.invariant in
-    let inside = room_in_heap config c.args.region (c.loop-address.address - base) 1 c.requires.region (omega (arith, c.loop-address-test.true, first, words, was.first)) in
-    (omega (arith, inside.from, was.first), omega (arith, inside.to, was.first))
+    let base_is : c.base-first.result ≡ base = c.base-first.ensures ∙ ap (λ (config : Config). base_of config c.args.region) c.config.ensures in
+    let words_read : c.region_words.result ≡ config.region_words = c.region_words.ensures ∙ ap (λ (config : Config). config.region_words) c.config-2.ensures in
+    let counted_so_far = c.loop-address.invariant in
+    let address_inside = room_in_heap config c.args.region (c.loop-address.address - base) 1 c.requires.region (omega (arith, c.loop-address-test.true, base_is, words_read, counted_so_far.first)) in
+    (omega (arith, address_inside.from, counted_so_far.first), omega (arith, address_inside.to, counted_so_far.first))
 
 pub loop-address-preserved : goal.loop-address-preserved
 loop-address-preserved c =
     let config = config_of c.args.image.now in
     let memory : Word → ℕ = memory_of c.args.image.now in
     let base : ℕ = base_of config c.args.region in
-    let lives : ℕ → ℕ = λ k. marked_words config memory (base + k) in
-    let was = c.loop-address.invariant in
-    let is = c.next_black-address-in-loop-address.ensures in
-    let next : ℕ = c.next_black-address-in-loop-address.result in
-    let k : ℕ = c.loop-address.address - base in
-    let at : c.loop-address.address ≡ base + k = omega (arith, was.first) in
-    let n : ℕ = next - (c.loop-address.address + 1) in
-    let all : k + 1 + n ≡ next - base = omega (arith, was.first, is.from) in
-    let more : c.marked_words-words.result ≡ lives k = c.marked_words-words.ensures.value ∙ ap (marked_words config memory) at in
+    let lives : ℕ → ℕ = λ offset. marked_words config memory (base + offset) in
+    let counted_so_far = c.loop-address.invariant in
+    let black_found = c.next_black-address-in-loop-address.ensures in
+    let next_address : ℕ = c.next_black-address-in-loop-address.result in
+    let offset : ℕ = c.loop-address.address - base in
+    let address_is : c.loop-address.address ≡ base + offset = omega (arith, counted_so_far.first) in
+    let skipped : ℕ = next_address - (c.loop-address.address + 1) in
+    let all_skipped : offset + 1 + skipped ≡ next_address - base = omega (arith, counted_so_far.first, black_found.from) in
+    let live_added : c.marked_words-words.result ≡ lives offset = c.marked_words-words.ensures.value ∙ ap (marked_words config memory) address_is in
     record {
-      first = omega (arith, was.first, is.from);
-      last = is.end;
-      black = is.black;
-      value = sum_more lives k c.loop-address.words c.marked_words-words.result was.value more
-          ∙ sum_pass lives (k + 1) n
-          (λ j from below. cond-false (is_black config memory (base + j)) (words_at memory (base + j)) 0 (is.none (base + j) (omega (arith, from, at)) (omega (arith, below, all, was.first, is.from))))
-          ∙ ap (sum_below lives) all;
-      bound = omega (arith, was.bound, c.marked_words-words.ensures.bound, was.first, is.from);
+      first = omega (arith, counted_so_far.first, black_found.from);
+      last = black_found.end;
+      black = black_found.black;
+      value = sum_more lives offset c.loop-address.words c.marked_words-words.result counted_so_far.value live_added
+          ∙ sum_pass lives (offset + 1) skipped
+          (λ skipped_offset from offset_below. cond-false (is_black config memory (base + skipped_offset)) (words_at memory (base + skipped_offset)) 0 (black_found.none (base + skipped_offset) (omega (arith, from, address_is)) (omega (arith, offset_below, all_skipped, counted_so_far.first, black_found.from))))
+          ∙ ap (sum_below lives) all_skipped;
+      bound = omega (arith, counted_so_far.bound, c.marked_words-words.ensures.bound, counted_so_far.first, black_found.from);
     }
 
 pub returns-clause-value : goal.returns-clause-value
@@ -74,18 +74,18 @@ returns-clause-value c =
     let config = config_of c.args.image.now in
     let memory : Word → ℕ = memory_of c.args.image.now in
     let base : ℕ = base_of config c.args.region in
-    let first : c.base-first.result ≡ base = c.base-first.ensures ∙ ap (λ (config : Config). base_of config c.args.region) c.config.ensures in
-    let words : c.region_words.result ≡ config.region_words = c.region_words.ensures ∙ ap (λ (config : Config). config.region_words) c.config-2.ensures in
-    let all : c.loop-address.address - base ≡ config.region_words = omega (arith, c.loop-address-test.false, c.loop-address.invariant.last, first, words) in
-    c.loop-address.invariant.value ∙ ap (sum_below (λ k. marked_words config memory (base + k))) all
+    let base_is : c.base-first.result ≡ base = c.base-first.ensures ∙ ap (λ (config : Config). base_of config c.args.region) c.config.ensures in
+    let words_read : c.region_words.result ≡ config.region_words = c.region_words.ensures ∙ ap (λ (config : Config). config.region_words) c.config-2.ensures in
+    let all_words : c.loop-address.address - base ≡ config.region_words = omega (arith, c.loop-address-test.false, c.loop-address.invariant.last, base_is, words_read) in
+    c.loop-address.invariant.value ∙ ap (sum_below (λ offset. marked_words config memory (base + offset))) all_words
 
 pub returns-clause-marked : goal.returns-clause-marked
 returns-clause-marked c =
     let config = config_of c.args.image.now in
     let memory : Word → ℕ = memory_of c.args.image.now in
     let base : ℕ = base_of config c.args.region in
-    let first : c.base-first.result ≡ base = c.base-first.ensures ∙ ap (λ (config : Config). base_of config c.args.region) c.config.ensures in
-    let words : c.region_words.result ≡ config.region_words = c.region_words.ensures ∙ ap (λ (config : Config). config.region_words) c.config-2.ensures in
-    let all : c.loop-address.address - base ≡ config.region_words = omega (arith, c.loop-address-test.false, c.loop-address.invariant.last, first, words) in
-    let value : c.loop-address.words ≡ live_words config memory c.args.region = c.loop-address.invariant.value ∙ ap (sum_below (λ k. marked_words config memory (base + k))) all in
+    let base_is : c.base-first.result ≡ base = c.base-first.ensures ∙ ap (λ (config : Config). base_of config c.args.region) c.config.ensures in
+    let words_read : c.region_words.result ≡ config.region_words = c.region_words.ensures ∙ ap (λ (config : Config). config.region_words) c.config-2.ensures in
+    let all_words : c.loop-address.address - base ≡ config.region_words = omega (arith, c.loop-address-test.false, c.loop-address.invariant.last, base_is, words_read) in
+    let value : c.loop-address.words ≡ live_words config memory c.args.region = c.loop-address.invariant.value ∙ ap (sum_below (λ offset. marked_words config memory (base + offset))) all_words in
     subst (IsMarkedIn config memory c.args.region) (sym value) (live_is_marked config memory c.args.region)

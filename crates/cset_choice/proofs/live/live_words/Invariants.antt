@@ -7,13 +7,13 @@ use Rattle.cycle_words.specs.Evacuation.Live.{marked_words}
 use Rattle.cset_choice.proofs.live.live_words.Given as goal
 
 abbrev pub invariant-loop-address : goal.invariant-loop-address
-invariant-loop-address l = record {
-  first : base_of (config_of l.image) l.region ≤ l.address;
-  last : l.address ≤ l.end;
-  black : l.address < l.end → is_black (config_of l.image) (memory_of l.image) l.address ≡ true;
-  value : l.words ≡ sum_below (λ k. marked_words (config_of l.image) (memory_of l.image) (base_of (config_of l.image) l.region + k)) (l.address - base_of (config_of l.image) l.region);
-  bound : l.words ≤ 513 * (l.address - base_of (config_of l.image) l.region);
+invariant-loop-address loop = record {
+  first : base_of (config_of loop.image) loop.region ≤ loop.address;
+  last : loop.address ≤ loop.end;
+  black : loop.address < loop.end → is_black (config_of loop.image) (memory_of loop.image) loop.address ≡ true;
+  value : loop.words ≡ sum_below (λ offset. marked_words (config_of loop.image) (memory_of loop.image) (base_of (config_of loop.image) loop.region + offset)) (loop.address - base_of (config_of loop.image) loop.region);
+  bound : loop.words ≤ 513 * (loop.address - base_of (config_of loop.image) loop.region);
 }
 
 abbrev pub decreases-loop-address : goal.decreases-loop-address
-decreases-loop-address l = l.end - l.address
+decreases-loop-address loop = loop.end - loop.address

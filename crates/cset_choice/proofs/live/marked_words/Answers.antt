@@ -22,6 +22,6 @@ returns-clause-value c =
     let config = config_of c.args.image.now in
     let memory : Word → ℕ = memory_of c.args.image.now in
     let address = c.args.address in
-    let shape : c.word.result ≡ memory (Heap (address + 1)) =
+    let shape_read : c.word.result ≡ memory (Heap (address + 1)) =
     read config _ memory (Heap (address + 1)) _ _ c.config.ensures (shape_in_heap config memory address c.requires.apart c.requires.inside c.requires.black) c.heap_at.ensures c.word.ensures.named in
-    c.words_of.ensures ∙ ap object_words shape ∙ sym (cond-true (is_black config memory address) (words_at memory address) 0 c.requires.black)
+    c.words_of.ensures ∙ ap object_words shape_read ∙ sym (cond-true (is_black config memory address) (words_at memory address) 0 c.requires.black)

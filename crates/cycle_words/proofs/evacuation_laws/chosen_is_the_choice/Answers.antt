@@ -6,5 +6,5 @@ use Rattle.cycle_words.proofs.evacuation_laws.chosen_is_the_choice.Goals as goal
 pub returns : goal.returns
 returns c = record {
   is = λ config memory. front_is_longest config.regions (copy_limit config memory) (live_words config memory) (is_candidate config memory);
-  only = λ config memory set is. only_front config.regions (copy_limit config memory) (live_words config memory) (is_candidate config memory) set is;
+  only = λ config memory chosen_set set_is. only_front config.regions (copy_limit config memory) (live_words config memory) (is_candidate config memory) chosen_set set_is;
 }

@@ -4,11 +4,11 @@ use Rattle.cycle_words.specs.Finishing.Copies.{CanCopyFrom, copied_from, is_room
 use Rattle.degenerated.proofs.copies.copy_set.Given as goal
 
 abbrev pub invariant-loop-index : goal.invariant-loop-index
-invariant-loop-index l = record {
-  config : config_of l.image ≡ config_of l.fn.image;
-  words : copied_from (config_of l.fn.image) (memory_of l.fn.image) (config_of l.fn.image).region_words ((config_of l.fn.image).regions * (config_of l.fn.image).region_words)
-      ≡ copied_from (config_of l.fn.image) (memory_of l.image) ((config_of l.fn.image).region_words + l.index) ((config_of l.fn.image).regions * (config_of l.fn.image).region_words - l.index);
-  room : is_room_from (config_of l.fn.image) (memory_of l.fn.image) (config_of l.fn.image).region_words ((config_of l.fn.image).regions * (config_of l.fn.image).region_words)
-      ≡ is_room_from (config_of l.fn.image) (memory_of l.image) ((config_of l.fn.image).region_words + l.index) ((config_of l.fn.image).regions * (config_of l.fn.image).region_words - l.index);
-  can : CanCopyFrom (config_of l.fn.image) (memory_of l.image) ((config_of l.fn.image).region_words + l.index) ((config_of l.fn.image).regions * (config_of l.fn.image).region_words - l.index);
+invariant-loop-index loop = record {
+  config : config_of loop.image ≡ config_of loop.fn.image;
+  words : copied_from (config_of loop.fn.image) (memory_of loop.fn.image) (config_of loop.fn.image).region_words ((config_of loop.fn.image).regions * (config_of loop.fn.image).region_words)
+      ≡ copied_from (config_of loop.fn.image) (memory_of loop.image) ((config_of loop.fn.image).region_words + loop.index) ((config_of loop.fn.image).regions * (config_of loop.fn.image).region_words - loop.index);
+  room : is_room_from (config_of loop.fn.image) (memory_of loop.fn.image) (config_of loop.fn.image).region_words ((config_of loop.fn.image).regions * (config_of loop.fn.image).region_words)
+      ≡ is_room_from (config_of loop.fn.image) (memory_of loop.image) ((config_of loop.fn.image).region_words + loop.index) ((config_of loop.fn.image).regions * (config_of loop.fn.image).region_words - loop.index);
+  can : CanCopyFrom (config_of loop.fn.image) (memory_of loop.image) ((config_of loop.fn.image).region_words + loop.index) ((config_of loop.fn.image).regions * (config_of loop.fn.image).region_words - loop.index);
 }

@@ -13,11 +13,11 @@ use Rattle.degenerated.proofs.Finishing.{stops_short, goes_through, all_served, 
 use Rattle.degenerated.proofs.cycle.end.Goals as goal
 
 -- the words when who waits is served
-to_end : (g d e : Config) (memory one two three : Word → ℕ) → d ≡ g → e ≡ d → one ≡ all_copied g memory → two ≡ all_updated d one → three ≡ set_freed e two → three ≡ cycle_finished g memory
-to_end other_config d e memory one two three same_d same_e to_one to_two to_three =
+to_end : (g second_config third_config : Config) (memory first_memory second_memory third_memory : Word → ℕ) → second_config ≡ g → third_config ≡ second_config → first_memory ≡ all_copied g memory → second_memory ≡ all_updated second_config first_memory → third_memory ≡ set_freed third_config second_memory → third_memory ≡ cycle_finished g memory
+to_end first_config second_config third_config memory first_memory second_memory third_memory same_d same_e to_one to_two to_three =
     to_three
-    ∙ ap (λ (config : Config). set_freed config two) (same_e ∙ same_d)
-    ∙ ap (set_freed other_config) (to_two ∙ ap (λ (config : Config). all_updated config one) same_d ∙ ap (all_updated other_config) to_one)
+    ∙ ap (λ (config : Config). set_freed config second_memory) (same_e ∙ same_d)
+    ∙ ap (set_freed first_config) (to_two ∙ ap (λ (config : Config). all_updated config first_memory) same_d ∙ ap (all_updated first_config) to_one)
 
 pub returns-then-not-copy_rest-clause-words : goal.returns-then-not-copy_rest-clause-words
 returns-then-not-copy_rest-clause-words c =
@@ -29,84 +29,84 @@ pub end_cycle-requires : goal.end_cycle-requires
 end_cycle-requires c =
     let config = config_of c.args.image.now in
     let memory : Word → ℕ = memory_of c.args.image.now in
-    let one = c.copy_rest.new.image in
-    let two = c.update_all.new.image in
+    let copied_image = c.copy_rest.new.image in
+    let updated_image = c.update_all.new.image in
     let room : is_room_for_all config memory ≡ true = sym c.copy_rest.ensures.room ∙ c.if-not-copy_rest.false in
-    let same_config : config_of two ≡ config = c.update_all.ensures.config ∙ c.copy_rest.ensures.config in
-    let words : memory_of two ≡ all_updated config (all_copied config memory) =
-    c.update_all.ensures.words ∙ ap (λ (config : Config). all_updated config (memory_of one)) c.copy_rest.ensures.config ∙ ap (all_updated config) c.copy_rest.ensures.words in
-    subst (λ (config : Config). CanFree config (memory_of two)) (sym same_config) (subst (CanFree config) (sym words) (c.requires.frees room))
+    let same_config : config_of updated_image ≡ config = c.update_all.ensures.config ∙ c.copy_rest.ensures.config in
+    let words : memory_of updated_image ≡ all_updated config (all_copied config memory) =
+    c.update_all.ensures.words ∙ ap (λ (config : Config). all_updated config (memory_of copied_image)) c.copy_rest.ensures.config ∙ ap (all_updated config) c.copy_rest.ensures.words in
+    subst (λ (config : Config). CanFree config (memory_of updated_image)) (sym same_config) (subst (CanFree config) (sym words) (c.requires.frees room))
 
 pub give_turns-requires : goal.give_turns-requires
 give_turns-requires c =
     let config = config_of c.args.image.now in
     let memory : Word → ℕ = memory_of c.args.image.now in
-    let one = c.copy_rest.new.image in
-    let two = c.update_all.new.image in
-    let three = c.end_cycle.new.image in
-    let words = to_end config (config_of one) (config_of two) memory (memory_of one) (memory_of two) (memory_of three) c.copy_rest.ensures.config c.update_all.ensures.config
+    let copied_image = c.copy_rest.new.image in
+    let updated_image = c.update_all.new.image in
+    let ended_image = c.end_cycle.new.image in
+    let words = to_end config (config_of copied_image) (config_of updated_image) memory (memory_of copied_image) (memory_of updated_image) (memory_of ended_image) c.copy_rest.ensures.config c.update_all.ensures.config
     c.copy_rest.ensures.words c.update_all.ensures.words c.end_cycle.ensures.words in
-    let same_config : config_of three ≡ config = c.end_cycle.ensures.config ∙ c.update_all.ensures.config ∙ c.copy_rest.ensures.config in
+    let same_config : config_of ended_image ≡ config = c.end_cycle.ensures.config ∙ c.update_all.ensures.config ∙ c.copy_rest.ensures.config in
     let room : is_room_for_all config memory ≡ true = sym c.copy_rest.ensures.room ∙ c.if-not-copy_rest.false in
-    subst (λ (config : Config). AreWithin config (memory_of three)) (sym same_config)
+    subst (λ (config : Config). AreWithin config (memory_of ended_image)) (sym same_config)
     (subst (AreWithin config) (sym words) (within_still config (all_copied config memory) (c.requires.updates room).within))
 
 pub returns-then-give_turns-clause-words : goal.returns-then-give_turns-clause-words
 returns-then-give_turns-clause-words c =
     let config = config_of c.args.image.now in
     let memory : Word → ℕ = memory_of c.args.image.now in
-    let one = c.copy_rest.new.image in
-    let two = c.update_all.new.image in
-    let three = c.end_cycle.new.image in
-    let words = to_end config (config_of one) (config_of two) memory (memory_of one) (memory_of two) (memory_of three) c.copy_rest.ensures.config c.update_all.ensures.config
+    let copied_image = c.copy_rest.new.image in
+    let updated_image = c.update_all.new.image in
+    let ended_image = c.end_cycle.new.image in
+    let words = to_end config (config_of copied_image) (config_of updated_image) memory (memory_of copied_image) (memory_of updated_image) (memory_of ended_image) c.copy_rest.ensures.config c.update_all.ensures.config
     c.copy_rest.ensures.words c.update_all.ensures.words c.end_cycle.ensures.words in
-    let same_config : config_of three ≡ config = c.end_cycle.ensures.config ∙ c.update_all.ensures.config ∙ c.copy_rest.ensures.config in
+    let same_config : config_of ended_image ≡ config = c.end_cycle.ensures.config ∙ c.update_all.ensures.config ∙ c.copy_rest.ensures.config in
     let room : is_room_for_all config memory ≡ true = sym c.copy_rest.ensures.room ∙ c.if-not-copy_rest.false in
-    c.give_turns.ensures.words ∙ ap (λ (config : Config). served config (memory_of three) config.mutators) same_config ∙ ap (λ (memory : Word → ℕ). served config memory config.mutators) words ∙ goes_through config memory room
+    c.give_turns.ensures.words ∙ ap (λ (config : Config). served config (memory_of ended_image) config.mutators) same_config ∙ ap (λ (memory : Word → ℕ). served config memory config.mutators) words ∙ goes_through config memory room
 
 pub returns-then-give_turns-clause-whole : goal.returns-then-give_turns-clause-whole
 returns-then-give_turns-clause-whole c =
     let config = config_of c.args.image.now in
     let memory : Word → ℕ = memory_of c.args.image.now in
-    let one = c.copy_rest.new.image in
-    let two = c.update_all.new.image in
-    let three = c.end_cycle.new.image in
-    let words = to_end config (config_of one) (config_of two) memory (memory_of one) (memory_of two) (memory_of three) c.copy_rest.ensures.config c.update_all.ensures.config
+    let copied_image = c.copy_rest.new.image in
+    let updated_image = c.update_all.new.image in
+    let ended_image = c.end_cycle.new.image in
+    let words = to_end config (config_of copied_image) (config_of updated_image) memory (memory_of copied_image) (memory_of updated_image) (memory_of ended_image) c.copy_rest.ensures.config c.update_all.ensures.config
     c.copy_rest.ensures.words c.update_all.ensures.words c.end_cycle.ensures.words in
-    let same_config : config_of three ≡ config = c.end_cycle.ensures.config ∙ c.update_all.ensures.config ∙ c.copy_rest.ensures.config in
+    let same_config : config_of ended_image ≡ config = c.end_cycle.ensures.config ∙ c.update_all.ensures.config ∙ c.copy_rest.ensures.config in
     let room : is_room_for_all config memory ≡ true = sym c.copy_rest.ensures.room ∙ c.if-not-copy_rest.false in
-    let none : (t : ℕ) → IsLeft config (cycle_finished config memory) t → ⊥ = λ t left.
-    c.give_turns.ensures.served c.if-give_turns.true t
-    (subst (λ (config : Config). IsLeft config (memory_of three) t) (sym same_config) (subst (λ (memory : Word → ℕ). IsLeft config memory t) (sym words) left)) in
-    let whole : (is_room_for_all config memory && nobody_waits config (finished_from config memory)) ≡ true = whole_is config memory room ∙ all_served config (cycle_finished config memory) none in
-    (λ same. whole, λ told. refl)
+    let none_left : (mutator : ℕ) → IsLeft config (cycle_finished config memory) mutator → ⊥ = λ mutator is_left.
+    c.give_turns.ensures.served c.if-give_turns.true mutator
+    (subst (λ (config : Config). IsLeft config (memory_of ended_image) mutator) (sym same_config) (subst (λ (memory : Word → ℕ). IsLeft config memory mutator) (sym words) is_left)) in
+    let whole : (is_room_for_all config memory && nobody_waits config (finished_from config memory)) ≡ true = whole_is config memory room ∙ all_served config (cycle_finished config memory) none_left in
+    (λ same_answer. whole, λ told. refl)
 
 pub returns-else-give_turns-clause-words : goal.returns-else-give_turns-clause-words
 returns-else-give_turns-clause-words c =
     let config = config_of c.args.image.now in
     let memory : Word → ℕ = memory_of c.args.image.now in
-    let one = c.copy_rest.new.image in
-    let two = c.update_all.new.image in
-    let three = c.end_cycle.new.image in
-    let words = to_end config (config_of one) (config_of two) memory (memory_of one) (memory_of two) (memory_of three) c.copy_rest.ensures.config c.update_all.ensures.config
+    let copied_image = c.copy_rest.new.image in
+    let updated_image = c.update_all.new.image in
+    let ended_image = c.end_cycle.new.image in
+    let words = to_end config (config_of copied_image) (config_of updated_image) memory (memory_of copied_image) (memory_of updated_image) (memory_of ended_image) c.copy_rest.ensures.config c.update_all.ensures.config
     c.copy_rest.ensures.words c.update_all.ensures.words c.end_cycle.ensures.words in
-    let same_config : config_of three ≡ config = c.end_cycle.ensures.config ∙ c.update_all.ensures.config ∙ c.copy_rest.ensures.config in
+    let same_config : config_of ended_image ≡ config = c.end_cycle.ensures.config ∙ c.update_all.ensures.config ∙ c.copy_rest.ensures.config in
     let room : is_room_for_all config memory ≡ true = sym c.copy_rest.ensures.room ∙ c.if-not-copy_rest.false in
-    c.give_turns.ensures.words ∙ ap (λ (config : Config). served config (memory_of three) config.mutators) same_config ∙ ap (λ (memory : Word → ℕ). served config memory config.mutators) words ∙ goes_through config memory room
+    c.give_turns.ensures.words ∙ ap (λ (config : Config). served config (memory_of ended_image) config.mutators) same_config ∙ ap (λ (memory : Word → ℕ). served config memory config.mutators) words ∙ goes_through config memory room
 
 pub returns-else-give_turns-clause-whole : goal.returns-else-give_turns-clause-whole
 returns-else-give_turns-clause-whole c =
     let config = config_of c.args.image.now in
     let memory : Word → ℕ = memory_of c.args.image.now in
-    let one = c.copy_rest.new.image in
-    let two = c.update_all.new.image in
-    let three = c.end_cycle.new.image in
-    let words = to_end config (config_of one) (config_of two) memory (memory_of one) (memory_of two) (memory_of three) c.copy_rest.ensures.config c.update_all.ensures.config
+    let copied_image = c.copy_rest.new.image in
+    let updated_image = c.update_all.new.image in
+    let ended_image = c.end_cycle.new.image in
+    let words = to_end config (config_of copied_image) (config_of updated_image) memory (memory_of copied_image) (memory_of updated_image) (memory_of ended_image) c.copy_rest.ensures.config c.update_all.ensures.config
     c.copy_rest.ensures.words c.update_all.ensures.words c.end_cycle.ensures.words in
-    let same_config : config_of three ≡ config = c.end_cycle.ensures.config ∙ c.update_all.ensures.config ∙ c.copy_rest.ensures.config in
+    let same_config : config_of ended_image ≡ config = c.end_cycle.ensures.config ∙ c.update_all.ensures.config ∙ c.copy_rest.ensures.config in
     let room : is_room_for_all config memory ≡ true = sym c.copy_rest.ensures.room ∙ c.if-not-copy_rest.false in
-    let told = c.give_turns.ensures.left c.if-give_turns.false in
-    let left : IsLeft config (cycle_finished config memory) told.0 =
-    subst (λ (memory : Word → ℕ). IsLeft config memory told.0) words (subst (λ (config : Config). IsLeft config (memory_of three) told.0) same_config told.1) in
-    let short : (is_room_for_all config memory && nobody_waits config (finished_from config memory)) ≡ false = whole_is config memory room ∙ not_all_served config (cycle_finished config memory) told.0 left in
-    (λ same. search, λ whole. absurd (true≢false (sym whole ∙ short)))
+    let left_told = c.give_turns.ensures.left c.if-give_turns.false in
+    let one_left : IsLeft config (cycle_finished config memory) left_told.0 =
+    subst (λ (memory : Word → ℕ). IsLeft config memory left_told.0) words (subst (λ (config : Config). IsLeft config (memory_of ended_image) left_told.0) same_config left_told.1) in
+    let short : (is_room_for_all config memory && nobody_waits config (finished_from config memory)) ≡ false = whole_is config memory room ∙ not_all_served config (cycle_finished config memory) left_told.0 one_left in
+    (λ same_answer. search, λ whole. absurd (true≢false (sym whole ∙ short)))

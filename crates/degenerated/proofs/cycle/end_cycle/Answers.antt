@@ -11,12 +11,12 @@ use Rattle.degenerated.proofs.cycle.end_cycle.Goals as goal
 pub returns-clause-words : goal.returns-clause-words
 returns-clause-words c =
     let config = c.config-config.result in
-    let two = c.end_updating.new.image in
-    let config_before : config_of two ≡ config = sym c.config-config.ensures in
+    let ended_image = c.end_updating.new.image in
+    let config_before : config_of ended_image ≡ config = sym c.config-config.ensures in
     let config_evac : config_of c.set_word.new.self ≡ config = c.set_word.ensures.config ∙ config_before in
-    let stored_evac = stored (config_of two) config _ _ Evac c.evac_at.result 0 config_before tt c.evac_at.ensures c.set_word.ensures.named in
+    let stored_evac = stored (config_of ended_image) config _ _ Evac c.evac_at.result 0 config_before tt c.evac_at.ensures c.set_word.ensures.named in
     let stored_ask = stored (config_of c.set_word.new.self) config _ _ Ask c.ask_at.result 0 config_evac tt c.ask_at.ensures c.set_word-2.ensures.named in
-    stored_ask ∙ ap (λ n. write n Ask 0) (stored_evac ∙ ap (λ n. write n Evac 0) (c.end_updating.ensures.words ∙ ap cycle_ended c.free_set.ensures.words))
+    stored_ask ∙ ap (λ memory_then. write memory_then Ask 0) (stored_evac ∙ ap (λ memory_then. write memory_then Evac 0) (c.end_updating.ensures.words ∙ ap cycle_ended c.free_set.ensures.words))
     ∙ ended (config_of c.args.image.now) (memory_of c.args.image.now)
 
 pub returns-clause-holds : goal.returns-clause-holds

@@ -1,3 +1,4 @@
+use Rattle.heap_words.specs.Phases.{evacuation_phase}
 use Rattle.std.proofs.Common.{◌≡◌, ◌*◌, ℕ, ◌&&◌, ◌↔◌, true, sym, ap, ◌∙◌, subst}
 use Rattle.heap_words.specs.declared.config.Config.{Config}
 use Rattle.heap_words.specs.Words.{Word, Phase}
@@ -14,7 +15,7 @@ use Rattle.degenerated.proofs.cycle.finish.Goals as goal
 
 -- what is asked of words, and told of them, once buffers were let go
 abbrev Copies : Config → (Word → ℕ) → Type 0
-Copies config memory = memory Phase ≡ 2 → CanCopyFrom config memory config.region_words (config.regions * config.region_words)
+Copies config memory = memory Phase ≡ evacuation_phase → CanCopyFrom config memory config.region_words (config.regions * config.region_words)
 
 abbrev Updates : Config → (Word → ℕ) → Type 0
 Updates config memory = is_room_for_all config memory ≡ true → CanUpdateAll config (all_copied config memory)

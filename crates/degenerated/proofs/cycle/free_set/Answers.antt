@@ -14,14 +14,14 @@ pub loop-region-init : goal.loop-region-init
 loop-region-init c = record { config = refl; words = none_left (config_of c.args.image.now) (memory_of c.args.image.now) }
 
 -- which regions are chosen, and pinned, is told by words that stay
-stays_still : (config other_config : Config) (memory now : Word → ℕ) (r k : ℕ) → other_config ≡ config → now ≡ left_below config memory k → is_to_stay other_config now r ≡ is_to_stay config memory r
-stays_still config other_config memory now r k same words = ap (λ (config : Config). is_to_stay config now r) same ∙ ap (λ (memory : Word → ℕ). is_to_stay config memory r) words
+stays_still : (config other_config : Config) (memory now : Word → ℕ) (region count : ℕ) → other_config ≡ config → now ≡ left_below config memory count → is_to_stay other_config now region ≡ is_to_stay config memory region
+stays_still config other_config memory now region count same_config words = ap (λ (config : Config). is_to_stay config now region) same_config ∙ ap (λ (memory : Word → ℕ). is_to_stay config memory region) words
 
-frees_still : (config other_config : Config) (memory now : Word → ℕ) (r k : ℕ) → other_config ≡ config → now ≡ left_below config memory k → is_to_free other_config now r ≡ is_to_free config memory r
-frees_still config other_config memory now r k same words = ap (λ (config : Config). is_to_free config now r) same ∙ ap (λ (memory : Word → ℕ). is_to_free config memory r) words
+frees_still : (config other_config : Config) (memory now : Word → ℕ) (region count : ℕ) → other_config ≡ config → now ≡ left_below config memory count → is_to_free other_config now region ≡ is_to_free config memory region
+frees_still config other_config memory now region count same_config words = ap (λ (config : Config). is_to_free config now region) same_config ∙ ap (λ (memory : Word → ℕ). is_to_free config memory region) words
 
-chosen_still : (config : Config) (memory now : Word → ℕ) (r k : ℕ) → now ≡ left_below config memory k → is_chosen now r ≡ is_chosen memory r
-chosen_still config memory now r k words = ap (λ (memory : Word → ℕ). is_chosen memory r) words
+chosen_still : (config : Config) (memory now : Word → ℕ) (region count : ℕ) → now ≡ left_below config memory count → is_chosen now region ≡ is_chosen memory region
+chosen_still config memory now region count words = ap (λ (memory : Word → ℕ). is_chosen memory region) words
 
 pub free_or_fill-requires-clause-can : goal.free_or_fill-requires-clause-can
 free_or_fill-requires-clause-can c = λ stays.
@@ -29,11 +29,11 @@ free_or_fill-requires-clause-can c = λ stays.
     let memory : Word → ℕ = memory_of c.args.image.now in
     let now = c.loop-region.image in
     let region = c.loop-region.region in
-    let is = c.loop-region.invariant in
-    let below : region < config.regions = omega (arith, c.loop-region-test.true, c.regions-region-end.ensures, ap (λ (config : Config). config.regions) c.config-config.ensures) in
-    let stay : is_to_stay config memory region ≡ true = sym (stays_still config (config_of now) memory (memory_of now) region region is.config is.words) ∙ stays in
-    subst (λ (config : Config). CanFill config (memory_of now) region) (sym is.config)
-    (subst (λ (memory : Word → ℕ). CanFill config memory region) (sym is.words) (can_fill_now config memory region (c.requires.fills region below stay)))
+    let invariant = c.loop-region.invariant in
+    let region_below : region < config.regions = omega (arith, c.loop-region-test.true, c.regions-region-end.ensures, ap (λ (config : Config). config.regions) c.config-config.ensures) in
+    let stay : is_to_stay config memory region ≡ true = sym (stays_still config (config_of now) memory (memory_of now) region region invariant.config invariant.words) ∙ stays in
+    subst (λ (config : Config). CanFill config (memory_of now) region) (sym invariant.config)
+    (subst (λ (memory : Word → ℕ). CanFill config memory region) (sym invariant.words) (can_fill_now config memory region (c.requires.fills region region_below stay)))
 
 pub loop-region-preserved : goal.loop-region-preserved
 loop-region-preserved c =
@@ -41,30 +41,30 @@ loop-region-preserved c =
     let memory : Word → ℕ = memory_of c.args.image.now in
     let now = c.loop-region.image in
     let region = c.loop-region.region in
-    let is = c.loop-region.invariant in
+    let invariant = c.loop-region.invariant in
     let turn = c.free_or_fill.ensures in
-    let below : region < config.regions = omega (arith, c.loop-region-test.true, c.regions-region-end.ensures, ap (λ (config : Config). config.regions) c.config-config.ensures) in
-    let stay = stays_still config (config_of now) memory (memory_of now) region region is.config is.words in
-    let free = frees_still config (config_of now) memory (memory_of now) region region is.config is.words in
+    let region_below : region < config.regions = omega (arith, c.loop-region-test.true, c.regions-region-end.ensures, ap (λ (config : Config). config.regions) c.config-config.ensures) in
+    let stay = stays_still config (config_of now) memory (memory_of now) region region invariant.config invariant.words in
+    let same_free = frees_still config (config_of now) memory (memory_of now) region region invariant.config invariant.words in
     record {
-      config = turn.config ∙ is.config;
+      config = turn.config ∙ invariant.config;
       words = ⊎_elim
           (λ (chosen : is_chosen memory region ≡ true). ⊎_elim
           (λ (pinned : is_pinned config memory region ≡ true).
-          let stays : is_to_stay config memory region ≡ true = ap (λ b. b && is_pinned config memory region) chosen ∙ pinned in
-          let kept : is_to_free config memory region ≡ false = ap (λ b. b && not (is_pinned config memory region)) chosen ∙ ap not pinned in
+          let stays : is_to_stay config memory region ≡ true = ap (λ in_set. in_set && is_pinned config memory region) chosen ∙ pinned in
+          let not_freed : is_to_free config memory region ≡ false = ap (λ in_set. in_set && not (is_pinned config memory region)) chosen ∙ ap not pinned in
           turn.fills (stay ∙ stays)
-          ∙ ap (λ (config : Config). filled_in config (λ q. q == region) (has_moved (memory_of now)) (memory_of now)) is.config
-          ∙ ap (λ (memory : Word → ℕ). filled_in config (λ q. q == region) (has_moved memory) memory) is.words
-          ∙ filled_region config memory region (c.requires.fills region below stays) stays kept)
+          ∙ ap (λ (config : Config). filled_in config (λ any_region. any_region == region) (has_moved (memory_of now)) (memory_of now)) invariant.config
+          ∙ ap (λ (memory : Word → ℕ). filled_in config (λ any_region. any_region == region) (has_moved memory) memory) invariant.words
+          ∙ filled_region config memory region (c.requires.fills region region_below stays) stays not_freed)
           (λ (unpinned : is_pinned config memory region ≡ false).
-          let frees : is_to_free config memory region ≡ true = ap (λ b. b && not (is_pinned config memory region)) chosen ∙ ap not unpinned in
-          let gone : is_to_stay config memory region ≡ false = ap (λ b. b && is_pinned config memory region) chosen ∙ unpinned in
-          turn.frees (free ∙ frees) ∙ ap (freed_one region) is.words ∙ freed_region config memory region (omega (arith, below, config.in_range.most_regions)) frees gone)
+          let frees : is_to_free config memory region ≡ true = ap (λ in_set. in_set && not (is_pinned config memory region)) chosen ∙ ap not unpinned in
+          let not_staying : is_to_stay config memory region ≡ false = ap (λ in_set. in_set && is_pinned config memory region) chosen ∙ unpinned in
+          turn.frees (same_free ∙ frees) ∙ ap (freed_one region) invariant.words ∙ freed_region config memory region (omega (arith, region_below, config.in_range.most_regions)) frees not_staying)
           (cases_Bool (is_pinned config memory region)))
           (λ (spared : is_chosen memory region ≡ false).
-          turn.spares (chosen_still config memory (memory_of now) region region is.words ∙ spared) ∙ is.words
-          ∙ spared_next config memory region (ap (λ b. b && not (is_pinned config memory region)) spared) (ap (λ b. b && is_pinned config memory region) spared))
+          turn.spares (chosen_still config memory (memory_of now) region region invariant.words ∙ spared) ∙ invariant.words
+          ∙ spared_next config memory region (ap (λ in_set. in_set && not (is_pinned config memory region)) spared) (ap (λ in_set. in_set && is_pinned config memory region) spared))
           (cases_Bool (is_chosen memory region));
     }
 
@@ -72,6 +72,6 @@ pub returns-clause-words : goal.returns-clause-words
 returns-clause-words c =
     let config = config_of c.args.image.now in
     let memory : Word → ℕ = memory_of c.args.image.now in
-    let all : c.loop-region.region ≡ config.regions =
+    let all_regions : c.loop-region.region ≡ config.regions =
     omega (arith, c.loop-region-test.false, c.loop-region.auto.region-end, c.regions-region-end.ensures, ap (λ (config : Config). config.regions) c.config-config.ensures) in
-    c.loop-region.invariant.words ∙ ap (left_below config memory) all ∙ all_left config (words_of c.args.image.now)
+    c.loop-region.invariant.words ∙ ap (left_below config memory) all_regions ∙ all_left config (words_of c.args.image.now)

@@ -16,8 +16,8 @@ returns-then-not-is_pinned-clause-words c =
     let config = config_of c.args.image.now in
     let memory : Word → ℕ = memory_of c.args.image.now in
     let region = c.args.region in
-    let set : c.word.result ≡ memory Cset = c.word.ensures.named Cset tt (ap (λ (config : Config). word_at config Cset) (sym c.config.ensures) ∙ sym c.cset_at.ensures) in
-    let member : IsIn (memory Cset) region = ap (λ x. bit_at x region) (sym set) ∙ c.is_in.ensures.0 c.if-is_in.true in
-    let gone : stays config memory region ≡ false =
-    or_from (bit_at (memory Cset) region == 0) (is_pinned config memory region) (ne_eqb (bit_at (memory Cset) region) 0 (λ none. omega (arith, none, member))) (sym c.is_pinned.ensures ∙ c.if-not-is_pinned.true) in
-    no_fields config memory (kept_now c.args.image.now) (is_of config region) (none_where_nothing_stays config memory region gone)
+    let same_cset : c.word.result ≡ memory Cset = c.word.ensures.named Cset tt (ap (λ (config : Config). word_at config Cset) (sym c.config.ensures) ∙ sym c.cset_at.ensures) in
+    let member : IsIn (memory Cset) region = ap (λ x. bit_at x region) (sym same_cset) ∙ c.is_in.ensures.0 c.if-is_in.true in
+    let not_staying : stays config memory region ≡ false =
+    or_from (bit_at (memory Cset) region == 0) (is_pinned config memory region) (ne_eqb (bit_at (memory Cset) region) 0 (λ no_bit. omega (arith, no_bit, member))) (sym c.is_pinned.ensures ∙ c.if-not-is_pinned.true) in
+    no_fields config memory (kept_now c.args.image.now) (is_of config region) (none_where_nothing_stays config memory region not_staying)

@@ -7,9 +7,9 @@ use Rattle.degenerated.specs.Steps.{kept_now, fields_updated, is_below}
 use Rattle.degenerated.proofs.fields.update_region.Given as goal
 
 abbrev pub invariant-loop-offset : goal.invariant-loop-offset
-invariant-loop-offset l = record {
-  config : config_of l.image ≡ config_of l.fn.image;
-  places : places_of l.image ≡ places_of l.fn.image;
-  words : memory_of l.image ≡ fields_updated (config_of l.fn.image) (kept_now l.fn.image) (is_below (config_of l.fn.image) l.region l.offset) (memory_of l.fn.image);
-  object : l.object ≡ base_of (config_of l.fn.image) l.region + start_of (λ address. memory_of l.fn.image (Heap address)) (base_of (config_of l.fn.image) l.region) (l.offset - 1);
+invariant-loop-offset loop = record {
+  config : config_of loop.image ≡ config_of loop.fn.image;
+  places : places_of loop.image ≡ places_of loop.fn.image;
+  words : memory_of loop.image ≡ fields_updated (config_of loop.fn.image) (kept_now loop.fn.image) (is_below (config_of loop.fn.image) loop.region loop.offset) (memory_of loop.fn.image);
+  object : loop.object ≡ base_of (config_of loop.fn.image) loop.region + start_of (λ address. memory_of loop.fn.image (Heap address)) (base_of (config_of loop.fn.image) loop.region) (loop.offset - 1);
 }

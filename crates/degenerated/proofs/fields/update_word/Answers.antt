@@ -62,10 +62,10 @@ returns-clause-words c =
     let memory : Word → ℕ = memory_of c.args.image.now in
     let address = c.args.address in
     let word : IsWord config (Heap address) = address_inside config memory address c.requires.stays in
-    let at : c.heap_at-at.result ≡ word_at config (Heap address) = c.heap_at-at.ensures ∙ ap (λ (config : Config). word_at config (Heap address)) c.config.ensures in
-    let read : c.word.result ≡ memory (Heap address) = c.word.ensures.named (Heap address) word (sym at) in
+    let same_place : c.heap_at-at.result ≡ word_at config (Heap address) = c.heap_at-at.ensures ∙ ap (λ (config : Config). word_at config (Heap address)) c.config.ensures in
+    let read : c.word.result ≡ memory (Heap address) = c.word.ensures.named (Heap address) word (sym same_place) in
     let now : ℕ → ℕ = kept_now c.args.image.now in
     let value : c.updated-word.result ≡ updated_by config now memory (memory (Heap address)) = c.updated-word.ensures ∙ ap (updated_by config now memory) read in
     let field = kept_reference config memory address c.args.object c.requires.stays c.requires.object
     (sym c.is_kept.ensures ∙ c.if-not-is_kept.false) (sym c.is_reference.ensures ∙ c.if-not-is_reference.false) in
-    c.set_word.ensures.named (Heap address) word (sym at) ∙ ap (write memory (Heap address)) value ∙ set_one config memory now address field
+    c.set_word.ensures.named (Heap address) word (sym same_place) ∙ ap (write memory (Heap address)) value ∙ set_one config memory now address field

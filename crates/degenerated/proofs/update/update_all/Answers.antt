@@ -19,23 +19,23 @@ pub update_all_roots-requires : goal.update_all_roots-requires
 update_all_roots-requires c =
     let config = config_of c.args.image.now in
     let begun = c.keep_heap.new.self in
-    let one = c.update_fields.new.image in
-    let same : memory_of one Cset ≡ memory_of c.args.image.now Cset =
+    let fields_image = c.update_fields.new.image in
+    let same_cset : memory_of fields_image Cset ≡ memory_of c.args.image.now Cset =
     ap (λ (memory : Word → ℕ). memory Cset) c.update_fields.ensures.words ∙ ap (λ (memory : Word → ℕ). memory Cset) (memory_same c.args.image.now begun c.keep_heap.ensures.unchanged) in
-    subst (λ (config : Config). memory_of one Cset < 2 ^ config.regions) (sym (c.update_fields.ensures.config ∙ c.keep_heap.ensures.unchanged.config))
-    (subst (λ x. x < 2 ^ config.regions) (sym same) c.requires.set)
+    subst (λ (config : Config). memory_of fields_image Cset < 2 ^ config.regions) (sym (c.update_fields.ensures.config ∙ c.keep_heap.ensures.unchanged.config))
+    (subst (λ x. x < 2 ^ config.regions) (sym same_cset) c.requires.set)
 
 pub update_answers-requires : goal.update_answers-requires
 update_answers-requires c =
     let config = config_of c.args.image.now in
     let begun = c.keep_heap.new.self in
-    let one = c.update_fields.new.image in
-    let two = c.update_all_roots.new.image in
-    let same : memory_of two Cset ≡ memory_of one Cset = ap (λ (memory : Word → ℕ). memory Cset) c.update_all_roots.ensures.words in
-    let first : memory_of one Cset ≡ memory_of c.args.image.now Cset =
+    let fields_image = c.update_fields.new.image in
+    let roots_image = c.update_all_roots.new.image in
+    let same_cset : memory_of roots_image Cset ≡ memory_of fields_image Cset = ap (λ (memory : Word → ℕ). memory Cset) c.update_all_roots.ensures.words in
+    let cset_before : memory_of fields_image Cset ≡ memory_of c.args.image.now Cset =
     ap (λ (memory : Word → ℕ). memory Cset) c.update_fields.ensures.words ∙ ap (λ (memory : Word → ℕ). memory Cset) (memory_same c.args.image.now begun c.keep_heap.ensures.unchanged) in
-    subst (λ (config : Config). memory_of two Cset < 2 ^ config.regions) (sym (c.update_all_roots.ensures.config ∙ c.update_fields.ensures.config ∙ c.keep_heap.ensures.unchanged.config))
-    (subst (λ x. x < 2 ^ config.regions) (sym (same ∙ first)) c.requires.set)
+    subst (λ (config : Config). memory_of roots_image Cset < 2 ^ config.regions) (sym (c.update_all_roots.ensures.config ∙ c.update_fields.ensures.config ∙ c.keep_heap.ensures.unchanged.config))
+    (subst (λ x. x < 2 ^ config.regions) (sym (same_cset ∙ cset_before)) c.requires.set)
 
 pub returns-clause-words : goal.returns-clause-words
 returns-clause-words c =
@@ -43,33 +43,33 @@ returns-clause-words c =
     let config = config_of old in
     let memory : Word → ℕ = memory_of old in
     let begun = c.keep_heap.new.self in
-    let one = c.update_fields.new.image in
-    let two = c.update_all_roots.new.image in
+    let fields_image = c.update_fields.new.image in
+    let roots_image = c.update_all_roots.new.image in
     let lead : ℕ → ℕ = now_of config.region_words (heap_in config (words_of old)) in
-    let kept : kept_now begun ≡ lead = kept_from old begun c.keep_heap.ensures.unchanged c.keep_heap.ensures.kept in
+    let same_kept : kept_now begun ≡ lead = kept_from old begun c.keep_heap.ensures.unchanged c.keep_heap.ensures.kept in
     let config_one = c.update_fields.ensures.config ∙ c.keep_heap.ensures.unchanged.config in
     let config_two = c.update_all_roots.ensures.config ∙ config_one in
-    let kept_one : kept_now one ≡ lead = kept_same begun one c.update_fields.ensures.config c.update_fields.ensures.places ∙ kept in
-    let kept_two : kept_now two ≡ lead = kept_same one two c.update_all_roots.ensures.config c.update_all_roots.ensures.places ∙ kept_one in
-    let to_one : memory_of one ≡ fields_updated config lead (is_of_first config config.regions) memory =
+    let kept_one : kept_now fields_image ≡ lead = kept_same begun fields_image c.update_fields.ensures.config c.update_fields.ensures.places ∙ same_kept in
+    let kept_two : kept_now roots_image ≡ lead = kept_same fields_image roots_image c.update_all_roots.ensures.config c.update_all_roots.ensures.places ∙ kept_one in
+    let to_one : memory_of fields_image ≡ fields_updated config lead (is_of_first config config.regions) memory =
     c.update_fields.ensures.words
-    ∙ ap (λ (f : ℕ → ℕ). fields_updated (config_of begun) f (is_of_first (config_of begun) (config_of begun).regions) (memory_of begun)) kept
+    ∙ ap (λ (f : ℕ → ℕ). fields_updated (config_of begun) f (is_of_first (config_of begun) (config_of begun).regions) (memory_of begun)) same_kept
     ∙ ap (λ (config : Config). fields_updated config lead (is_of_first config config.regions) (memory_of begun)) c.keep_heap.ensures.unchanged.config
     ∙ ap (fields_updated config lead (is_of_first config config.regions)) (memory_same old begun c.keep_heap.ensures.unchanged) in
-    let to_two : memory_of two ≡ roots_updated config lead config.mutators (fields_updated config lead (is_of_first config config.regions) memory) =
+    let to_two : memory_of roots_image ≡ roots_updated config lead config.mutators (fields_updated config lead (is_of_first config config.regions) memory) =
     c.update_all_roots.ensures.words
-    ∙ ap (λ (f : ℕ → ℕ). roots_updated (config_of one) f (config_of one).mutators (memory_of one)) kept_one
-    ∙ ap (λ (config : Config). roots_updated config lead config.mutators (memory_of one)) config_one
+    ∙ ap (λ (f : ℕ → ℕ). roots_updated (config_of fields_image) f (config_of fields_image).mutators (memory_of fields_image)) kept_one
+    ∙ ap (λ (config : Config). roots_updated config lead config.mutators (memory_of fields_image)) config_one
     ∙ ap (roots_updated config lead config.mutators) to_one in
     c.update_answers.ensures.words
-    ∙ ap (λ (f : ℕ → ℕ). answers_updated (config_of two) f (config_of two).mutators (memory_of two)) kept_two
-    ∙ ap (λ (config : Config). answers_updated config lead config.mutators (memory_of two)) config_two
+    ∙ ap (λ (f : ℕ → ℕ). answers_updated (config_of roots_image) f (config_of roots_image).mutators (memory_of roots_image)) kept_two
+    ∙ ap (λ (config : Config). answers_updated config lead config.mutators (memory_of roots_image)) config_two
     ∙ ap (answers_updated config lead config.mutators) to_two
     ∙ all config (words_of old) old.all_words
 
 pub returns-clause-holds : goal.returns-clause-holds
-returns-clause-holds c = λ block owner p graph holds sized none.
+returns-clause-holds c = λ block owner promises graph holds sized no_room.
     let config = config_of c.args.image.now in
     let memory : Word → ℕ = memory_of c.args.image.now in
-    subst (λ (memory : Word → ℕ). HoldsUpdated config memory block owner p graph) (sym (returns-clause-words c))
-    (record { holds = updated_holds config memory block owner p graph holds sized none; sized = updated_sized config memory block owner p graph holds sized none })
+    subst (λ (memory : Word → ℕ). HoldsUpdated config memory block owner promises graph) (sym (returns-clause-words c))
+    (record { holds = updated_holds config memory block owner promises graph holds sized no_room; sized = updated_sized config memory block owner promises graph holds sized no_room })

@@ -8,7 +8,7 @@ pub keeps-preserved : goal.keeps-preserved
 keeps-preserved c = λ next end after goes.
     c.keeps.invariant next end after
     (Keeps c.keeps.thread c.next.new.self end c.in-Keep.note c.keeps.notes after next c.in-Keep.ensures
-    (subst (λ (ns : Notes). KeepsOn c.args.program.now c.args.reply c.next.new.self ns next end after) c.keep.ensures goes))
+    (subst (λ (notes : Notes). KeepsOn c.args.program.now c.args.reply c.next.new.self notes next end after) c.keep.ensures goes))
 
 pub keeps-smaller : goal.keeps-smaller
 keeps-smaller c = keeps_less c.args.program.now c.args.reply c.in-Keep.note c.keeps.thread c.next.new.self (Keep c.in-Keep.note) c.in-Keep.ensures refl

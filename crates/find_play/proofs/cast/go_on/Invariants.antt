@@ -5,7 +5,7 @@ use Rattle.find_play.specs.Plays.{Notes, KeepsOn}
 use Rattle.find_play.proofs.cast.go_on.Given as goal
 
 abbrev pub invariant-keeps : goal.invariant-keeps
-invariant-keeps l = (next : Next) (end : Thread) (after : Notes) → KeepsOn l.program l.reply l.thread l.notes next end after → KeepsOn l.program l.reply l.fn.thread l.fn.notes next end after
+invariant-keeps locals = (next : Next) (end : Thread) (after : Notes) → KeepsOn locals.program locals.reply locals.thread locals.notes next end after → KeepsOn locals.program locals.reply locals.fn.thread locals.fn.notes next end after
 
 abbrev pub decreases-keeps : goal.decreases-keeps
-decreases-keeps l = l.thread.left * (length l.program + 1) + (length l.program - l.thread.at)
+decreases-keeps locals = locals.thread.left * (length locals.program + 1) + (length locals.program - locals.thread.at)

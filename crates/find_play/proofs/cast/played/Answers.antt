@@ -12,4 +12,4 @@ pub loop-at-preserved : goal.loop-at-preserved
 loop-at-preserved c =
     let test = c.args.test.now in
     played_on test.programs.items test.bounds.returns (length test.notes) c.args.history.now.list c.loop-at.at (seen c.entry.result) (scene c.loop-at.cast) (scene c.answer.new.self) c.entry.ensures c.loop-at.invariant
-    (subst (λ (ps : Programs). IsNextEntry ps (seen c.entry.result) (scene c.loop-at.cast) (scene c.answer.new.self)) c.deref.ensures.value (c.answer.ensures.answers c.if-not-answer.false))
+    (subst (λ (programs : Programs). IsNextEntry programs (seen c.entry.result) (scene c.loop-at.cast) (scene c.answer.new.self)) c.deref.ensures.value (c.answer.ensures.answers c.if-not-answer.false))

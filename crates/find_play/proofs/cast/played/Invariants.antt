@@ -4,4 +4,4 @@ use Rattle.find_play.specs.Scenes.{scene}
 use Rattle.find_play.proofs.cast.played.Given as goal
 
 abbrev pub invariant-loop-at : goal.invariant-loop-at
-invariant-loop-at l = IsPlay l.test.programs.items l.test.bounds.returns (length l.test.notes) (take l.at l.history.list) (scene l.cast)
+invariant-loop-at locals = IsPlay locals.test.programs.items locals.test.bounds.returns (length locals.test.notes) (take locals.at locals.history.list) (scene locals.cast)

@@ -3,4 +3,4 @@ use Rattle.find_play.specs.Kinds.{kind_of_word}
 use Rattle.find_play.proofs.line.kind_among.Given as goal
 
 abbrev pub invariant-loop-kind : goal.invariant-loop-kind
-invariant-loop-kind l = kind_of_word (drop l.kind-index l.kinds) l.word ≡ kind_of_word l.kinds l.word
+invariant-loop-kind locals = kind_of_word (drop locals.kind-index locals.kinds) locals.word ≡ kind_of_word locals.kinds locals.word

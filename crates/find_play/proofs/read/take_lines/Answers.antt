@@ -6,11 +6,11 @@ use Rattle.find_play.proofs.Taken.{line_told, stops_behind}
 use Rattle.find_play.proofs.read.take_lines.Goals as goal
 
 pub returns-in_err-rest-clause-bad_line : goal.returns-in_err-rest-clause-bad_line
-returns-in_err-rest-clause-bad_line c = λ n why is.
-    let p = err_from_is_err_and c.from_residual.result c.from_residual.ensures.1 in
-    let same : c.in_err-rest.field-0.0 ≡ BadLine n why = let x = p.2 in let y = p.1 in cc in
-    let stops = c.take_line.ensures.bad_line n why (c.in_err-rest.was ∙ ap Err same) in
-    stops_behind (told_in c.args.draft.now) (told_in c.lines.draft) 4 c.args.bytes.now c.lines.rest.now c.lines.line n why c.lines.invariant.taken stops.0 stops.1
+returns-in_err-rest-clause-bad_line c = λ line why bad_line.
+    let given_error = err_from_is_err_and c.from_residual.result c.from_residual.ensures.1 in
+    let same_fault : c.in_err-rest.field-0.0 ≡ BadLine line why = let x = given_error.2 in let y = given_error.1 in cc in
+    let stops = c.take_line.ensures.bad_line line why (c.in_err-rest.was ∙ ap Err same_fault) in
+    stops_behind (told_in c.args.draft.now) (told_in c.lines.draft) 4 c.args.bytes.now c.lines.rest.now c.lines.line line why c.lines.invariant.taken stops.0 stops.1
 
 pub lines-preserved : goal.lines-preserved
 lines-preserved c = record {

@@ -4,7 +4,7 @@ use Rattle.find_play.specs.Tests.{HasToldLines}
 use Rattle.find_play.proofs.read.take_lines.Given as goal
 
 abbrev pub invariant-lines : goal.invariant-lines
-invariant-lines l = record { taken : HasToldLines (told_in l.fn.draft) 4 l.bytes l.rest l.line (told_in l.draft); few : l.line + length l.rest ≤ 4 + length l.bytes }
+invariant-lines locals = record { taken : HasToldLines (told_in locals.fn.draft) 4 locals.bytes locals.rest locals.line (told_in locals.draft); few : locals.line + length locals.rest ≤ 4 + length locals.bytes }
 
 abbrev pub decreases-lines : goal.decreases-lines
-decreases-lines l = length l.rest
+decreases-lines locals = length locals.rest

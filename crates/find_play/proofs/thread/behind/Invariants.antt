@@ -3,7 +3,7 @@ use Rattle.find_play.specs.Meaning.{after}
 use Rattle.find_play.proofs.thread.behind.Given as goal
 
 abbrev pub invariant-statements : goal.invariant-statements
-invariant-statements l = (l.at + after l.part l.depth (drop l.at l.program) ≡ l.from + after l.part 0 (drop l.from l.program)) × (l.depth ≤ l.at) × (l.from ≤ l.at) × (l.at ≤ length l.program)
+invariant-statements locals = (locals.at + after locals.part locals.depth (drop locals.at locals.program) ≡ locals.from + after locals.part 0 (drop locals.from locals.program)) × (locals.depth ≤ locals.at) × (locals.from ≤ locals.at) × (locals.at ≤ length locals.program)
 
 abbrev pub decreases-statements : goal.decreases-statements
-decreases-statements l = length l.program - l.at
+decreases-statements locals = length locals.program - locals.at

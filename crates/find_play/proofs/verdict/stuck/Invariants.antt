@@ -4,4 +4,4 @@ use Rattle.find_play.specs.Verdict.{is_stuck}
 use Rattle.find_play.proofs.verdict.stuck.Given as goal
 
 abbrev pub invariant-loop-number : goal.invariant-loop-number
-invariant-loop-number l = (k : ℕ) → k < l.number → is_stuck (get_or l.cast.acts k Done) ≡ false
+invariant-loop-number locals = (number : ℕ) → number < locals.number → is_stuck (get_or locals.cast.acts number Done) ≡ false

@@ -7,4 +7,4 @@ pub record AreEmpty (made : ℕ) (scripts : List (List Command)) : Type 0 where
   pub empty : All (λ script. script ≡ []) scripts
 
 abbrev pub invariant-loop-made : goal.invariant-loop-made
-invariant-loop-made l = AreEmpty l.made l.scripts.items
+invariant-loop-made loop = AreEmpty loop.made loop.scripts.items

@@ -7,10 +7,10 @@ use Rattle.find_search.proofs.handing.hand_over.Goals as goal
 pub returns-clause-ok : goal.returns-clause-ok
 returns-clause-ok c =
     let mutator = c.args.mutator in
-    let s = short_script c.args.command in
-    let made = c.join.ensures ∙ ap (λ w. joined w c.in_ok-fresh.fresh) c.part.ensures.left in
-    subst (IsHandedOver mutator s c.args.work.now) (sym made) (handed_over mutator s c.args.work.now c.in_ok-fresh.fresh c.requires c.in_ok-fresh.ensures)
+    let script = short_script c.args.command in
+    let made = c.join.ensures ∙ ap (λ jobs. joined jobs c.in_ok-fresh.fresh) c.part.ensures.left in
+    subst (IsHandedOver mutator script c.args.work.now) (sym made) (handed_over mutator script c.args.work.now c.in_ok-fresh.fresh c.requires c.in_ok-fresh.ensures)
 
 pub join-requires : goal.join-requires
-join-requires c = λ t left other.
-    apart c.args.mutator (short_script c.args.command) c.args.work.now c.in_ok-fresh.fresh c.requires c.in_ok-fresh.ensures t (subst (λ w. HasScript w t) c.part.ensures.left left) other
+join-requires c = λ thread left_script fresh_script.
+    apart c.args.mutator (short_script c.args.command) c.args.work.now c.in_ok-fresh.fresh c.requires c.in_ok-fresh.ensures thread (subst (λ jobs. HasScript jobs thread) c.part.ensures.left left_script) fresh_script

@@ -1,4 +1,4 @@
 use Rattle.find_search.proofs.shrinking.shrink.Given as goal
 
 abbrev pub decreases-loop-at : goal.decreases-loop-at
-decreases-loop-at l = l.at
+decreases-loop-at loop = loop.at

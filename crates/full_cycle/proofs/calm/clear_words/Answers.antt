@@ -14,16 +14,16 @@ set_word-requires c = subst (λ (config : Config). c.loop-at.at < table_words co
 
 pub loop-at-preserved : goal.loop-at-preserved
 loop-at-preserved c =
-    let i = c.loop-at.at in
-    let now = c.loop-at.image in
-    let inside : i < table_words (config_of now) = subst (λ (config : Config). i < table_words config) (sym c.loop-at.invariant.config) (omega (arith, c.loop-at-test.true, c.requires.inside)) in
+    let word_index = c.loop-at.at in
+    let image_now = c.loop-at.image in
+    let inside : word_index < table_words (config_of image_now) = subst (λ (config : Config). word_index < table_words config) (sym c.loop-at.invariant.config) (omega (arith, c.loop-at-test.true, c.requires.inside)) in
     record {
       config = c.set_word.ensures.config ∙ c.loop-at.invariant.config;
-      words = subst (IsChanged c.args.from (i + 1) (λ (word : ℕ). 0) (words_of c.args.image.now)) (sym c.set_word.ensures.words)
-          (changed_more c.args.from i (λ (word : ℕ). 0) (words_of c.args.image.now) (words_of now) 0 c.loop-at.auto.at (subst (λ (n : ℕ). i < n) (sym now.all_words) inside) c.loop-at.invariant.words refl);
+      words = subst (IsChanged c.args.from (word_index + 1) (λ (word : ℕ). 0) (words_of c.args.image.now)) (sym c.set_word.ensures.words)
+          (changed_more c.args.from word_index (λ (word : ℕ). 0) (words_of c.args.image.now) (words_of image_now) 0 c.loop-at.auto.at (subst (λ (some_index : ℕ). word_index < some_index) (sym image_now.all_words) inside) c.loop-at.invariant.words refl);
     }
 
 pub returns-clause-words : goal.returns-clause-words
 returns-clause-words c =
-    subst (λ (n : ℕ). IsChanged c.args.from n (λ (word : ℕ). 0) (words_of c.args.image.now) (words_of c.loop-at.image))
+    subst (λ (some_index : ℕ). IsChanged c.args.from some_index (λ (word : ℕ). 0) (words_of c.args.image.now) (words_of c.loop-at.image))
     (omega (arith, c.requires.order, c.loop-at.auto.at-end, c.loop-at-test.false)) c.loop-at.invariant.words

@@ -14,7 +14,7 @@ loop-region-init c = empty_none (λ region. memory_of c.args.image.now (Top regi
 
 pub overflow_add-free : goal.overflow_add-free
 overflow_add-free c =
-    let top : ℕ → ℕ = λ other_region. memory_of c.args.image.now (Top other_region) in
+    let top : ℕ → ℕ = λ some_region. memory_of c.args.image.now (Top some_region) in
     let region = c.loop-region.region in
     let sum = empty_more top region c.set_if_empty-free.result c.loop-region.free c.top.result c.top.ensures c.set_if_empty-free.ensures c.loop-region.invariant in
     let small : empty_regions top (region + 1) < 2 ^ (region + 1) = empty_small top (region + 1) in
@@ -32,8 +32,8 @@ returns-clause-words c =
     let old = c.args.image.now in
     let config = config_of old in
     let top : ℕ → ℕ = λ region. memory_of old (Top region) in
-    let all : c.loop-region.region ≡ config.regions =
+    let all_regions : c.loop-region.region ≡ config.regions =
     omega (arith, c.loop-region-test.false, c.loop-region.auto.region-end, c.regions-region-end.ensures, ap (λ (config : Config). config.regions) c.config-config.ensures) in
-    let free : c.loop-region.free ≡ empty_regions top config.regions = c.loop-region.invariant ∙ ap (empty_regions top) all in
+    let empty_freed : c.loop-region.free ≡ empty_regions top config.regions = c.loop-region.invariant ∙ ap (empty_regions top) all_regions in
     stored config c.config-config.result (memory_of old) (memory_of c.set_word.new.self) Free c.free_at.result c.loop-region.free (sym c.config-config.ensures) tt c.free_at.ensures c.set_word.ensures.named
-    ∙ ap (write (memory_of old) Free) free
+    ∙ ap (write (memory_of old) Free) empty_freed

@@ -5,4 +5,4 @@ use Rattle.image_graph.specs.State.{memory_of}
 use Rattle.full_cycle.proofs.calm.free_empty.Given as goal
 
 abbrev pub invariant-loop-region : goal.invariant-loop-region
-invariant-loop-region l = l.free ≡ empty_regions (λ region. memory_of l.image (Top region)) l.region
+invariant-loop-region loop = loop.free ≡ empty_regions (λ region. memory_of loop.image (Top region)) loop.region

@@ -20,9 +20,9 @@ pack_held-requires-clause-can c =
 pub pack_held-requires-clause-held : goal.pack_held-requires-clause-held
 pack_held-requires-clause-held c =
     let old = c.args.image.now in
-    let one = c.find_held.new.image in
-    let same = c.find_held.ensures.unchanged in
-    c.find_held.ensures.held ∙ sym (ap (λ (config : Config). held_in config (memory_of one)) same.config ∙ ap (λ (memory : Word → ℕ). held_in (config_of old) memory) (memory_same old one same))
+    let found_image = c.find_held.new.image in
+    let unchanged = c.find_held.ensures.unchanged in
+    c.find_held.ensures.held ∙ sym (ap (λ (config : Config). held_in config (memory_of found_image)) unchanged.config ∙ ap (λ (memory : Word → ℕ). held_in (config_of old) memory) (memory_same old found_image unchanged))
 
 pub fill_unkept-requires-clause-can : goal.fill_unkept-requires-clause-can
 fill_unkept-requires-clause-can c =
@@ -60,17 +60,17 @@ pub returns-clause-words : goal.returns-clause-words
 returns-clause-words c =
     let old = c.args.image.now in
     let six = c.free_empty.new.image in
-    let can = can_collect_some (config_of old) (memory_of old) c.requires in
+    let can_collect = can_collect_some (config_of old) (memory_of old) c.requires in
     let begin = kept_begin_some (config_of old) (memory_of old) c.requires in
     let config : config_of six ≡ config_of old =
-    six_config old c.find_held.new.image c.pack_held.new.image can
+    six_config old c.find_held.new.image c.pack_held.new.image can_collect
     c.find_held.ensures.unchanged c.pack_held.ensures.config c.pack_held.ensures.words c.pack_held.ensures.renews
     c.fill_unkept.new.image (c.pack_held.ensures.found ∙ c.find_held.ensures.held) c.fill_unkept.ensures.config c.fill_unkept.ensures.places c.fill_unkept.ensures.words begin
     c.renew_roots.new.image c.clear_collection.new.image six
     c.renew_roots.ensures.config c.clear_collection.ensures.config c.free_empty.ensures.config
     c.renew_roots.ensures.words c.clear_collection.ensures.words c.free_empty.ensures.words in
     let words =
-    six_words old c.find_held.new.image c.pack_held.new.image can
+    six_words old c.find_held.new.image c.pack_held.new.image can_collect
     c.find_held.ensures.unchanged c.pack_held.ensures.config c.pack_held.ensures.words c.pack_held.ensures.renews
     c.fill_unkept.new.image (c.pack_held.ensures.found ∙ c.find_held.ensures.held) c.fill_unkept.ensures.config c.fill_unkept.ensures.places c.fill_unkept.ensures.words begin
     c.renew_roots.new.image c.clear_collection.new.image six

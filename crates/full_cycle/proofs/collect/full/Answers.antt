@@ -17,7 +17,7 @@ use Rattle.full_cycle.proofs.PinnedStay.{pinned_stay_some}
 use Rattle.full_cycle.proofs.collect.full.Goals as goal
 
 pub let_go-requires : goal.let_go-requires
-let_go-requires c = inside_some (config_of c.args.image.now) (memory_of c.args.image.now) (∥∥₁_map c.requires (λ h. (h.0, (h.1, h.2, h.3, h.4))))
+let_go-requires c = inside_some (config_of c.args.image.now) (memory_of c.args.image.now) (∥∥₁_map c.requires (λ what_holds. (what_holds.0, (what_holds.1, what_holds.2, what_holds.3, what_holds.4))))
 
 pub collect-requires : goal.collect-requires
 collect-requires c =
@@ -58,7 +58,7 @@ returns-clause-pinned c =
     let config = config_of c.args.image.now in
     let memory : Word → ℕ = memory_of c.args.image.now in
     let lets : LettingGoHolds config memory (let_go config memory) = subst (LettingGoHolds config memory) c.let_go.ensures.words c.let_go.ensures.holds in
-    let seats : HasNoMoreSeats config memory = λ seat past. view_none config (words_of c.args.image.now) (Current seat) (grind (arith, nat_tests)) in
+    let seats : HasNoMoreSeats config memory = λ seat seat_past. view_none config (words_of c.args.image.now) (Current seat) (grind (arith, nat_tests)) in
     pinned_stay_some config memory (memory_of c.collect.new.image) (let_go_walked config memory lets c.requires) seats (returns-clause-words c) c.requires
 
 pub returns-clause-refused : goal.returns-clause-refused

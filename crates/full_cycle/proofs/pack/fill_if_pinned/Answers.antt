@@ -19,12 +19,12 @@ returns-then-is_pinned-clause-words c =
     let config = config_of c.args.image.now in
     let memory : Word → ℕ = memory_of c.args.image.now in
     c.fill_leftovers.ensures.words
-    ∙ ap (λ (k : ℕ → Bool). filled_in config k (is_left_over memory (found_of c.args.image.now) NotFound) memory)
+    ∙ ap (λ (chosen : ℕ → Bool). filled_in config chosen (is_left_over memory (found_of c.args.image.now) NotFound) memory)
     (fun_ext (one_pinned config memory c.args.region (sym c.is_pinned.ensures ∙ c.if-is_pinned.true)))
 
 pub returns-else-is_pinned-clause-words : goal.returns-else-is_pinned-clause-words
 returns-else-is_pinned-clause-words c =
     let config = config_of c.args.image.now in
     let memory : Word → ℕ = memory_of c.args.image.now in
-    filled_nowhere config (λ q. (q == c.args.region) && is_pinned config memory q) (is_left_over memory (found_of c.args.image.now) NotFound) memory
+    filled_nowhere config (λ region. (region == c.args.region) && is_pinned config memory region) (is_left_over memory (found_of c.args.image.now) NotFound) memory
     (none_pinned config memory c.args.region (sym c.is_pinned.ensures ∙ c.if-is_pinned.false))

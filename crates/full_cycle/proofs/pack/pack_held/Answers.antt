@@ -15,22 +15,22 @@ pack_found-requires c =
 pub returns-clause-still : goal.returns-clause-still
 returns-clause-still c =
     let image = c.args.image.now in
-    let j = c.pack_found.new.self in
-    subst (λ (config : Config). IsMarked config.region_words (marks_of j) (found_of j)) (sym c.pack_found.ensures.config)
-    (subst (λ (marks : List Bool). IsMarked (config_of image).region_words marks (found_of j)) (sym c.pack_found.ensures.marks)
+    let packed = c.pack_found.new.self in
+    subst (λ (config : Config). IsMarked config.region_words (marks_of packed) (found_of packed)) (sym c.pack_found.ensures.config)
+    (subst (λ (marks : List Bool). IsMarked (config_of image).region_words marks (found_of packed)) (sym c.pack_found.ensures.marks)
     (subst (λ (found : List ℕ). IsMarked (config_of image).region_words (marks_of image) found) (sym c.pack_found.ensures.found) c.requires.found))
 
 pub returns-clause-words : goal.returns-clause-words
 returns-clause-words c =
     let image = c.args.image.now in
-    let j = c.pack_found.new.self in
-    ap (λ (config : Config). view config (words_of j)) c.pack_found.ensures.config
+    let packed = c.pack_found.new.self in
+    ap (λ (config : Config). view config (words_of packed)) c.pack_found.ensures.config
     ∙ moved (config_of image) (is_row_pinned (config_of image) (memory_of image)) (words_of image) (marks_of image) (found_of image) image.all_words image.all_marks c.requires.found c.requires.held c.requires.can
-    (words_of j) (places_of j) (j.all_words ∙ ap table_words c.pack_found.ensures.config) c.pack_found.ensures.packed
+    (words_of packed) (places_of packed) (packed.all_words ∙ ap table_words c.pack_found.ensures.config) c.pack_found.ensures.packed
 
 pub returns-clause-renews : goal.returns-clause-renews
 returns-clause-renews c =
     let image = c.args.image.now in
-    let j = c.pack_found.new.self in
+    let packed = c.pack_found.new.self in
     renews (config_of image) (is_row_pinned (config_of image) (memory_of image)) (words_of image) (marks_of image) (found_of image) image.all_words image.all_marks c.requires.found c.requires.held c.requires.can
-    (words_of j) (places_of j) (j.all_words ∙ ap table_words c.pack_found.ensures.config) c.pack_found.ensures.packed
+    (words_of packed) (places_of packed) (packed.all_words ∙ ap table_words c.pack_found.ensures.config) c.pack_found.ensures.packed

@@ -16,7 +16,7 @@ loop-mutator-preserved c = record {
 pub returns-clause-words : goal.returns-clause-words
 returns-clause-words c =
     let old = c.args.image.now in
-    let all : c.loop-mutator.mutator ≡ (config_of old).mutators =
+    let all_mutators : c.loop-mutator.mutator ≡ (config_of old).mutators =
     omega (arith, c.loop-mutator-test.false, c.loop-mutator.auto.mutator-end, c.mutators-mutator-end.ensures, ap (λ (config : Config). config.mutators) c.config.ensures) in
-    c.loop-mutator.invariant.words ∙ ap (λ n. refused_below n (memory_of old)) all
+    c.loop-mutator.invariant.words ∙ ap (λ limit. refused_below limit (memory_of old)) all_mutators
     ∙ refused_all (memory_of old) (config_of old).mutators (nobody_waits (config_of old) (words_of old))

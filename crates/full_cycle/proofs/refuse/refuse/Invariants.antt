@@ -4,7 +4,7 @@ use Rattle.full_cycle.specs.Steps.{refused_below}
 use Rattle.full_cycle.proofs.refuse.refuse.Given as goal
 
 abbrev pub invariant-loop-mutator : goal.invariant-loop-mutator
-invariant-loop-mutator l = record {
-  config : config_of l.image ≡ config_of l.fn.image;
-  words : memory_of l.image ≡ refused_below l.mutator (memory_of l.fn.image);
+invariant-loop-mutator loop = record {
+  config : config_of loop.image ≡ config_of loop.fn.image;
+  words : memory_of loop.image ≡ refused_below loop.mutator (memory_of loop.fn.image);
 }

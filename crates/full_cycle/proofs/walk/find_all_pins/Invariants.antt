@@ -6,8 +6,8 @@ use Rattle.image_graph.specs.State.{memory_of, found_of, AreFound, IsUnchanged}
 use Rattle.full_cycle.proofs.walk.find_all_pins.Given as goal
 
 abbrev pub invariant-loop-mutator : goal.invariant-loop-mutator
-invariant-loop-mutator l = record {
-  unchanged : IsUnchanged l.fn.image l.image;
-  found : AreFound l.image;
-  noted : found_of l.image ≡ with_addresses (found_of l.fn.image) (copies_of (memory_of l.fn.image) (pins_below (memory_of l.fn.image) l.mutator));
+invariant-loop-mutator loop = record {
+  unchanged : IsUnchanged loop.fn.image loop.image;
+  found : AreFound loop.image;
+  noted : found_of loop.image ≡ with_addresses (found_of loop.fn.image) (copies_of (memory_of loop.fn.image) (pins_below (memory_of loop.fn.image) loop.mutator));
 }

@@ -11,7 +11,7 @@ find_copy-requires-clause-leads c =
     let value : c.word-answer.result ≡ memory_of c.args.image.now (Answer mutator) =
     c.word-answer.ensures.named (Answer mutator) c.requires.mutator (ap (λ (config : Config). word_at config (Answer mutator)) (sym c.config-config.ensures) ∙ sym c.answer_at.ensures) in
     subst (LeadsToHeld (config_of c.args.image.now) (memory_of c.args.image.now)) (sym value)
-    (c.requires.can.answers mutator c.requires.mutator (subst (λ k. 1 < k) value c.if-answer-le1.false))
+    (c.requires.can.answers mutator c.requires.mutator (subst (λ answer. 1 < answer) value c.if-answer-le1.false))
 
 pub returns-clause-none : goal.returns-clause-none
 returns-clause-none c = λ small.

@@ -14,20 +14,20 @@ loop-mutator-preserved c =
     let old = c.args.image.now in
     let now = c.loop-mutator.image in
     let after = c.find_answer.new.image in
-    let same = c.loop-mutator.invariant.unchanged in
+    let unchanged = c.loop-mutator.invariant.unchanged in
     let memory : Word → ℕ = memory_of old in
-    let m_is : memory_of now ≡ memory = memory_same old now same in
-    let answer : memory_of now (Answer mutator) ≡ memory (Answer mutator) = ap (λ k. k (Answer mutator)) m_is in
+    let same_memory : memory_of now ≡ memory = memory_same old now unchanged in
+    let answer : memory_of now (Answer mutator) ≡ memory (Answer mutator) = ap (λ state. state (Answer mutator)) same_memory in
     record {
-      unchanged = both old now after same c.find_answer.ensures.unchanged;
+      unchanged = both old now after unchanged c.find_answer.ensures.unchanged;
       found = c.find_answer.ensures.found;
       noted = ⊎_elim
-          (λ (some : 1 < memory (Answer mutator)).
-          c.find_answer.ensures.noted (omega (arith, some, answer))
-          ∙ ap (λ (memory : Word → ℕ). with_address (found_of now) (current_address memory (memory (Answer mutator)))) m_is
+          (λ (some_answer : 1 < memory (Answer mutator)).
+          c.find_answer.ensures.noted (omega (arith, some_answer, answer))
+          ∙ ap (λ (memory : Word → ℕ). with_address (found_of now) (current_address memory (memory (Answer mutator)))) same_memory
           ∙ ap (λ xs. with_address xs (current_address memory (memory (Answer mutator)))) c.loop-mutator.invariant.noted
-          ∙ answer_more memory mutator (found_of old) some)
-          (λ (none : memory (Answer mutator) ≤ 1).
-          c.find_answer.ensures.none (omega (arith, none, answer)) ∙ c.loop-mutator.invariant.noted ∙ answer_none memory mutator (found_of old) none)
+          ∙ answer_more memory mutator (found_of old) some_answer)
+          (λ (no_answer : memory (Answer mutator) ≤ 1).
+          c.find_answer.ensures.none (omega (arith, no_answer, answer)) ∙ c.loop-mutator.invariant.noted ∙ answer_none memory mutator (found_of old) no_answer)
           (cases_lt 1 (memory (Answer mutator)));
     }

@@ -14,7 +14,7 @@ use Rattle.full_cycle.proofs.walk.find_fields.Goals as goal
 
 pub heap_at-requires : goal.heap_at-requires
 heap_at-requires c =
-    subst (λ k. IsWord k (Heap (c.args.address + 1))) (sym c.config-config.ensures)
+    subst (λ config. IsWord config (Heap (c.args.address + 1))) (sym c.config-config.ensures)
     (field_word (config_of c.args.image.now) (memory_of c.args.image.now) c.requires.can c.args.address 1 c.requires.kept (omega arith))
 
 pub word-requires : goal.word-requires
@@ -36,8 +36,8 @@ heap_at-requires-in-loop-index c =
     let refs : c.refs_of-refs.result ≡ refs_in (memory (Heap (address + 1))) = c.refs_of-refs.ensures ∙ ap refs_in shape in
     let few : i < refs_in (memory (Heap (address + 1))) = omega (arith, refs, c.loop-index-test.true) in
     let index : address + (3 + i) ≡ address + 3 + i = omega arith in
-    let is : IsWord config (Heap (address + 3 + i)) = subst (λ address. IsWord config (Heap address)) index (field_word config memory c.requires.can address (3 + i) c.requires.kept (omega (arith, few))) in
-    subst (λ k. IsWord k (Heap (address + 3 + i))) (sym c.config-config.ensures) is
+    let heap_word : IsWord config (Heap (address + 3 + i)) = subst (λ address. IsWord config (Heap address)) index (field_word config memory c.requires.can address (3 + i) c.requires.kept (omega (arith, few))) in
+    subst (λ any_config. IsWord any_config (Heap (address + 3 + i))) (sym c.config-config.ensures) heap_word
 
 pub word-word-requires : goal.word-word-requires
 word-word-requires c =
@@ -52,8 +52,8 @@ word-word-requires c =
     let refs : c.refs_of-refs.result ≡ refs_in (memory (Heap (address + 1))) = c.refs_of-refs.ensures ∙ ap refs_in shape in
     let few : i < refs_in (memory (Heap (address + 1))) = omega (arith, refs, c.loop-index-test.true) in
     let index : address + (3 + i) ≡ address + 3 + i = omega arith in
-    let is : IsWord config (Heap (address + 3 + i)) = subst (λ address. IsWord config (Heap address)) index (field_word config memory c.requires.can address (3 + i) c.requires.kept (omega (arith, few))) in
-    placed_inside (config_of c.loop-index.image) config (Heap (address + 3 + i)) c.heap_at-in-loop-index.result c.loop-index.invariant.unchanged.config is
+    let heap_word : IsWord config (Heap (address + 3 + i)) = subst (λ address. IsWord config (Heap address)) index (field_word config memory c.requires.can address (3 + i) c.requires.kept (omega (arith, few))) in
+    placed_inside (config_of c.loop-index.image) config (Heap (address + 3 + i)) c.heap_at-in-loop-index.result c.loop-index.invariant.unchanged.config heap_word
     (c.heap_at-in-loop-index.ensures ∙ ap (λ (config : Config). word_at config (Heap (address + 3 + i))) c.config-config.ensures)
 
 pub find_copy-requires-clause-leads : goal.find_copy-requires-clause-leads
@@ -69,14 +69,14 @@ find_copy-requires-clause-leads c =
     let refs : c.refs_of-refs.result ≡ refs_in (memory (Heap (address + 1))) = c.refs_of-refs.ensures ∙ ap refs_in shape in
     let few : i < refs_in (memory (Heap (address + 1))) = omega (arith, refs, c.loop-index-test.true) in
     let index : address + (3 + i) ≡ address + 3 + i = omega arith in
-    let is : IsWord config (Heap (address + 3 + i)) = subst (λ address. IsWord config (Heap address)) index (field_word config memory c.requires.can address (3 + i) c.requires.kept (omega (arith, few))) in
+    let heap_word : IsWord config (Heap (address + 3 + i)) = subst (λ address. IsWord config (Heap address)) index (field_word config memory c.requires.can address (3 + i) c.requires.kept (omega (arith, few))) in
     let now = c.loop-index.image in
-    let same = c.loop-index.invariant.unchanged in
+    let unchanged = c.loop-index.invariant.unchanged in
     let value : c.word-word.result ≡ memory_of now (Heap (address + 3 + i)) =
-    c.word-word.ensures.named (Heap (address + 3 + i)) (subst (λ k. IsWord k (Heap (address + 3 + i))) (sym same.config) is)
-    (ap (λ (config : Config). word_at config (Heap (address + 3 + i))) (same.config ∙ sym c.config-config.ensures) ∙ sym c.heap_at-in-loop-index.ensures) in
+    c.word-word.ensures.named (Heap (address + 3 + i)) (subst (λ any_config. IsWord any_config (Heap (address + 3 + i))) (sym unchanged.config) heap_word)
+    (ap (λ (config : Config). word_at config (Heap (address + 3 + i))) (unchanged.config ∙ sym c.config-config.ensures) ∙ sym c.heap_at-in-loop-index.ensures) in
     subst (LeadsToHeld (config_of now) (memory_of now)) (sym value)
-    (carried (λ k n. LeadsToHeld k n (n (Heap (address + 3 + i)))) old now same (c.requires.can.fields address i c.requires.kept few))
+    (carried (λ any_config any_memory. LeadsToHeld any_config any_memory (any_memory (Heap (address + 3 + i)))) old now unchanged (c.requires.can.fields address i c.requires.kept few))
 
 pub loop-index-preserved : goal.loop-index-preserved
 loop-index-preserved c =
@@ -91,17 +91,17 @@ loop-index-preserved c =
     let refs : c.refs_of-refs.result ≡ refs_in (memory (Heap (address + 1))) = c.refs_of-refs.ensures ∙ ap refs_in shape in
     let few : i < refs_in (memory (Heap (address + 1))) = omega (arith, refs, c.loop-index-test.true) in
     let index : address + (3 + i) ≡ address + 3 + i = omega arith in
-    let is : IsWord config (Heap (address + 3 + i)) = subst (λ address. IsWord config (Heap address)) index (field_word config memory c.requires.can address (3 + i) c.requires.kept (omega (arith, few))) in
+    let heap_word : IsWord config (Heap (address + 3 + i)) = subst (λ address. IsWord config (Heap address)) index (field_word config memory c.requires.can address (3 + i) c.requires.kept (omega (arith, few))) in
     let now = c.loop-index.image in
-    let same = c.loop-index.invariant.unchanged in
+    let unchanged = c.loop-index.invariant.unchanged in
     let value : c.word-word.result ≡ memory_of now (Heap (address + 3 + i)) =
-    c.word-word.ensures.named (Heap (address + 3 + i)) (subst (λ k. IsWord k (Heap (address + 3 + i))) (sym same.config) is)
-    (ap (λ (config : Config). word_at config (Heap (address + 3 + i))) (same.config ∙ sym c.config-config.ensures) ∙ sym c.heap_at-in-loop-index.ensures) in
-    let found : c.word-word.result ≡ memory (Heap (address + 3 + i)) = value ∙ ap (λ k. k (Heap (address + 3 + i))) (memory_same old now same) in
+    c.word-word.ensures.named (Heap (address + 3 + i)) (subst (λ given. IsWord given (Heap (address + 3 + i))) (sym unchanged.config) heap_word)
+    (ap (λ (config : Config). word_at config (Heap (address + 3 + i))) (unchanged.config ∙ sym c.config-config.ensures) ∙ sym c.heap_at-in-loop-index.ensures) in
+    let found : c.word-word.result ≡ memory (Heap (address + 3 + i)) = value ∙ ap (λ given. given (Heap (address + 3 + i))) (memory_same old now unchanged) in
     record {
-      unchanged = both old now c.find_copy.new.image same c.find_copy.ensures.unchanged;
+      unchanged = both old now c.find_copy.new.image unchanged c.find_copy.ensures.unchanged;
       found = c.find_copy.ensures.found;
-      noted = noted_step old now c.find_copy.new.image (λ j. memory (Heap (address + 3 + j))) i c.word-word.result same c.loop-index.invariant.noted found c.find_copy.ensures.noted;
+      noted = noted_step old now c.find_copy.new.image (λ field. memory (Heap (address + 3 + field))) i c.word-word.result unchanged c.loop-index.invariant.noted found c.find_copy.ensures.noted;
     }
 
 pub returns-clause-noted : goal.returns-clause-noted
@@ -114,6 +114,6 @@ returns-clause-noted c =
     c.word.ensures.named (Heap (address + 1)) (field_word config memory c.requires.can address 1 c.requires.kept (omega arith))
     (ap (λ (config : Config). word_at config (Heap (address + 1))) (sym c.config-config.ensures) ∙ sym c.heap_at.ensures) in
     let refs : c.refs_of-refs.result ≡ refs_in (memory (Heap (address + 1))) = c.refs_of-refs.ensures ∙ ap refs_in shape in
-    let all : c.loop-index.index ≡ refs_in (memory (Heap (address + 1))) = omega (arith, refs, c.loop-index-test.false, c.loop-index.auto.index-end) in
+    let all_fields : c.loop-index.index ≡ refs_in (memory (Heap (address + 1))) = omega (arith, refs, c.loop-index-test.false, c.loop-index.auto.index-end) in
     c.loop-index.invariant.noted
-    ∙ ap (λ n. with_addresses (found_of old) (copies_of memory (map (λ i. memory (Heap (address + 3 + i))) (range_with_len 0 n)))) all
+    ∙ ap (λ count. with_addresses (found_of old) (copies_of memory (map (λ index. memory (Heap (address + 3 + index))) (range_with_len 0 count)))) all_fields

@@ -19,30 +19,30 @@ loop-address-init c =
     let old = c.args.image.now in
     let config = config_of old in
     let memory : Word → ℕ = memory_of old in
-    let one = c.forget_found.new.self in
-    let two = c.find_all_roots.new.image in
-    let three = c.find_answers.new.image in
+    let forgotten = c.forget_found.new.self in
+    let roots_found = c.find_all_roots.new.image in
+    let answers_found = c.find_answers.new.image in
     let four = c.find_all_pins.new.image in
     let to_one = c.forget_found.ensures.unchanged in
-    let to_two = both old one two to_one c.find_all_roots.ensures.unchanged in
-    let to_three = both old two three to_two c.find_answers.ensures.unchanged in
-    let to_four = both old three four to_three c.find_all_pins.ensures.unchanged in
-    let roots : found_of two ≡ with_addresses [] (copies_of memory (roots_below memory config.mutators)) =
+    let to_two = both old forgotten roots_found to_one c.find_all_roots.ensures.unchanged in
+    let to_three = both old roots_found answers_found to_two c.find_answers.ensures.unchanged in
+    let to_four = both old answers_found four to_three c.find_all_pins.ensures.unchanged in
+    let roots : found_of roots_found ≡ with_addresses [] (copies_of memory (roots_below memory config.mutators)) =
     c.find_all_roots.ensures.noted
-    ∙ ap (λ (memory : Word → ℕ). with_addresses (found_of one) (copies_of memory (roots_below memory (config_of one).mutators))) (memory_same old one to_one)
-    ∙ ap (λ (config : Config). with_addresses (found_of one) (copies_of memory (roots_below memory config.mutators))) to_one.config
+    ∙ ap (λ (memory : Word → ℕ). with_addresses (found_of forgotten) (copies_of memory (roots_below memory (config_of forgotten).mutators))) (memory_same old forgotten to_one)
+    ∙ ap (λ (config : Config). with_addresses (found_of forgotten) (copies_of memory (roots_below memory config.mutators))) to_one.config
     ∙ ap (λ xs. with_addresses xs (copies_of memory (roots_below memory config.mutators))) c.forget_found.ensures.none in
-    let answers : found_of three ≡ with_addresses (with_addresses [] (copies_of memory (roots_below memory config.mutators))) (copies_of memory (answers_below memory config.mutators)) =
+    let answers : found_of answers_found ≡ with_addresses (with_addresses [] (copies_of memory (roots_below memory config.mutators))) (copies_of memory (answers_below memory config.mutators)) =
     c.find_answers.ensures.noted
-    ∙ ap (λ (memory : Word → ℕ). with_addresses (found_of two) (copies_of memory (answers_below memory (config_of two).mutators))) (memory_same old two to_two)
-    ∙ ap (λ (config : Config). with_addresses (found_of two) (copies_of memory (answers_below memory config.mutators))) to_two.config
+    ∙ ap (λ (memory : Word → ℕ). with_addresses (found_of roots_found) (copies_of memory (answers_below memory (config_of roots_found).mutators))) (memory_same old roots_found to_two)
+    ∙ ap (λ (config : Config). with_addresses (found_of roots_found) (copies_of memory (answers_below memory config.mutators))) to_two.config
     ∙ ap (λ xs. with_addresses xs (copies_of memory (answers_below memory config.mutators))) roots in
     record {
       unchanged = to_four;
       found = c.find_all_pins.ensures.found;
       turns = c.find_all_pins.ensures.noted
-          ∙ ap (λ (memory : Word → ℕ). with_addresses (found_of three) (copies_of memory (pins_below memory (config_of three).mutators))) (memory_same old three to_three)
-          ∙ ap (λ (config : Config). with_addresses (found_of three) (copies_of memory (pins_below memory config.mutators))) to_three.config
+          ∙ ap (λ (memory : Word → ℕ). with_addresses (found_of answers_found) (copies_of memory (pins_below memory (config_of answers_found).mutators))) (memory_same old answers_found to_three)
+          ∙ ap (λ (config : Config). with_addresses (found_of answers_found) (copies_of memory (pins_below memory config.mutators))) to_three.config
           ∙ ap (λ xs. with_addresses xs (copies_of memory (pins_below memory config.mutators))) answers
           ∙ no_turn config memory;
       few = omega arith;
@@ -54,9 +54,9 @@ find_fields-requires-clause-kept c =
     let now = c.loop-address.image in
     let address = c.in-Some.address in
     let turn = c.loop-address.turn in
-    let at : slice_get (found_in_turns (config_of old) (memory_of old) turn) turn ≡ Some address =
+    let address_there : slice_get (found_in_turns (config_of old) (memory_of old) turn) turn ≡ Some address =
     sym (ap (λ xs. slice_get xs turn) c.loop-address.invariant.turns) ∙ sym c.in-Some.ensures in
-    carried (λ k m. 0 < kept_in k m address) old now c.loop-address.invariant.unchanged (c.requires.found turn address at)
+    carried (λ config memory. 0 < kept_in config memory address) old now c.loop-address.invariant.unchanged (c.requires.found turn address address_there)
 
 pub loop-address-smaller : goal.loop-address-smaller
 loop-address-smaller c =
@@ -72,18 +72,18 @@ loop-address-preserved c =
     let address = c.in-Some.address in
     let turn = c.loop-address.turn in
     let memory : Word → ℕ = memory_of old in
-    let same = c.loop-address.invariant.unchanged in
-    let at : slice_get (found_in_turns (config_of old) memory turn) turn ≡ Some address = sym (ap (λ xs. slice_get xs turn) c.loop-address.invariant.turns) ∙ sym c.in-Some.ensures in
+    let unchanged = c.loop-address.invariant.unchanged in
+    let address_there : slice_get (found_in_turns (config_of old) memory turn) turn ≡ Some address = sym (ap (λ xs. slice_get xs turn) c.loop-address.invariant.turns) ∙ sym c.in-Some.ensures in
     let within = slice_get_within (found_of now) turn address (sym c.in-Some.ensures) in
     let few = marks.few (config_of now).region_words (marks_of now) (found_of now) c.loop-address.invariant.found in
     record {
-      unchanged = both old now c.find_fields.new.image same c.find_fields.ensures.unchanged;
+      unchanged = both old now c.find_fields.new.image unchanged c.find_fields.ensures.unchanged;
       found = c.find_fields.ensures.found;
       turns = c.find_fields.ensures.noted
-          ∙ ap (λ (memory : Word → ℕ). with_addresses (found_of now) (copies_of memory (field_words memory address))) (memory_same old now same)
+          ∙ ap (λ (memory : Word → ℕ). with_addresses (found_of now) (copies_of memory (field_words memory address))) (memory_same old now unchanged)
           ∙ ap (λ xs. with_addresses xs (copies_of memory (field_words memory address))) c.loop-address.invariant.turns
-          ∙ next_turn (config_of old) memory turn address at;
-      few = omega (arith, within, few, now.all_marks, ap heap_size same.config);
+          ∙ next_turn (config_of old) memory turn address address_there;
+      few = omega (arith, within, few, now.all_marks, ap heap_size unchanged.config);
     }
 
 pub returns-clause-held : goal.returns-clause-held
@@ -92,5 +92,5 @@ returns-clause-held c =
     let memory : Word → ℕ = memory_of old in
     let turn = c.loop-address.turn in
     let turns = c.loop-address.invariant.turns in
-    let none : slice_get (found_of c.loop-address.image) turn ≡ None = sym c.found_at.ensures ∙ none_if_never c.found_at.result c.in_default.not-Some in
-    turns ∙ last_turn (config_of old) memory turn (index_past_end (found_in_turns (config_of old) memory turn) turn (ap (λ xs. slice_get xs turn) (sym turns) ∙ none)) c.loop-address.invariant.few
+    let none_left : slice_get (found_of c.loop-address.image) turn ≡ None = sym c.found_at.ensures ∙ none_if_never c.found_at.result c.in_default.not-Some in
+    turns ∙ last_turn (config_of old) memory turn (index_past_end (found_in_turns (config_of old) memory turn) turn (ap (λ xs. slice_get xs turn) (sym turns) ∙ none_left)) c.loop-address.invariant.few

@@ -5,12 +5,12 @@ use Rattle.full_cycle.specs.Collect.{found_in_turns}
 use Rattle.full_cycle.proofs.walk.find_held.Given as goal
 
 abbrev pub invariant-loop-address : goal.invariant-loop-address
-invariant-loop-address l = record {
-  unchanged : IsUnchanged l.fn.image l.image;
-  found : AreFound l.image;
-  turns : found_of l.image ≡ found_in_turns (config_of l.fn.image) (memory_of l.fn.image) l.turn;
-  few : l.turn ≤ heap_size (config_of l.fn.image);
+invariant-loop-address loop = record {
+  unchanged : IsUnchanged loop.fn.image loop.image;
+  found : AreFound loop.image;
+  turns : found_of loop.image ≡ found_in_turns (config_of loop.fn.image) (memory_of loop.fn.image) loop.turn;
+  few : loop.turn ≤ heap_size (config_of loop.fn.image);
 }
 
 abbrev pub decreases-loop-address : goal.decreases-loop-address
-decreases-loop-address l = heap_size (config_of l.fn.image) - l.turn
+decreases-loop-address loop = heap_size (config_of loop.fn.image) - loop.turn

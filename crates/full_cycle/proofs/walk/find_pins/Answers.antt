@@ -16,13 +16,13 @@ find_copy-requires-clause-leads c =
     let slot = c.loop-slot.slot in
     let old = c.args.image.now in
     let now = c.loop-slot.image in
-    let same = c.loop-slot.invariant.unchanged in
+    let unchanged = c.loop-slot.invariant.unchanged in
     let few : slot < 4 = c.loop-slot-test.true in
     let value : c.word-word.result ≡ memory_of now (Pin mutator slot) =
-    c.word-word.ensures.named (Pin mutator slot) (omega (arith, c.requires.mutator, ap (λ (config : Config). config.mutators) same.config), few)
-    (ap (λ (config : Config). word_at config (Pin mutator slot)) (same.config ∙ sym c.config-config.ensures) ∙ sym c.pin_at.ensures) in
+    c.word-word.ensures.named (Pin mutator slot) (omega (arith, c.requires.mutator, ap (λ (config : Config). config.mutators) unchanged.config), few)
+    (ap (λ (config : Config). word_at config (Pin mutator slot)) (unchanged.config ∙ sym c.config-config.ensures) ∙ sym c.pin_at.ensures) in
     subst (LeadsToHeld (config_of now) (memory_of now)) (sym value)
-    (carried (λ k m. LeadsToHeld k m (m (Pin mutator slot))) old now same (c.requires.can.pins mutator slot c.requires.mutator few))
+    (carried (λ any_config memory. LeadsToHeld any_config memory (memory (Pin mutator slot))) old now unchanged (c.requires.can.pins mutator slot c.requires.mutator few))
 
 pub loop-slot-preserved : goal.loop-slot-preserved
 loop-slot-preserved c =
@@ -30,21 +30,21 @@ loop-slot-preserved c =
     let slot = c.loop-slot.slot in
     let old = c.args.image.now in
     let now = c.loop-slot.image in
-    let same = c.loop-slot.invariant.unchanged in
+    let unchanged = c.loop-slot.invariant.unchanged in
     let few : slot < 4 = c.loop-slot-test.true in
     let value : c.word-word.result ≡ memory_of now (Pin mutator slot) =
-    c.word-word.ensures.named (Pin mutator slot) (omega (arith, c.requires.mutator, ap (λ (config : Config). config.mutators) same.config), few)
-    (ap (λ (config : Config). word_at config (Pin mutator slot)) (same.config ∙ sym c.config-config.ensures) ∙ sym c.pin_at.ensures) in
-    let is : c.word-word.result ≡ memory_of old (Pin mutator slot) = value ∙ ap (λ m. m (Pin mutator slot)) (memory_same old now same) in
+    c.word-word.ensures.named (Pin mutator slot) (omega (arith, c.requires.mutator, ap (λ (config : Config). config.mutators) unchanged.config), few)
+    (ap (λ (config : Config). word_at config (Pin mutator slot)) (unchanged.config ∙ sym c.config-config.ensures) ∙ sym c.pin_at.ensures) in
+    let same_word : c.word-word.result ≡ memory_of old (Pin mutator slot) = value ∙ ap (λ memory. memory (Pin mutator slot)) (memory_same old now unchanged) in
     record {
-      unchanged = both old now c.find_copy.new.image same c.find_copy.ensures.unchanged;
+      unchanged = both old now c.find_copy.new.image unchanged c.find_copy.ensures.unchanged;
       found = c.find_copy.ensures.found;
-      noted = noted_step old now c.find_copy.new.image (λ slot. memory_of old (Pin mutator slot)) slot c.word-word.result same c.loop-slot.invariant.noted is c.find_copy.ensures.noted;
+      noted = noted_step old now c.find_copy.new.image (λ slot. memory_of old (Pin mutator slot)) slot c.word-word.result unchanged c.loop-slot.invariant.noted same_word c.find_copy.ensures.noted;
     }
 
 pub returns-clause-noted : goal.returns-clause-noted
 returns-clause-noted c =
     let old = c.args.image.now in
-    let all : c.loop-slot.slot ≡ 4 = omega (arith, c.loop-slot-test.false, c.loop-slot.auto.slot-end) in
+    let all_slots : c.loop-slot.slot ≡ 4 = omega (arith, c.loop-slot-test.false, c.loop-slot.auto.slot-end) in
     c.loop-slot.invariant.noted
-    ∙ ap (λ n. with_addresses (found_of old) (copies_of (memory_of old) (map (λ slot. memory_of old (Pin c.args.mutator slot)) (range_with_len 0 n)))) all
+    ∙ ap (λ count. with_addresses (found_of old) (copies_of (memory_of old) (map (λ slot. memory_of old (Pin c.args.mutator slot)) (range_with_len 0 count)))) all_slots

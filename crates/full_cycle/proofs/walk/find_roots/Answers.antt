@@ -16,13 +16,13 @@ find_copy-requires-clause-leads c =
     let index = c.loop-index.index in
     let old = c.args.image.now in
     let now = c.loop-index.image in
-    let same = c.loop-index.invariant.unchanged in
+    let unchanged = c.loop-index.invariant.unchanged in
     let few : index < 16 = c.loop-index-test.true in
     let value : c.word-word.result ≡ memory_of now (Root mutator index) =
-    c.word-word.ensures.named (Root mutator index) (omega (arith, c.requires.mutator, ap (λ (config : Config). config.mutators) same.config), few)
-    (ap (λ (config : Config). word_at config (Root mutator index)) (same.config ∙ sym c.config-config.ensures) ∙ sym c.root_at.ensures) in
+    c.word-word.ensures.named (Root mutator index) (omega (arith, c.requires.mutator, ap (λ (config : Config). config.mutators) unchanged.config), few)
+    (ap (λ (config : Config). word_at config (Root mutator index)) (unchanged.config ∙ sym c.config-config.ensures) ∙ sym c.root_at.ensures) in
     subst (LeadsToHeld (config_of now) (memory_of now)) (sym value)
-    (carried (λ k m. LeadsToHeld k m (m (Root mutator index))) old now same (c.requires.can.roots mutator index c.requires.mutator few))
+    (carried (λ any_config memory. LeadsToHeld any_config memory (memory (Root mutator index))) old now unchanged (c.requires.can.roots mutator index c.requires.mutator few))
 
 pub loop-index-preserved : goal.loop-index-preserved
 loop-index-preserved c =
@@ -30,21 +30,21 @@ loop-index-preserved c =
     let index = c.loop-index.index in
     let old = c.args.image.now in
     let now = c.loop-index.image in
-    let same = c.loop-index.invariant.unchanged in
+    let unchanged = c.loop-index.invariant.unchanged in
     let few : index < 16 = c.loop-index-test.true in
     let value : c.word-word.result ≡ memory_of now (Root mutator index) =
-    c.word-word.ensures.named (Root mutator index) (omega (arith, c.requires.mutator, ap (λ (config : Config). config.mutators) same.config), few)
-    (ap (λ (config : Config). word_at config (Root mutator index)) (same.config ∙ sym c.config-config.ensures) ∙ sym c.root_at.ensures) in
-    let is : c.word-word.result ≡ memory_of old (Root mutator index) = value ∙ ap (λ m. m (Root mutator index)) (memory_same old now same) in
+    c.word-word.ensures.named (Root mutator index) (omega (arith, c.requires.mutator, ap (λ (config : Config). config.mutators) unchanged.config), few)
+    (ap (λ (config : Config). word_at config (Root mutator index)) (unchanged.config ∙ sym c.config-config.ensures) ∙ sym c.root_at.ensures) in
+    let same_word : c.word-word.result ≡ memory_of old (Root mutator index) = value ∙ ap (λ memory. memory (Root mutator index)) (memory_same old now unchanged) in
     record {
-      unchanged = both old now c.find_copy.new.image same c.find_copy.ensures.unchanged;
+      unchanged = both old now c.find_copy.new.image unchanged c.find_copy.ensures.unchanged;
       found = c.find_copy.ensures.found;
-      noted = noted_step old now c.find_copy.new.image (λ index. memory_of old (Root mutator index)) index c.word-word.result same c.loop-index.invariant.noted is c.find_copy.ensures.noted;
+      noted = noted_step old now c.find_copy.new.image (λ index. memory_of old (Root mutator index)) index c.word-word.result unchanged c.loop-index.invariant.noted same_word c.find_copy.ensures.noted;
     }
 
 pub returns-clause-noted : goal.returns-clause-noted
 returns-clause-noted c =
     let old = c.args.image.now in
-    let all : c.loop-index.index ≡ 16 = omega (arith, c.loop-index-test.false, c.loop-index.auto.index-end) in
+    let all_roots : c.loop-index.index ≡ 16 = omega (arith, c.loop-index-test.false, c.loop-index.auto.index-end) in
     c.loop-index.invariant.noted
-    ∙ ap (λ n. with_addresses (found_of old) (copies_of (memory_of old) (map (λ index. memory_of old (Root c.args.mutator index)) (range_with_len 0 n)))) all
+    ∙ ap (λ count. with_addresses (found_of old) (copies_of (memory_of old) (map (λ index. memory_of old (Root c.args.mutator index)) (range_with_len 0 count)))) all_roots

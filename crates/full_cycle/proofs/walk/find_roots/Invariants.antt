@@ -7,8 +7,8 @@ use Rattle.image_graph.specs.State.{memory_of, found_of, AreFound, IsUnchanged}
 use Rattle.full_cycle.proofs.walk.find_roots.Given as goal
 
 abbrev pub invariant-loop-index : goal.invariant-loop-index
-invariant-loop-index l = record {
-  unchanged : IsUnchanged l.fn.image l.image;
-  found : AreFound l.image;
-  noted : found_of l.image ≡ with_addresses (found_of l.fn.image) (copies_of (memory_of l.fn.image) (map (λ index. memory_of l.fn.image (Root l.mutator index)) (range_with_len 0 l.index)));
+invariant-loop-index loop = record {
+  unchanged : IsUnchanged loop.fn.image loop.image;
+  found : AreFound loop.image;
+  noted : found_of loop.image ≡ with_addresses (found_of loop.fn.image) (copies_of (memory_of loop.fn.image) (map (λ index. memory_of loop.fn.image (Root loop.mutator index)) (range_with_len 0 loop.index)));
 }

@@ -4,4 +4,4 @@ use Rattle.graph_placing.specs.ByName.{end_behind}
 use Rattle.graph_placing.proofs.addresses.fits.Given as goal
 
 abbrev pub invariant-loop-row : goal.invariant-loop-row
-invariant-loop-row l = (l.end ≡ end_behind l.config l.text l.row) × (l.end ≤ heap_end l.config)
+invariant-loop-row loop = (loop.end ≡ end_behind loop.config loop.text loop.row) × (loop.end ≤ heap_end loop.config)

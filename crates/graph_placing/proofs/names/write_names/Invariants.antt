@@ -8,10 +8,10 @@ use Rattle.graph_placing.specs.NamesRewritten.{names_written}
 use Rattle.graph_placing.proofs.names.write_names.Given as goal
 
 abbrev pub invariant-loop-row : goal.invariant-loop-row
-invariant-loop-row l = record {
-  end : l.end ≡ end_behind (config_of l.initial.image) l.text l.row;
-  within : l.end ≤ heap_end (config_of l.initial.image);
-  config : config_of l.image ≡ config_of l.initial.image;
-  words : memory_of l.image ≡ names_written (config_of l.initial.image) l.text l.row (memory_of l.initial.image);
-  counts : AreCountsOf (take l.row (names_of l.text)) (config_of l.initial.image).mutators l.counts;
+invariant-loop-row loop = record {
+  end : loop.end ≡ end_behind (config_of loop.initial.image) loop.text loop.row;
+  within : loop.end ≤ heap_end (config_of loop.initial.image);
+  config : config_of loop.image ≡ config_of loop.initial.image;
+  words : memory_of loop.image ≡ names_written (config_of loop.initial.image) loop.text loop.row (memory_of loop.initial.image);
+  counts : AreCountsOf (take loop.row (names_of loop.text)) (config_of loop.initial.image).mutators loop.counts;
 }

@@ -13,12 +13,12 @@ region_of-region-requires c =
     let config = config_of c.args.image.now in
     let text = c.args.text.now in
     let row = c.args.row in
-    let a = get_or c.args.addresses.now row 0 in
-    let at : a ≡ address_of config text row = c.requires.addresses.each row c.requires.row in
-    let low = located.from_first config text c.requires.whole row in
-    let high = located.in_heap config text c.requires.whole c.requires.fits row c.requires.row in
-    let is : IsWord config (Heap a) = (omega (arith, at, low), omega (arith, at, high, located.some_words config text c.requires.whole row)) in
-    subst (λ (config : Config). IsWord config (Heap a)) (sym c.config-config.ensures) is
+    let address = get_or c.args.addresses.now row 0 in
+    let address_is : address ≡ address_of config text row = c.requires.addresses.each row c.requires.row in
+    let address_high = located.from_first config text c.requires.whole row in
+    let address_inside = located.in_heap config text c.requires.whole c.requires.fits row c.requires.row in
+    let is_word : IsWord config (Heap address) = (omega (arith, address_is, address_high), omega (arith, address_is, address_inside, located.some_words config text c.requires.whole row)) in
+    subst (λ (config : Config). IsWord config (Heap address)) (sym c.config-config.ensures) is_word
 
 -- the base of the region, by the configuration of the image
 pub overflow_sub-top : goal.overflow_sub-top
@@ -26,12 +26,12 @@ overflow_sub-top c =
     let config = config_of c.args.image.now in
     let text = c.args.text.now in
     let row = c.args.row in
-    let a = get_or c.args.addresses.now row 0 in
-    let at : a ≡ address_of config text row = c.requires.addresses.each row c.requires.row in
-    let same : c.config-config.result ≡ config = c.config-config.ensures in
-    let region : c.region_of-region.result ≡ region_with config (address_of config text row) = c.region_of-region.ensures.value ∙ ap (λ (config : Config). region_with config a) same ∙ ap (region_with config) at in
-    let base : c.base.result ≡ base_of config (region_with config (address_of config text row)) = c.base.ensures ∙ ap (λ (config : Config). base_of config c.region_of-region.result) same ∙ ap (base_of config) region in
-    omega (arith, base, at, (located.in_region config text c.requires.whole row).0)
+    let address = get_or c.args.addresses.now row 0 in
+    let address_is : address ≡ address_of config text row = c.requires.addresses.each row c.requires.row in
+    let same_config : c.config-config.result ≡ config = c.config-config.ensures in
+    let region_is : c.region_of-region.result ≡ region_with config (address_of config text row) = c.region_of-region.ensures.value ∙ ap (λ (config : Config). region_with config address) same_config ∙ ap (region_with config) address_is in
+    let base : c.base.result ≡ base_of config (region_with config (address_of config text row)) = c.base.ensures ∙ ap (λ (config : Config). base_of config c.region_of-region.result) same_config ∙ ap (base_of config) region_is in
+    omega (arith, base, address_is, (located.in_region config text c.requires.whole row).0)
 
 pub returns-clause-words : goal.returns-clause-words
 returns-clause-words c =
@@ -39,12 +39,12 @@ returns-clause-words c =
     let memory = memory_of c.args.image.now in
     let text = c.args.text.now in
     let row = c.args.row in
-    let a = get_or c.args.addresses.now row 0 in
-    let at : a ≡ address_of config text row = c.requires.addresses.each row c.requires.row in
-    let same : c.config-config.result ≡ config = c.config-config.ensures in
-    let region : c.region_of-region.result ≡ region_with config (address_of config text row) = c.region_of-region.ensures.value ∙ ap (λ (config : Config). region_with config a) same ∙ ap (region_with config) at in
-    let base : c.base.result ≡ base_of config (region_with config (address_of config text row)) = c.base.ensures ∙ ap (λ (config : Config). base_of config c.region_of-region.result) same ∙ ap (base_of config) region in
-    let value : a + c.words_of_row.result - c.base.result ≡ address_of config text row + words_of_row text row - base_of config (region_with config (address_of config text row)) = omega (arith, at, base, c.words_of_row.ensures.value) in
-    stored config c.config-config.result memory (memory_of c.set_word.new.self) (Top c.region_of-region.result) c.top_at.result (a + c.words_of_row.result - c.base.result) (sym same) c.region_of-region.ensures.below c.top_at.ensures c.set_word.ensures.named
-    ∙ ap (λ (region : ℕ). write memory (Top region) (a + c.words_of_row.result - c.base.result)) region
+    let address = get_or c.args.addresses.now row 0 in
+    let address_is : address ≡ address_of config text row = c.requires.addresses.each row c.requires.row in
+    let same_config : c.config-config.result ≡ config = c.config-config.ensures in
+    let region : c.region_of-region.result ≡ region_with config (address_of config text row) = c.region_of-region.ensures.value ∙ ap (λ (config : Config). region_with config address) same_config ∙ ap (region_with config) address_is in
+    let base : c.base.result ≡ base_of config (region_with config (address_of config text row)) = c.base.ensures ∙ ap (λ (config : Config). base_of config c.region_of-region.result) same_config ∙ ap (base_of config) region in
+    let value : address + c.words_of_row.result - c.base.result ≡ address_of config text row + words_of_row text row - base_of config (region_with config (address_of config text row)) = omega (arith, address_is, base, c.words_of_row.ensures.value) in
+    stored config c.config-config.result memory (memory_of c.set_word.new.self) (Top c.region_of-region.result) c.top_at.result (address + c.words_of_row.result - c.base.result) (sym same_config) c.region_of-region.ensures.below c.top_at.ensures c.set_word.ensures.named
+    ∙ ap (λ (region : ℕ). write memory (Top region) (address + c.words_of_row.result - c.base.result)) region
     ∙ ap (write memory (Top (region_with config (address_of config text row)))) value

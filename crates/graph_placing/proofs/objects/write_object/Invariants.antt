@@ -7,7 +7,7 @@ use Rattle.graph_placing.specs.Writing.{copied}
 use Rattle.graph_placing.proofs.objects.write_object.Given as goal
 
 abbrev pub invariant-loop-index : goal.invariant-loop-index
-invariant-loop-index l = record {
-  config : config_of l.image ≡ config_of l.initial.image;
-  words : memory_of l.image ≡ copied (address_of (config_of l.initial.image) l.text l.row) l.index (words_of_object (word_for (config_of l.initial.image) l.text) (row_of l.text l.row)) (memory_of l.initial.image);
+invariant-loop-index loop = record {
+  config : config_of loop.image ≡ config_of loop.initial.image;
+  words : memory_of loop.image ≡ copied (address_of (config_of loop.initial.image) loop.text loop.row) loop.index (words_of_object (word_for (config_of loop.initial.image) loop.text) (row_of loop.text loop.row)) (memory_of loop.initial.image);
 }

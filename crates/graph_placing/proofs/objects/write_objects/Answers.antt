@@ -16,16 +16,16 @@ loop-row-preserved c =
     let config = config_of c.args.image.now in
     let text = c.args.text.now in
     let row = c.loop-row.row in
-    let before = c.loop-row.image in
-    let one = c.write_object.new.image in
-    let is = c.loop-row.invariant in
-    let written : memory_of one ≡ copied (address_of config text row) (words_of_row text row) (words_of_object (word_for config text) (row_of text row)) (rows_placed config text row) =
+    let image_before = c.loop-row.image in
+    let image_then = c.write_object.new.image in
+    let so_far = c.loop-row.invariant in
+    let written : memory_of image_then ≡ copied (address_of config text row) (words_of_row text row) (words_of_object (word_for config text) (row_of text row)) (rows_placed config text row) =
     c.write_object.ensures.words
-    ∙ ap (λ (config : Config). copied (address_of config text row) (words_of_row text row) (words_of_object (word_for config text) (row_of text row)) (memory_of before)) is.config
-    ∙ ap (copied (address_of config text row) (words_of_row text row) (words_of_object (word_for config text) (row_of text row))) is.words in
-    let next : suc row ≡ row + 1 = omega arith in
+    ∙ ap (λ (config : Config). copied (address_of config text row) (words_of_row text row) (words_of_object (word_for config text) (row_of text row)) (memory_of image_before)) so_far.config
+    ∙ ap (copied (address_of config text row) (words_of_row text row) (words_of_object (word_for config text) (row_of text row))) so_far.words in
+    let next_row : suc row ≡ row + 1 = omega arith in
     record {
-      config = c.raise_top.ensures.config ∙ c.write_object.ensures.config ∙ is.config;
-      words = c.raise_top.ensures.words ∙ ap (λ (config : Config). with_top config text row (memory_of one)) (c.write_object.ensures.config ∙ is.config) ∙ ap (with_top config text row) written ∙ rows_more config text row
-          ∙ ap (rows_placed config text) next;
+      config = c.raise_top.ensures.config ∙ c.write_object.ensures.config ∙ so_far.config;
+      words = c.raise_top.ensures.words ∙ ap (λ (config : Config). with_top config text row (memory_of image_then)) (c.write_object.ensures.config ∙ so_far.config) ∙ ap (with_top config text row) written ∙ rows_more config text row
+          ∙ ap (rows_placed config text) next_row;
     }

@@ -4,7 +4,7 @@ use Rattle.graph_placing.specs.Writing.{rows_placed}
 use Rattle.graph_placing.proofs.objects.write_objects.Given as goal
 
 abbrev pub invariant-loop-row : goal.invariant-loop-row
-invariant-loop-row l = record {
-  config : config_of l.image ≡ config_of l.initial.image;
-  words : memory_of l.image ≡ rows_placed (config_of l.initial.image) l.text l.row;
+invariant-loop-row loop = record {
+  config : config_of loop.image ≡ config_of loop.initial.image;
+  words : memory_of loop.image ≡ rows_placed (config_of loop.initial.image) loop.text loop.row;
 }

@@ -3,4 +3,4 @@ use Rattle.shen_graph.specs.GraphText.{pin_of}
 use Rattle.graph_placing.proofs.pins.is_thread_unpinned.Given as goal
 
 abbrev pub invariant-loop-slot : goal.invariant-loop-slot
-invariant-loop-slot l = (k : ℕ) → k < l.slot → pin_of l.text l.thread k ≡ None
+invariant-loop-slot loop = (slot : ℕ) → slot < loop.slot → pin_of loop.text loop.thread slot ≡ None

@@ -3,4 +3,4 @@ use Rattle.shen_graph.specs.GraphText.{pin_of}
 use Rattle.graph_placing.proofs.pins.is_unpinned.Given as goal
 
 abbrev pub invariant-loop-mutator : goal.invariant-loop-mutator
-invariant-loop-mutator l = (thread slot : ℕ) → 1 ≤ thread → thread ≤ l.mutator → slot < 4 → pin_of l.text thread slot ≡ None
+invariant-loop-mutator loop = (thread slot : ℕ) → 1 ≤ thread → thread ≤ loop.mutator → slot < 4 → pin_of loop.text thread slot ≡ None

@@ -22,14 +22,14 @@ returns-clause-placed c =
     let objects : memory_of c.write_objects.new.image ≡ rows_placed config text (length text.rows) = c.write_objects.ensures.words ∙ ap (λ (config : Config). rows_placed config text (length text.rows)) config_first in
     let roots : memory_of c.store_roots.new.image ≡ rooted =
     c.store_roots.ensures.words ∙ ap (λ (config : Config). all_roots_stored config text config.mutators (memory_of c.write_objects.new.image)) config_objects ∙ ap (all_roots_stored config text config.mutators) objects in
-    let free : memory_of c.free_empty.new.image ≡ write rooted Free (empty_regions (λ region. rooted (Top region)) config.regions) =
+    let free_written : memory_of c.free_empty.new.image ≡ write rooted Free (empty_regions (λ region. rooted (Top region)) config.regions) =
     c.free_empty.ensures.words
     ∙ ap (λ (config : Config). write (memory_of c.store_roots.new.image) Free (empty_regions (λ region. memory_of c.store_roots.new.image (Top region)) config.regions)) config_roots
     ∙ ap (λ (memory : Word → ℕ). write memory Free (empty_regions (λ region. memory (Top region)) config.regions)) roots in
-    let left = stored (config_of c.free_empty.new.image) config (memory_of c.free_empty.new.image) (memory_of c.set_word.new.self) Left c.left_at.result c.mutators.result config_free tt c.left_at.ensures c.set_word.ensures.named in
-    let all = left ∙ ap (write (memory_of c.free_empty.new.image) Left) c.mutators.ensures ∙ ap (λ (memory : Word → ℕ). write memory Left config.mutators) free ∙ written_is config text in
-    subst (IsPlaced config text) (sym all) (is_placed config text c.requires)
+    let left_written = stored (config_of c.free_empty.new.image) config (memory_of c.free_empty.new.image) (memory_of c.set_word.new.self) Left c.left_at.result c.mutators.result config_free tt c.left_at.ensures c.set_word.ensures.named in
+    let all_written = left_written ∙ ap (write (memory_of c.free_empty.new.image) Left) c.mutators.ensures ∙ ap (λ (memory : Word → ℕ). write memory Left config.mutators) free_written ∙ written_is config text in
+    subst (IsPlaced config text) (sym all_written) (is_placed config text c.requires)
 
 pub returns-clause-stands : goal.returns-clause-stands
-returns-clause-stands c = λ counts g is.
-    stands c.args.config c.args.text.now c.requires (c.fits.ensures.0 c.if-not-fits.false) (memory_of c.set_word.new.self) (returns-clause-placed c) counts g is
+returns-clause-stands c = λ counts graph graph_is.
+    stands c.args.config c.args.text.now c.requires (c.fits.ensures.0 c.if-not-fits.false) (memory_of c.set_word.new.self) (returns-clause-placed c) counts graph graph_is

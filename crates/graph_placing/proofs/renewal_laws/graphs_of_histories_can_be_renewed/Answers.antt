@@ -15,4 +15,4 @@ pub returns-clause-names : goal.returns-clause-names
 returns-clause-names c = of_threads
 
 pub returns-clause-once_more : goal.returns-clause-once_more
-returns-clause-once_more c = λ config t counts whole are. renewable_anew config t whole are counts
+returns-clause-once_more c = λ config text counts can_place are_counts. renewable_anew config text can_place are_counts counts

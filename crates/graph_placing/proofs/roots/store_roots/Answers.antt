@@ -14,15 +14,15 @@ loop-mutator-preserved c =
     let config = config_of c.args.image.now in
     let text = c.args.text.now in
     let mutator = c.loop-mutator.mutator in
-    let before = c.loop-mutator.image in
-    let is = c.loop-mutator.invariant in
+    let image_before = c.loop-mutator.image in
+    let so_far = c.loop-mutator.invariant in
     record {
-      config = c.store_roots_of.ensures.config ∙ is.config;
-      words = c.store_roots_of.ensures.words ∙ ap (λ (config : Config). roots_stored config text mutator 16 (memory_of before)) is.config ∙ ap (roots_stored config text mutator 16) is.words ∙ all_more config text mutator (memory_of c.args.image.now);
+      config = c.store_roots_of.ensures.config ∙ so_far.config;
+      words = c.store_roots_of.ensures.words ∙ ap (λ (config : Config). roots_stored config text mutator 16 (memory_of image_before)) so_far.config ∙ ap (roots_stored config text mutator 16) so_far.words ∙ all_more config text mutator (memory_of c.args.image.now);
     }
 
 pub returns-clause-words : goal.returns-clause-words
 returns-clause-words c =
     let config = config_of c.args.image.now in
-    let all : c.loop-mutator.mutator ≡ config.mutators = omega (arith, c.loop-mutator-test.false, c.loop-mutator.auto.mutator-end, c.mutators-mutator-end.ensures, ap (λ (config : Config). config.mutators) c.config.ensures) in
-    c.loop-mutator.invariant.words ∙ ap (λ (mutators : ℕ). all_roots_stored config c.args.text.now mutators (memory_of c.args.image.now)) all
+    let all_mutators : c.loop-mutator.mutator ≡ config.mutators = omega (arith, c.loop-mutator-test.false, c.loop-mutator.auto.mutator-end, c.mutators-mutator-end.ensures, ap (λ (config : Config). config.mutators) c.config.ensures) in
+    c.loop-mutator.invariant.words ∙ ap (λ (mutators : ℕ). all_roots_stored config c.args.text.now mutators (memory_of c.args.image.now)) all_mutators

@@ -4,7 +4,7 @@ use Rattle.graph_placing.specs.Writing.{all_roots_stored}
 use Rattle.graph_placing.proofs.roots.store_roots.Given as goal
 
 abbrev pub invariant-loop-mutator : goal.invariant-loop-mutator
-invariant-loop-mutator l = record {
-  config : config_of l.image ≡ config_of l.initial.image;
-  words : memory_of l.image ≡ all_roots_stored (config_of l.initial.image) l.text l.mutator (memory_of l.initial.image);
+invariant-loop-mutator loop = record {
+  config : config_of loop.image ≡ config_of loop.initial.image;
+  words : memory_of loop.image ≡ all_roots_stored (config_of loop.initial.image) loop.text loop.mutator (memory_of loop.initial.image);
 }

@@ -12,12 +12,12 @@ resume-requires-clause-dump c = c.requires.1.dump
 pub resume-requires-clause-count : goal.resume-requires-clause-count
 resume-requires-clause-count c =
     let read = c.args.read in
-    ap (λ (ss : List (List Command)). length ss) c.into_vec.ensures ∙ count_read c.requires.0 (dumped read.dump.config read.dump.counts read.dump.graph) read.trace.scripts read.trace.schedule c.requires.1
+    ap (λ (any_scripts : List (List Command)). length any_scripts) c.into_vec.ensures ∙ count_read c.requires.0 (dumped read.dump.config read.dump.counts read.dump.graph) read.trace.scripts read.trace.schedule c.requires.1
 
 pub resume-requires-clause-runnable : goal.resume-requires-clause-runnable
 resume-requires-clause-runnable c =
     let read = c.args.read in
-    subst (λ (ss : List (List Command)). All IsRunnableAfter ss) (sym c.into_vec.ensures) (runnable_read c.requires.0 (dumped read.dump.config read.dump.counts read.dump.graph) read.trace.scripts read.trace.schedule c.requires.1)
+    subst (λ (any_scripts : List (List Command)). All IsRunnableAfter any_scripts) (sym c.into_vec.ensures) (runnable_read c.requires.0 (dumped read.dump.config read.dump.counts read.dump.graph) read.trace.scripts read.trace.schedule c.requires.1)
 
 pub resume-requires-clause-items : goal.resume-requires-clause-items
 resume-requires-clause-items c =

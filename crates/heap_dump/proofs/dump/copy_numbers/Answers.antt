@@ -10,11 +10,11 @@ loop-index-preserved c =
     let numbers = (row_of c.args.graph.now c.args.row).nums in
     let number = get_or numbers index 0 in
     let text = c.loop-index.text in
-    let made = c.number.ensures ∙ ap (with_number text) c.number_at.ensures in
+    let graph_made = c.number.ensures ∙ ap (with_number text) c.number_at.ensures in
     record {
-      rows = ap (λ t. length t.rows) made ∙ length-change_last (add_number number) text.rows ∙ c.loop-index.invariant.rows;
-      spare = omega (arith, ap (λ t. t.spare) made);
-      added = (made ∙ ap (λ t. with_number t number) c.loop-index.invariant.added
+      rows = ap (λ some_text. length some_text.rows) graph_made ∙ length-change_last (add_number number) text.rows ∙ c.loop-index.invariant.rows;
+      spare = omega (arith, ap (λ some_text. some_text.spare) graph_made);
+      added = (graph_made ∙ ap (λ some_text. with_number some_text number) c.loop-index.invariant.added
           ∙ sym (with_numbers-push c.args.text.now (take index numbers) number)
           ∙ ap (with_numbers c.args.text.now) (sym (take_more numbers index 0 (omega arith))));
     }

@@ -3,8 +3,8 @@ use Rattle.shen_graph.specs.GraphText.{row_of, with_numbers}
 use Rattle.heap_dump.proofs.dump.copy_numbers.Given as goal
 
 abbrev pub invariant-loop-index : goal.invariant-loop-index
-invariant-loop-index l = record {
-  rows : length l.text.rows ≡ length l.initial.text.rows;
-  spare : l.text.spare + l.index ≡ l.initial.text.spare;
-  added : l.text ≡ with_numbers l.initial.text (take l.index (row_of l.graph l.row).nums);
+invariant-loop-index loop = record {
+  rows : length loop.text.rows ≡ length loop.initial.text.rows;
+  spare : loop.text.spare + loop.index ≡ loop.initial.text.spare;
+  added : loop.text ≡ with_numbers loop.initial.text (take loop.index (row_of loop.graph loop.row).nums);
 }

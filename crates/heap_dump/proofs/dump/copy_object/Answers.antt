@@ -9,15 +9,15 @@ copy_numbers-requires-clause-last c =
     let row = row_of c.args.graph.now c.args.row in
     omega (
       arith,
-      ap (λ t. length t.rows) c.copy_references.ensures,
+      ap (λ some_text. length some_text.rows) c.copy_references.ensures,
       rows_left c.object.new.self row.refs,
-      ap (λ t. length t.rows) c.object.ensures,
+      ap (λ some_text. length some_text.rows) c.object.ensures,
       length-append c.args.text.now.rows (bare c.name_at.result ∷ []),
     )
 
 pub copy_references-requires-clause-last : goal.copy_references-requires-clause-last
 copy_references-requires-clause-last c =
-    omega (arith, ap (λ t. length t.rows) c.object.ensures, length-append c.args.text.now.rows (bare c.name_at.result ∷ []))
+    omega (arith, ap (λ text. length text.rows) c.object.ensures, length-append c.args.text.now.rows (bare c.name_at.result ∷ []))
 
 pub copy_numbers-requires-clause-room : goal.copy_numbers-requires-clause-room
 copy_numbers-requires-clause-room c =
@@ -25,9 +25,9 @@ copy_numbers-requires-clause-room c =
     omega (
       arith,
       c.requires.room,
-      ap (λ t. t.spare) c.copy_references.ensures,
+      ap (λ text. text.spare) c.copy_references.ensures,
       spare_left c.object.new.self row.refs,
-      ap (λ t. t.spare) c.object.ensures,
+      ap (λ text. text.spare) c.object.ensures,
     )
 
 pub returns : goal.returns
@@ -35,6 +35,6 @@ returns c =
     let text = c.args.text.now in
     let row = row_of c.args.graph.now c.args.row in
     c.copy_numbers.ensures
-    ∙ ap (λ t. with_numbers t row.nums) (c.copy_references.ensures ∙ ap (λ t. with_references t row.refs) c.object.ensures)
+    ∙ ap (λ some_text. with_numbers some_text row.nums) (c.copy_references.ensures ∙ ap (λ some_text. with_references some_text row.refs) c.object.ensures)
     ∙ whole text c.name_at.result row.refs row.nums
     ∙ ap (λ (name : Name). with_whole_row text (record { name = name; refs = row.refs; nums = row.nums })) c.name_at.ensures

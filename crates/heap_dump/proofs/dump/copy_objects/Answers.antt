@@ -17,24 +17,24 @@ pub loop-row-preserved : goal.loop-row-preserved
 loop-row-preserved c =
     let marks = c.args.marks.now in
     let rows = c.args.graph.now.rows in
-    let i = c.loop-row.row in
-    let row = get_or rows i (bare hub) in
-    let low : i < length rows = omega arith in
-    let more = sum_by_more row_words rows i (bare hub) low in
+    let index = c.loop-row.row in
+    let row = get_or rows index (bare hub) in
+    let index_below : index < length rows = omega arith in
+    let words_more = sum_by_more row_words rows index (bare hub) index_below in
     elim c.if-marks-row.branch [
       | then-marks-row w ↦ record {
-        rows = (ap (λ t. t.rows) w.text-is ∙ ap (λ t. t.rows) w.copy_object.ensures ∙ ap (λ rs. rs ++ row ∷ []) c.loop-row.invariant.rows
-            ∙ append_assoc c.args.text.now.rows (marked_rows (take i marks) (take i rows)) (row ∷ [])
-            ∙ ap (λ rs. c.args.text.now.rows ++ rs) (sym (marked_one marks rows i (bare hub) low c.requires.marks w.if-marks-row.true)));
-        roots = ap (λ t. t.roots) w.text-is ∙ ap (λ t. t.roots) w.copy_object.ensures ∙ c.loop-row.invariant.roots;
-        pins = ap (λ t. t.pins) w.text-is ∙ ap (λ t. t.pins) w.copy_object.ensures ∙ c.loop-row.invariant.pins;
-        spare = omega (arith, ap (λ t. t.spare) w.text-is, ap (λ t. t.spare) w.copy_object.ensures, c.loop-row.invariant.spare, more);
+        rows = (ap (λ some_text. some_text.rows) w.text-is ∙ ap (λ some_text. some_text.rows) w.copy_object.ensures ∙ ap (λ row_list. row_list ++ row ∷ []) c.loop-row.invariant.rows
+            ∙ append_assoc c.args.text.now.rows (marked_rows (take index marks) (take index rows)) (row ∷ [])
+            ∙ ap (λ row_list. c.args.text.now.rows ++ row_list) (sym (marked_one marks rows index (bare hub) index_below c.requires.marks w.if-marks-row.true)));
+        roots = ap (λ some_text. some_text.roots) w.text-is ∙ ap (λ some_text. some_text.roots) w.copy_object.ensures ∙ c.loop-row.invariant.roots;
+        pins = ap (λ some_text. some_text.pins) w.text-is ∙ ap (λ some_text. some_text.pins) w.copy_object.ensures ∙ c.loop-row.invariant.pins;
+        spare = omega (arith, ap (λ some_text. some_text.spare) w.text-is, ap (λ some_text. some_text.spare) w.copy_object.ensures, c.loop-row.invariant.spare, words_more);
       }
       | else-marks-row w ↦ record {
-        rows = (ap (λ t. t.rows) w.text-is ∙ c.loop-row.invariant.rows
-            ∙ ap (λ rs. c.args.text.now.rows ++ rs) (sym (unmarked_one marks rows i (bare hub) low c.requires.marks w.if-marks-row.false)));
-        roots = ap (λ t. t.roots) w.text-is ∙ c.loop-row.invariant.roots;
-        pins = ap (λ t. t.pins) w.text-is ∙ c.loop-row.invariant.pins;
-        spare = omega (arith, ap (λ t. t.spare) w.text-is, c.loop-row.invariant.spare, more);
+        rows = (ap (λ some_text. some_text.rows) w.text-is ∙ c.loop-row.invariant.rows
+            ∙ ap (λ row_list. c.args.text.now.rows ++ row_list) (sym (unmarked_one marks rows index (bare hub) index_below c.requires.marks w.if-marks-row.false)));
+        roots = ap (λ some_text. some_text.roots) w.text-is ∙ c.loop-row.invariant.roots;
+        pins = ap (λ some_text. some_text.pins) w.text-is ∙ c.loop-row.invariant.pins;
+        spare = omega (arith, ap (λ some_text. some_text.spare) w.text-is, c.loop-row.invariant.spare, words_more);
       }
     ]

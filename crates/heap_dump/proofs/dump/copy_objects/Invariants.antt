@@ -4,9 +4,9 @@ use Rattle.heap_dump.specs.RowsReached.{marked_rows}
 use Rattle.heap_dump.proofs.dump.copy_objects.Given as goal
 
 abbrev pub invariant-loop-row : goal.invariant-loop-row
-invariant-loop-row l = record {
-  rows : l.text.rows ≡ l.initial.text.rows ++ marked_rows (take l.row l.marks) (take l.row l.graph.rows);
-  roots : l.text.roots ≡ l.initial.text.roots;
-  pins : l.text.pins ≡ l.initial.text.pins;
-  spare : l.initial.text.spare ≤ l.text.spare + sum_by row_words (take l.row l.graph.rows);
+invariant-loop-row loop = record {
+  rows : loop.text.rows ≡ loop.initial.text.rows ++ marked_rows (take loop.row loop.marks) (take loop.row loop.graph.rows);
+  roots : loop.text.roots ≡ loop.initial.text.roots;
+  pins : loop.text.pins ≡ loop.initial.text.pins;
+  spare : loop.initial.text.spare ≤ loop.text.spare + sum_by row_words (take loop.row loop.graph.rows);
 }

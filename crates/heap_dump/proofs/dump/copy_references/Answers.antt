@@ -10,11 +10,11 @@ loop-index-preserved c =
     let references = (row_of c.args.graph.now c.args.row).refs in
     let reference = get_or references index None in
     let text = c.loop-index.text in
-    let made = c.reference.ensures ∙ ap (with_reference text) c.reference_at.ensures in
+    let graph_made = c.reference.ensures ∙ ap (with_reference text) c.reference_at.ensures in
     record {
-      rows = ap (λ t. length t.rows) made ∙ length-change_last (add_reference reference) text.rows ∙ c.loop-index.invariant.rows;
-      spare = omega (arith, ap (λ t. t.spare) made);
-      added = (made ∙ ap (λ t. with_reference t reference) c.loop-index.invariant.added
+      rows = ap (λ some_text. length some_text.rows) graph_made ∙ length-change_last (add_reference reference) text.rows ∙ c.loop-index.invariant.rows;
+      spare = omega (arith, ap (λ some_text. some_text.spare) graph_made);
+      added = (graph_made ∙ ap (λ some_text. with_reference some_text reference) c.loop-index.invariant.added
           ∙ sym (with_references-push c.args.text.now (take index references) reference)
           ∙ ap (with_references c.args.text.now) (sym (take_more references index None (omega arith))));
     }

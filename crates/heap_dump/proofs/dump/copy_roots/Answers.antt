@@ -7,35 +7,35 @@ use Rattle.heap_dump.proofs.dump.copy_roots.Goals as goal
 
 pub copy_roots_of-requires-clause-threads : goal.copy_roots_of-requires-clause-threads
 copy_roots_of-requires-clause-threads c =
-    ap (λ t. length t.roots) c.loop-mutator.invariant
+    ap (λ text. length text.roots) c.loop-mutator.invariant
     ∙ length-mixed c.args.graph.now.roots c.args.text.now.roots c.loop-mutator.mutator c.requires.threads (omega arith)
 
 pub copy_roots_of-requires-clause-sixteen : goal.copy_roots_of-requires-clause-sixteen
 copy_roots_of-requires-clause-sixteen c =
-    let xs = c.args.graph.now.roots in
-    let ys = c.args.text.now.roots in
+    let graph_roots = c.args.graph.now.roots in
+    let text_roots = c.args.text.now.roots in
     let mutator = c.loop-mutator.mutator in
-    let low : mutator < length xs = omega arith in
-    let back : mutator + 1 - 1 ≡ mutator = omega arith in (
-      ap (λ index. length (get_or xs index [])) back ∙ All-get_or (λ (row : List Reference). length row ≡ 16) xs mutator [] low c.mutators-mutator-end.ensures.sixteen,
-      (ap (λ k. length (get_or c.loop-mutator.text.roots k [])) back
-          ∙ ap (λ t. length (get_or t.roots mutator [])) c.loop-mutator.invariant
-          ∙ ap length (mixed_next xs ys mutator [] c.requires.threads low)
-          ∙ All-get_or (λ (row : List Reference). length row ≡ 16) ys mutator [] (omega arith) c.requires.sixteen),
+    let mutator_below : mutator < length graph_roots = omega arith in
+    let same_mutator : mutator + 1 - 1 ≡ mutator = omega arith in (
+      ap (λ any_index. length (get_or graph_roots any_index [])) same_mutator ∙ All-get_or (λ (row : List Reference). length row ≡ 16) graph_roots mutator [] mutator_below c.mutators-mutator-end.ensures.sixteen,
+      (ap (λ row_index. length (get_or c.loop-mutator.text.roots row_index [])) same_mutator
+          ∙ ap (λ text. length (get_or text.roots mutator [])) c.loop-mutator.invariant
+          ∙ ap length (mixed_next graph_roots text_roots mutator [] c.requires.threads mutator_below)
+          ∙ All-get_or (λ (row : List Reference). length row ≡ 16) text_roots mutator [] (omega arith) c.requires.sixteen),
     )
 
 pub loop-mutator-preserved : goal.loop-mutator-preserved
 loop-mutator-preserved c =
     let text = c.args.text.now in
-    let xs = c.args.graph.now.roots in
-    let ys = text.roots in
+    let graph_roots = c.args.graph.now.roots in
+    let text_roots = text.roots in
     let mutator = c.loop-mutator.mutator in
-    let low : mutator < length xs = omega arith in
-    let back : mutator + 1 - 1 ≡ mutator = omega arith in
+    let mutator_below : mutator < length graph_roots = omega arith in
+    let same_mutator : mutator + 1 - 1 ≡ mutator = omega arith in
     c.copy_roots_of.ensures
-    ∙ ap (λ (index : ℕ). record c.loop-mutator.text { roots = set c.loop-mutator.text.roots index (get_or xs index []) }) back
-    ∙ ap (λ (text : Text). record text { roots = set text.roots mutator (get_or xs mutator []) }) c.loop-mutator.invariant
-    ∙ ap (λ (roots : List (List Reference)). record text { roots = roots }) (mixed_more xs ys mutator [] c.requires.threads low)
+    ∙ ap (λ (index : ℕ). record c.loop-mutator.text { roots = set c.loop-mutator.text.roots index (get_or graph_roots index []) }) same_mutator
+    ∙ ap (λ (text : Text). record text { roots = set text.roots mutator (get_or graph_roots mutator []) }) c.loop-mutator.invariant
+    ∙ ap (λ (roots : List (List Reference)). record text { roots = roots }) (mixed_more graph_roots text_roots mutator [] c.requires.threads mutator_below)
 
 pub returns : goal.returns
 returns c =

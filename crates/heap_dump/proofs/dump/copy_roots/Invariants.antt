@@ -3,4 +3,4 @@ use Rattle.heap_dump.proofs.Copied.{mixed}
 use Rattle.heap_dump.proofs.dump.copy_roots.Given as goal
 
 abbrev pub invariant-loop-mutator : goal.invariant-loop-mutator
-invariant-loop-mutator l = l.text ≡ record l.initial.text { roots = mixed l.mutator l.graph.roots l.initial.text.roots }
+invariant-loop-mutator loop = loop.text ≡ record loop.initial.text { roots = mixed loop.mutator loop.graph.roots loop.initial.text.roots }

@@ -13,30 +13,30 @@ loop-index-init c =
 pub loop-index-preserved : goal.loop-index-preserved
 loop-index-preserved c =
     let text = c.args.text.now in
-    let m = c.args.thread - 1 in
+    let row_index = c.args.thread - 1 in
     let index = c.loop-index.index in
-    let xs = roots_of c.args.graph.now c.args.thread in
-    let ys = roots_of text c.args.thread in
-    let now = mixed index xs ys in
-    let to = c.root_at.result in
-    let low : m < length text.roots = omega arith in
-    let was = ap (λ t. t.roots) c.loop-index.invariant in
-    let row = ap (λ (rows : List (List Reference)). get_or rows m []) was ∙ get_or-set_same text.roots m now [] low in
-    let made = set c.loop-index.text.roots m (set (get_or c.loop-index.text.roots m []) index to) in
-    let whole = ap (λ (rows : List (List Reference)). set rows m (set (get_or c.loop-index.text.roots m []) index to)) was
-    ∙ set-set text.roots m now (set (get_or c.loop-index.text.roots m []) index to)
-    ∙ ap (λ (references : List Reference). set text.roots m (set references index to)) row
-    ∙ ap (λ (reference : Reference). set text.roots m (set now index reference)) c.root_at.ensures
-    ∙ ap (λ (references : List Reference). set text.roots m references) (mixed_more xs ys index None (omega (arith, c.requires.sixteen)) (omega (arith, c.requires.sixteen))) in
+    let graph_roots = roots_of c.args.graph.now c.args.thread in
+    let text_roots = roots_of text c.args.thread in
+    let mixed_row = mixed index graph_roots text_roots in
+    let root_value = c.root_at.result in
+    let row_below : row_index < length text.roots = omega arith in
+    let roots_before = ap (λ some_text. some_text.roots) c.loop-index.invariant in
+    let row = ap (λ (rows : List (List Reference)). get_or rows row_index []) roots_before ∙ get_or-set_same text.roots row_index mixed_row [] row_below in
+    let new_roots = set c.loop-index.text.roots row_index (set (get_or c.loop-index.text.roots row_index []) index root_value) in
+    let rows_same = ap (λ (rows : List (List Reference)). set rows row_index (set (get_or c.loop-index.text.roots row_index []) index root_value)) roots_before
+    ∙ set-set text.roots row_index mixed_row (set (get_or c.loop-index.text.roots row_index []) index root_value)
+    ∙ ap (λ (references : List Reference). set text.roots row_index (set references index root_value)) row
+    ∙ ap (λ (reference : Reference). set text.roots row_index (set mixed_row index reference)) c.root_at.ensures
+    ∙ ap (λ (references : List Reference). set text.roots row_index references) (mixed_more graph_roots text_roots index None (omega (arith, c.requires.sixteen)) (omega (arith, c.requires.sixteen))) in
     c.root.ensures
-    ∙ ap (λ (text : Text). record text { roots = made }) c.loop-index.invariant
-    ∙ ap (λ (roots : List (List Reference)). record text { roots = roots }) whole
+    ∙ ap (λ (text : Text). record text { roots = new_roots }) c.loop-index.invariant
+    ∙ ap (λ (roots : List (List Reference)). record text { roots = roots }) rows_same
 
 pub returns : goal.returns
 returns c =
     let text = c.args.text.now in
-    let xs = roots_of c.args.graph.now c.args.thread in
-    let ys = roots_of text c.args.thread in
+    let graph_roots = roots_of c.args.graph.now c.args.thread in
+    let text_roots = roots_of text c.args.thread in
     c.loop-index.invariant
     ∙ ap (λ (references : List Reference). record text { roots = set text.roots (c.args.thread - 1) references })
-    (mixed_all xs ys c.loop-index.index (omega (arith, c.requires.sixteen)) (omega (arith, c.requires.sixteen)))
+    (mixed_all graph_roots text_roots c.loop-index.index (omega (arith, c.requires.sixteen)) (omega (arith, c.requires.sixteen)))

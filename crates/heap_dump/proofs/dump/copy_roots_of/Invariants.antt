@@ -4,5 +4,5 @@ use Rattle.heap_dump.proofs.Copied.{mixed}
 use Rattle.heap_dump.proofs.dump.copy_roots_of.Given as goal
 
 abbrev pub invariant-loop-index : goal.invariant-loop-index
-invariant-loop-index l =
-    l.text ≡ record l.initial.text { roots = set l.initial.text.roots (l.thread - 1) (mixed l.index (roots_of l.graph l.thread) (roots_of l.initial.text l.thread)) }
+invariant-loop-index loop =
+    loop.text ≡ record loop.initial.text { roots = set loop.initial.text.roots (loop.thread - 1) (mixed loop.index (roots_of loop.graph loop.thread) (roots_of loop.initial.text loop.thread)) }

@@ -3,4 +3,4 @@ use Rattle.heap_dump.specs.Dumped.{row_words}
 use Rattle.heap_dump.proofs.dump.words_in.Given as goal
 
 abbrev pub invariant-loop-row : goal.invariant-loop-row
-invariant-loop-row l = l.words ≡ sum_by row_words (take l.row l.graph.rows)
+invariant-loop-row loop = loop.words ≡ sum_by row_words (take loop.row loop.graph.rows)

@@ -4,7 +4,7 @@ use Rattle.heap_dump.proofs.TakenFields.{TakenNums}
 use Rattle.heap_dump.proofs.fields.take_numbers.Given as goal
 
 abbrev pub invariant-numbers : goal.invariant-numbers
-invariant-numbers l = TakenNums (parts_behind 32 l.words) (parts_behind 32 l.rest) l.count l.fn.graph l.graph
+invariant-numbers loop = TakenNums (parts_behind 32 loop.words) (parts_behind 32 loop.rest) loop.count loop.fn.graph loop.graph
 
 abbrev pub decreases-numbers : goal.decreases-numbers
-decreases-numbers l = length l.rest
+decreases-numbers loop = length loop.rest

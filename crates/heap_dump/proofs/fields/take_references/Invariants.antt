@@ -4,7 +4,7 @@ use Rattle.heap_dump.proofs.TakenFields.{TakenRefs}
 use Rattle.heap_dump.proofs.fields.take_references.Given as goal
 
 abbrev pub invariant-references : goal.invariant-references
-invariant-references l = TakenRefs (parts_behind 32 l.words) (parts_behind 32 l.rest) l.count l.fn.graph l.graph
+invariant-references loop = TakenRefs (parts_behind 32 loop.words) (parts_behind 32 loop.rest) loop.count loop.fn.graph loop.graph
 
 abbrev pub decreases-references : goal.decreases-references
-decreases-references l = length l.rest
+decreases-references loop = length loop.rest

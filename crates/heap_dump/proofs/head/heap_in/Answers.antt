@@ -3,12 +3,12 @@ use Rattle.heap_dump.proofs.HeadLines.{title_there, rest_is, numbers_are, number
 use Rattle.heap_dump.proofs.head.heap_in.Goals as goal
 
 pub returns-in_err-rest : goal.returns-in_err-rest
-returns-in_err-rest c = rw c.from_residual.ensures (λ h narrow e. title_there (codes "heap") (heap_numbers h) c.args.text.now c.in_err-rest.ensures e)
+returns-in_err-rest c = rw c.from_residual.ensures (λ config narrow spelled. title_there (codes "heap") (heap_numbers config) c.args.text.now c.in_err-rest.ensures spelled)
 
 pub returns-in_err-sizes : goal.returns-in_err-sizes
 returns-in_err-sizes c =
     rw c.from_residual-in_err-sizes.ensures
-    (λ config narrow e. numbers_there heap_limits (heap_numbers config) c.in_ok-rest.rest.now c.in_err-sizes.ensures (rest_is (codes "heap") (heap_numbers config) c.args.text.now c.in_ok-rest.rest.now c.in_ok-rest.ensures e) (heap_within config narrow) heap_small)
+    (λ config narrow spelled. numbers_there heap_limits (heap_numbers config) c.in_ok-rest.rest.now c.in_err-sizes.ensures (rest_is (codes "heap") (heap_numbers config) c.args.text.now c.in_ok-rest.rest.now c.in_ok-rest.ensures spelled) (heap_within config narrow) heap_small)
 
 pub returns-in-Ok : goal.returns-in-Ok
 returns-in-Ok c = (
@@ -18,10 +18,10 @@ returns-in-Ok c = (
 )
 
 pub returns-in_default : goal.returns-in_default
-returns-in_default c = λ h narrow e.
-    let is = numbers_are heap_limits (heap_numbers h) c.in_ok-rest.rest.now _ c.in_ok-sizes.ensures (rest_is (codes "heap") (heap_numbers h) c.args.text.now c.in_ok-rest.rest.now c.in_ok-rest.ensures e) (heap_within h narrow) heap_small in
-    empty_not c.in_ok-sizes.rest.now c.if-is_empty.ensures (ap (λ (x : List ℕ × List ℕ). x.1) is)
+returns-in_default c = λ config narrow spelled.
+    let numbers_told = numbers_are heap_limits (heap_numbers config) c.in_ok-rest.rest.now _ c.in_ok-sizes.ensures (rest_is (codes "heap") (heap_numbers config) c.args.text.now c.in_ok-rest.rest.now c.in_ok-rest.ensures spelled) (heap_within config narrow) heap_small in
+    empty_not c.in_ok-sizes.rest.now c.if-is_empty.ensures (ap (λ (pair : List ℕ × List ℕ). pair.1) numbers_told)
 
 pub returns-in_default-2 : goal.returns-in_default-2
-returns-in_default-2 c = λ h narrow e.
-    heap_refused c.args.text.now c.in_ok-rest.rest.now c.in_ok-sizes.rest.now c.in_ok-sizes.sizes _ c.in_ok-rest.ensures c.in_ok-sizes.ensures c.in_default.ensures.fault (λ is. let e = is in cc) h narrow e
+returns-in_default-2 c = λ config narrow spelled.
+    heap_refused c.args.text.now c.in_ok-rest.rest.now c.in_ok-sizes.rest.now c.in_ok-sizes.sizes _ c.in_ok-rest.ensures c.in_ok-sizes.ensures c.in_default.ensures.fault (λ fault_told. let spelled = fault_told in cc) config narrow spelled

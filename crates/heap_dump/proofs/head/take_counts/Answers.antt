@@ -10,23 +10,23 @@ use Rattle.heap_dump.proofs.head.take_counts.Goals as goal
 
 pub returns-in_err-text-clause-err : goal.returns-in_err-text-clause-err
 returns-in_err-text-clause-err c =
-    let p = err_from_is_err_and c.from_residual.result c.from_residual.ensures.1 in
-    let h = c.in_err-text.ensures.err in
-    let e : p.0 ≡ BadLine 4 (ends_by h.0) = let q = p.2 in let w = h.2 in cc in
+    let result_fault = err_from_is_err_and c.from_residual.result c.from_residual.ensures.1 in
+    let text_fault = c.in_err-text.ensures.err in
+    let same_fault : result_fault.0 ≡ BadLine 4 (ends_by text_fault.0) = let result_told = result_fault.2 in let text_told = text_fault.2 in cc in
     let bytes = c.args.bytes.now in
-    rw p.1 (inr (λ config same. (4, ends_by h.0, e, stops_here (Counts config) 4 bytes (ends_by h.0) (ends_here (Counts config) bytes h.0 tt h.1))))
+    rw result_fault.1 (inr (λ config same_threads. (4, ends_by text_fault.0, same_fault, stops_here (Counts config) 4 bytes (ends_by text_fault.0) (ends_here (Counts config) bytes text_fault.0 tt text_fault.1))))
 
 pub returns-in_default-clause-err : goal.returns-in_default-clause-err
 returns-in_default-clause-err c =
     let bytes = c.args.bytes.now in
     let text = c.in_ok-text.text.now in
-    inr (λ config same. (
+    inr (λ config same_threads. (
       4,
       DumpWanted,
       c.dump_wanted.ensures,
       stops_here (Counts config) 4 bytes DumpWanted
           (refused_here (Counts config) bytes text c.in_ok-text.behind.now tt c.in_ok-text.ensures.ok
-          (no_counts_line config c.args.threads text same (λ ns size fit e. title_there counts_title ns text c.in_default.ensures e))),
+          (no_counts_line config c.args.threads text same_threads (λ counts size fit spelled. title_there counts_title counts text c.in_default.ensures spelled))),
     ))
 
 pub counts-init : goal.counts-init
@@ -36,13 +36,13 @@ pub returns-in_default-count_at-clause-err : goal.returns-in_default-count_at-cl
 returns-in_default-count_at-clause-err c =
     let bytes = c.args.bytes.now in
     let text = c.in_ok-text.text.now in
-    inr (λ config same. (
+    inr (λ config same_threads. (
       4,
       DumpWanted,
       c.dump_wanted-in_default-count_at.ensures,
       stops_here (Counts config) 4 bytes DumpWanted
           (refused_here (Counts config) bytes text c.in_ok-text.behind.now tt c.in_ok-text.ensures.ok
-          (no_counts_line config c.args.threads text same
+          (no_counts_line config c.args.threads text same_threads
           (counts_missing text c.in-Some.words.now c.counts.rest.now c.counts.counter c.args.threads c.counts.counts c.in-Some.ensures c.counts.invariant c.counts-test.true c.in_default-count_at.ensures))),
     ))
 
@@ -52,25 +52,25 @@ counts-preserved c =
     (on_ok c.push.result c.if-is_err.ensures.value c.push.ensures.added)
 
 pub returns-then-is_empty-clause-ok : goal.returns-then-is_empty-clause-ok
-returns-then-is_empty-clause-ok c = λ config same.
+returns-then-is_empty-clause-ok c = λ config same_threads.
     let bytes = c.args.bytes.now in
     let text = c.in_ok-text.text.now in
     let counts = c.counts.counts in
-    let all : c.counts.counter ≡ c.args.threads = omega (arith, c.counts-test.false, c.counts.auto.counter-end) in
+    let all_counted : c.counts.counter ≡ c.args.threads = omega (arith, c.counts-test.false, c.counts.auto.counter-end) in
     leads_one (Counts config) (Listed (record { config = config; counts = counts; rows = []; roots = [] })) bytes text c.in_ok-text.behind.now c.in_ok-text.ensures.ok
-    (counts, c.counts.invariant.size ∙ all ∙ sym same, c.counts.invariant.fit, counts_spelled text c.in-Some.words.now c.counts.rest.now c.counts.counter counts c.in-Some.ensures c.counts.invariant (empty_is c.counts.rest.now c.if-is_empty.ensures), refl)
+    (counts, c.counts.invariant.size ∙ all_counted ∙ sym same_threads, c.counts.invariant.fit, counts_spelled text c.in-Some.words.now c.counts.rest.now c.counts.counter counts c.in-Some.ensures c.counts.invariant (empty_is c.counts.rest.now c.if-is_empty.ensures), refl)
 
 pub returns-clause-err : goal.returns-clause-err
 returns-clause-err c =
     let bytes = c.args.bytes.now in
     let text = c.in_ok-text.text.now in
-    let all : c.counts.counter ≡ c.args.threads = omega (arith, c.counts-test.false, c.counts.auto.counter-end) in
-    inr (λ config same. (
+    let all_counted : c.counts.counter ≡ c.args.threads = omega (arith, c.counts-test.false, c.counts.auto.counter-end) in
+    inr (λ config same_threads. (
       4,
       DumpWanted,
       c.dump_wanted-else-is_empty.ensures,
       stops_here (Counts config) 4 bytes DumpWanted
           (refused_here (Counts config) bytes text c.in_ok-text.behind.now tt c.in_ok-text.ensures.ok
-          (no_counts_line config c.args.threads text same
-          (counts_many text c.in-Some.words.now c.counts.rest.now c.counts.counter c.args.threads c.counts.counts c.in-Some.ensures c.counts.invariant all (empty_not c.counts.rest.now c.if-is_empty.ensures)))),
+          (no_counts_line config c.args.threads text same_threads
+          (counts_many text c.in-Some.words.now c.counts.rest.now c.counts.counter c.args.threads c.counts.counts c.in-Some.ensures c.counts.invariant all_counted (empty_not c.counts.rest.now c.if-is_empty.ensures)))),
     ))

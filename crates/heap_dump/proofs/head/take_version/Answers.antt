@@ -13,15 +13,15 @@ use Rattle.heap_dump.proofs.head.take_version.Goals as goal
 
 pub returns-in_err-text-clause-err : goal.returns-in_err-text-clause-err
 returns-in_err-text-clause-err c =
-    let p = err_from_is_err_and c.from_residual.result c.from_residual.ensures.1 in
-    let h = c.in_err-text.ensures.err in
-    let same : p.0 ≡ BadLine 1 (ends_by h.0) = let q = p.2 in let w = h.2 in cc in
-    rw p.1 (1, ends_by h.0, same, stops_here Version 1 c.args.bytes.now (ends_by h.0) (ends_here Version c.args.bytes.now h.0 tt h.1))
+    let result_fault = err_from_is_err_and c.from_residual.result c.from_residual.ensures.1 in
+    let text_fault = c.in_err-text.ensures.err in
+    let same_fault : result_fault.0 ≡ BadLine 1 (ends_by text_fault.0) = let result_told = result_fault.2 in let text_told = text_fault.2 in cc in
+    rw result_fault.1 (1, ends_by text_fault.0, same_fault, stops_here Version 1 c.args.bytes.now (ends_by text_fault.0) (ends_here Version c.args.bytes.now text_fault.0 tt text_fault.1))
 
 pub returns-then-eq-clause-ok : goal.returns-then-eq-clause-ok
 returns-then-eq-clause-ok c =
-    let is = same_bytes c.in_ok-text.text.now (codes "dump 1") (rw (← c.as_slice.ensures) c.if-eq.ensures) in
-    leads_one Version Heap c.args.bytes.now c.in_ok-text.text.now c.in_ok-text.rest.now c.in_ok-text.ensures.ok (ap (λ (t : List ℕ). t ++ newline ∷ []) is ∙ sym version_line, refl)
+    let same_text = same_bytes c.in_ok-text.text.now (codes "dump 1") (rw (← c.as_slice.ensures) c.if-eq.ensures) in
+    leads_one Version Heap c.args.bytes.now c.in_ok-text.text.now c.in_ok-text.rest.now c.in_ok-text.ensures.ok (ap (λ (some_text : List ℕ). some_text ++ newline ∷ []) same_text ∙ sym version_line, refl)
 
 pub returns-else-eq-clause-err : goal.returns-else-eq-clause-err
 returns-else-eq-clause-err c = (

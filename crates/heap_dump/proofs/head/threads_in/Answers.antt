@@ -3,12 +3,12 @@ use Rattle.heap_dump.proofs.HeadLines.{title_there, rest_is, numbers_are, number
 use Rattle.heap_dump.proofs.head.threads_in.Goals as goal
 
 pub returns-in_err-rest : goal.returns-in_err-rest
-returns-in_err-rest c = rw c.from_residual.ensures (λ h same e. title_there (codes "threads") (threads_numbers h) c.args.text.now c.in_err-rest.ensures e)
+returns-in_err-rest c = rw c.from_residual.ensures (λ config same_heap spelled. title_there (codes "threads") (threads_numbers config) c.args.text.now c.in_err-rest.ensures spelled)
 
 pub returns-in_err-threads : goal.returns-in_err-threads
 returns-in_err-threads c =
     rw c.from_residual-in_err-threads.ensures
-    (λ config same e. numbers_there threads_limits (threads_numbers config) c.in_ok-rest.rest.now c.in_err-threads.ensures (rest_is (codes "threads") (threads_numbers config) c.args.text.now c.in_ok-rest.rest.now c.in_ok-rest.ensures e) (threads_within config) threads_small)
+    (λ config same_heap spelled. numbers_there threads_limits (threads_numbers config) c.in_ok-rest.rest.now c.in_err-threads.ensures (rest_is (codes "threads") (threads_numbers config) c.args.text.now c.in_ok-rest.rest.now c.in_ok-rest.ensures spelled) (threads_within config) threads_small)
 
 pub returns-in-Ok : goal.returns-in-Ok
 returns-in-Ok c = (
@@ -18,11 +18,11 @@ returns-in-Ok c = (
 )
 
 pub returns-in_default : goal.returns-in_default
-returns-in_default c = λ h same e.
-    let is = numbers_are threads_limits (threads_numbers h) c.in_ok-rest.rest.now _ c.in_ok-threads.ensures (rest_is (codes "threads") (threads_numbers h) c.args.text.now c.in_ok-rest.rest.now c.in_ok-rest.ensures e) (threads_within h) threads_small in
-    empty_not c.in_ok-threads.rest.now c.if-is_empty.ensures (ap (λ (x : List ℕ × List ℕ). x.1) is)
+returns-in_default c = λ config same_heap spelled.
+    let numbers_told = numbers_are threads_limits (threads_numbers config) c.in_ok-rest.rest.now _ c.in_ok-threads.ensures (rest_is (codes "threads") (threads_numbers config) c.args.text.now c.in_ok-rest.rest.now c.in_ok-rest.ensures spelled) (threads_within config) threads_small in
+    empty_not c.in_ok-threads.rest.now c.if-is_empty.ensures (ap (λ (pair : List ℕ × List ℕ). pair.1) numbers_told)
 
 pub returns-in_default-2 : goal.returns-in_default-2
-returns-in_default-2 c = λ h same e.
+returns-in_default-2 c = λ config same_heap spelled.
     let fault = rw (c.regions.ensures, c.region_words.ensures, c.reserve.ensures) at c.in_default.ensures.fault in
-    threads_refused c.args.heap.now c.args.text.now c.in_ok-rest.rest.now c.in_ok-threads.rest.now c.in_ok-threads.threads _ c.in_ok-rest.ensures c.in_ok-threads.ensures fault (λ is. let e = is in cc) c.requires h same e
+    threads_refused c.args.heap.now c.args.text.now c.in_ok-rest.rest.now c.in_ok-threads.rest.now c.in_ok-threads.threads _ c.in_ok-rest.ensures c.in_ok-threads.ensures fault (λ fault_told. let spelled = fault_told in cc) c.requires config same_heap spelled

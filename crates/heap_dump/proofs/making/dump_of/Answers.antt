@@ -9,12 +9,12 @@ use Rattle.heap_dump.proofs.FormedDumps.{counts_made, text_has_dump, text_dump}
 use Rattle.heap_dump.proofs.making.dump_of.Goals as goal
 
 abbrev seen_dump : Dump → Dumped
-seen_dump d = dumped d.config d.counts d.graph
+seen_dump dump = dumped dump.config dump.counts dump.graph
 
 -- what follows of any dump follows of this one
-weaker : {E : Type 0} (P Q : Dumped → Type 0) → ((dump : Dumped) → P dump → Q dump) → (r : Result Dump E) → IfOk r (λ dump. P (seen_dump dump)) → IfOk r (λ dump. Q (seen_dump dump))
+weaker : {E : Type 0} (P Q : Dumped → Type 0) → ((dump : Dumped) → P dump → Q dump) → (result : Result Dump E) → IfOk result (λ dump. P (seen_dump dump)) → IfOk result (λ dump. Q (seen_dump dump))
 weaker P Q follows (Ok dump) holds = follows (seen_dump dump) holds
-weaker P Q follows (Err f) holds = tt
+weaker P Q follows (Err fault) holds = tt
 
 pub of-requires : goal.of-requires
 of-requires c =
@@ -37,7 +37,7 @@ pub returns-clause-counts : goal.returns-clause-counts
 returns-clause-counts c =
     let history = c.args.history.now.list in
     let config = c.args.config in
-    weaker (IsDumpOf config (graph_in (dumped config c.in_ok-counts.counts c.args.graph.now))) (λ d. d.counts ≡ objects_made_by_each history config.mutators)
-    (λ dump is. counts_made config history dump c.requires.history
-    (text_dump config history c.in_ok-counts.counts c.args.graph.now c.requires.narrow c.requires.history c.requires.graph (c.in_ok-counts.ensures ∙ ap (objects_made_by_each history) c.mutators.ensures) dump is))
+    weaker (IsDumpOf config (graph_in (dumped config c.in_ok-counts.counts c.args.graph.now))) (λ some_dump. some_dump.counts ≡ objects_made_by_each history config.mutators)
+    (λ dump dump_made. counts_made config history dump c.requires.history
+    (text_dump config history c.in_ok-counts.counts c.args.graph.now c.requires.narrow c.requires.history c.requires.graph (c.in_ok-counts.ensures ∙ ap (objects_made_by_each history) c.mutators.ensures) dump dump_made))
     c.of.result c.of.ensures.dump

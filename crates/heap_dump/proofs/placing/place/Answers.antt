@@ -18,7 +18,7 @@ pub returns-clause-begins : goal.returns-clause-begins
 returns-clause-begins c =
     let dump = c.args.dump.now in
     of_both (λ (image : Image). IsPlaced dump.config dump.graph (memory_of image))
-    (λ (image : Image). (counts : List ℕ) (graph : Graph) → IsGraphOf dump.config dump.graph counts graph → Represents dump.config (memory_of image) graph (λ t. nothing))
+    (λ (image : Image). (counts : List ℕ) (graph : Graph) → IsGraphOf dump.config dump.graph counts graph → Represents dump.config (memory_of image) graph (λ any_thread. nothing))
     (λ (image : Image). CanBeginFrom dump.config (memory_of image) dump.counts (graph_in (dumped dump.config dump.counts dump.graph)))
     (λ image placed stands. can_begin dump.config dump.counts dump.graph c.requires (memory_of image) placed stands)
     c.place.result c.place.ensures.placed c.place.ensures.stands

@@ -10,12 +10,12 @@ reach-requires-clause-led c =
 
 pub loop-index-preserved : goal.loop-index-preserved
 loop-index-preserved c =
-    let w = rw c.if-not-branch.false at c.in_ok-reach.ensures.ok in
+    let reach_done = rw c.if-not-branch.false at c.in_ok-reach.ensures.ok in
     record {
-      reached = w.0;
-      more = grows_both _ _ _ _ _ _ c.loop-index.invariant.more w.1;
-      done = (fields_more c.args.graph.now c.loop-index.reached.marks.items c.reach.new.reached.marks.items c.args.row c.loop-index.index c.reference_at.result c.loop-index.invariant.done w.1.kept
-          (omega (arith, c.loop-index-test.true, c.refs_at-index-end.ensures)) c.reference_at.ensures w.2);
+      reached = reach_done.0;
+      more = grows_both _ _ _ _ _ _ c.loop-index.invariant.more reach_done.1;
+      done = (fields_more c.args.graph.now c.loop-index.reached.marks.items c.reach.new.reached.marks.items c.args.row c.loop-index.index c.reference_at.result c.loop-index.invariant.done reach_done.1.kept
+          (omega (arith, c.loop-index-test.true, c.refs_at-index-end.ensures)) c.reference_at.ensures reach_done.2);
     }
 
 pub returns : goal.returns
@@ -23,6 +23,6 @@ returns c = record {
   ok = (
     c.loop-index.invariant.reached,
     c.loop-index.invariant.more,
-    λ field r at. c.loop-index.invariant.done field r (omega (arith, index_in_range (row_of c.args.graph.now c.args.row).refs field r at, c.refs_at-index-end.ensures, c.loop-index-test.false)) at,
+    λ field reference reference_at. c.loop-index.invariant.done field reference (omega (arith, index_in_range (row_of c.args.graph.now c.args.row).refs field reference reference_at, c.refs_at-index-end.ensures, c.loop-index-test.false)) reference_at,
   );
 }

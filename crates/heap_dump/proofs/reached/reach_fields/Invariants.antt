@@ -6,8 +6,8 @@ use Rattle.heap_dump.specs.RowsReached.{IsReachMarked, Grows, RowsAreReached}
 use Rattle.heap_dump.proofs.reached.reach_fields.Given as goal
 
 abbrev pub invariant-loop-index : goal.invariant-loop-index
-invariant-loop-index l = record {
-  reached : RowsAreReached l.graph l.reached.marks.items l.reached.order.items;
-  more : Grows l.initial.reached.marks.items l.initial.reached.order.items l.reached.marks.items l.reached.order.items;
-  done : (field : ℕ) (reference : Reference) → field < l.index → slice_get (row_of l.graph l.row).refs field ≡ Some reference → IsReachMarked l.graph l.reached.marks.items reference;
+invariant-loop-index loop = record {
+  reached : RowsAreReached loop.graph loop.reached.marks.items loop.reached.order.items;
+  more : Grows loop.initial.reached.marks.items loop.initial.reached.order.items loop.reached.marks.items loop.reached.order.items;
+  done : (field : ℕ) (reference : Reference) → field < loop.index → slice_get (row_of loop.graph loop.row).refs field ≡ Some reference → IsReachMarked loop.graph loop.reached.marks.items reference;
 }

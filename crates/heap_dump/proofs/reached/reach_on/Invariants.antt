@@ -4,12 +4,12 @@ use Rattle.heap_dump.specs.RowsReached.{AreMarked, Grows, RowsAreReached}
 use Rattle.heap_dump.proofs.reached.reach_on.Given as goal
 
 abbrev pub invariant-rows : goal.invariant-rows
-invariant-rows l = record {
-  reached : RowsAreReached l.graph l.reached.marks.items l.reached.order.items;
-  more : Grows l.initial.reached.marks.items l.initial.reached.order.items l.reached.marks.items l.reached.order.items;
-  next : l.next ≤ length l.reached.order.items;
-  done : (k : ℕ) → k < l.next → AreMarked l.graph l.reached.marks.items (row_of l.graph (get_or l.reached.order.items k 0)).refs;
+invariant-rows loop = record {
+  reached : RowsAreReached loop.graph loop.reached.marks.items loop.reached.order.items;
+  more : Grows loop.initial.reached.marks.items loop.initial.reached.order.items loop.reached.marks.items loop.reached.order.items;
+  next : loop.next ≤ length loop.reached.order.items;
+  done : (index : ℕ) → index < loop.next → AreMarked loop.graph loop.reached.marks.items (row_of loop.graph (get_or loop.reached.order.items index 0)).refs;
 }
 
 abbrev pub decreases-rows : goal.decreases-rows
-decreases-rows l = length l.graph.rows - l.next
+decreases-rows loop = length loop.graph.rows - loop.next

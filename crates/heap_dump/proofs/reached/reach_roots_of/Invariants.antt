@@ -4,8 +4,8 @@ use Rattle.heap_dump.specs.RowsReached.{IsReachMarked, Grows, RowsAreReached}
 use Rattle.heap_dump.proofs.reached.reach_roots_of.Given as goal
 
 abbrev pub invariant-loop-index : goal.invariant-loop-index
-invariant-loop-index l = record {
-  reached : RowsAreReached l.graph l.reached.marks.items l.reached.order.items;
-  more : Grows l.initial.reached.marks.items l.initial.reached.order.items l.reached.marks.items l.reached.order.items;
-  done : (index : ℕ) → index < l.index → IsReachMarked l.graph l.reached.marks.items (root_of l.graph l.thread index);
+invariant-loop-index loop = record {
+  reached : RowsAreReached loop.graph loop.reached.marks.items loop.reached.order.items;
+  more : Grows loop.initial.reached.marks.items loop.initial.reached.order.items loop.reached.marks.items loop.reached.order.items;
+  done : (index : ℕ) → index < loop.index → IsReachMarked loop.graph loop.reached.marks.items (root_of loop.graph loop.thread index);
 }

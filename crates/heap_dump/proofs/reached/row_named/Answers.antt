@@ -12,17 +12,17 @@ pub halves-preserved-then-is_before : goal.halves-preserved-then-is_before
 halves-preserved-then-is_before c =
     let graph = c.args.graph.now in
     let middle = c.halves.low + (c.halves.high - c.halves.low) / 2 in
-    let same : c.name_at-found.result ≡ get_or (names_of graph) middle hub = c.name_at-found.ensures ∙ sym (name_in_row graph middle) in
+    let same_middle : c.name_at-found.result ≡ get_or (names_of graph) middle hub = c.name_at-found.ensures ∙ sym (name_in_row graph middle) in
     between_up (names_of graph) c.args.name c.halves.low c.halves.high middle c.requires c.halves.invariant (omega (arith, c.halves-test.true))
-    (subst (λ (name : Name). IsBefore name c.args.name) same (c.if-is_before.ensures.0 refl))
+    (subst (λ (name : Name). IsBefore name c.args.name) same_middle (c.if-is_before.ensures.0 refl))
 
 pub halves-preserved : goal.halves-preserved
 halves-preserved c =
     let graph = c.args.graph.now in
     let middle = c.halves.low + (c.halves.high - c.halves.low) / 2 in
-    let same : c.name_at-found.result ≡ get_or (names_of graph) middle hub = c.name_at-found.ensures ∙ sym (name_in_row graph middle) in
+    let same_middle : c.name_at-found.result ≡ get_or (names_of graph) middle hub = c.name_at-found.ensures ∙ sym (name_in_row graph middle) in
     between_down (names_of graph) c.args.name c.halves.low c.halves.high middle c.requires c.halves.invariant (omega (arith, c.halves-test.true))
-    (subst (IsBefore c.args.name) same (other_way c.name_at-found.result c.args.name c.if-eq.ensures (λ before. false≢true (c.if-is_before.ensures.1 before))))
+    (subst (IsBefore c.args.name) same_middle (other_way c.name_at-found.result c.args.name c.if-eq.ensures (λ name_before. false≢true (c.if-is_before.ensures.1 name_before))))
 
 pub returns : goal.returns
 returns c = between_none (names_of c.args.graph.now) c.args.name c.halves.low c.halves.high c.halves.invariant c.halves-test.false

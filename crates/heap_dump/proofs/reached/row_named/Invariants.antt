@@ -4,7 +4,7 @@ use Rattle.heap_dump.proofs.Ordered.{Between}
 use Rattle.heap_dump.proofs.reached.row_named.Given as goal
 
 abbrev pub invariant-halves : goal.invariant-halves
-invariant-halves l = Between (names_of l.graph) l.name l.low l.high
+invariant-halves loop = Between (names_of loop.graph) loop.name loop.low loop.high
 
 abbrev pub decreases-halves : goal.decreases-halves
-decreases-halves l = l.high - l.low
+decreases-halves loop = loop.high - loop.low

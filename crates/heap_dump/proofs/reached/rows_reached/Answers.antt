@@ -8,16 +8,16 @@ use Rattle.heap_dump.proofs.reached.rows_reached.Goals as goal
 pub reach_roots-requires-clause-reached : goal.reach_roots-requires-clause-reached
 reach_roots-requires-clause-reached c =
     let graph = c.args.graph.now in
-    let marks = c.in_ok-no_marks.ensures ∙ ap (λ n. replicate n false) c.rows.ensures in
+    let marks = c.in_ok-no_marks.ensures ∙ ap (λ count. replicate count false) c.rows.ensures in
     subst (λ (xs : List ℕ). RowsAreReached graph c.in_ok-no_marks.field-0.items xs) (sym c.new.ensures.items)
-    (subst (λ (bs : List Bool). RowsAreReached graph bs []) (sym marks) (none_reached graph))
+    (subst (λ (flags : List Bool). RowsAreReached graph flags []) (sym marks) (none_reached graph))
 
 pub returns : goal.returns
 returns c =
     let graph = c.args.graph.now in
-    let a = rw c.if-not-branch.false at c.in_ok-reach_roots.ensures.ok in
-    let b = rw c.if-not-branch-2.false at c.in_ok-reach_on.ensures.ok in
+    let roots_reached = rw c.if-not-branch.false at c.in_ok-reach_roots.ensures.ok in
+    let all_reached = rw c.if-not-branch-2.false at c.in_ok-reach_on.ensures.ok in
     let marks = c.reach_on.new.reached.marks.items in
     let order = c.reach_on.new.reached.order.items in
-    let roots : (other_index index : ℕ) → other_index < length graph.roots → index < 16 → IsReachMarked graph marks (root_of graph (other_index + 1) index) = λ other_index index low few. still_marked graph c.reach_roots.new.reached.marks.items marks (root_of graph (other_index + 1) index) b.1.kept (a.1 other_index index low few) in
-    marks_reached graph marks order c.requires.order a.2 b.0 roots b.2
+    let roots : (mutator index : ℕ) → mutator < length graph.roots → index < 16 → IsReachMarked graph marks (root_of graph (mutator + 1) index) = λ mutator index low few. still_marked graph c.reach_roots.new.reached.marks.items marks (root_of graph (mutator + 1) index) all_reached.1.kept (roots_reached.1 mutator index low few) in
+    marks_reached graph marks order c.requires.order roots_reached.2 all_reached.0 roots all_reached.2

@@ -3,4 +3,4 @@ use Rattle.heap_dump.specs.Listing.{separators}
 use Rattle.heap_dump.proofs.read.separators.Given as goal
 
 abbrev pub invariant-loop-byte : goal.invariant-loop-byte
-invariant-loop-byte l = record { count : l.count ≡ separators (take l.byte-index l.bytes); few : l.count ≤ l.byte-index }
+invariant-loop-byte loop = record { count : loop.count ≡ separators (take loop.byte-index loop.bytes); few : loop.count ≤ loop.byte-index }

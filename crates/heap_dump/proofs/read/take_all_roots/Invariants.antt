@@ -4,4 +4,4 @@ use Rattle.heap_dump.specs.Listing.{HasTakenRoots}
 use Rattle.heap_dump.proofs.read.take_all_roots.Given as goal
 
 abbrev pub invariant-loop-mutator : goal.invariant-loop-mutator
-invariant-loop-mutator l = (all : List (List Reference)) × HasTakenRoots l.bytes l.rest l.mutator l.fn.graph l.graph all
+invariant-loop-mutator loop = (all_roots : List (List Reference)) × HasTakenRoots loop.bytes loop.rest loop.mutator loop.fn.graph loop.graph all_roots

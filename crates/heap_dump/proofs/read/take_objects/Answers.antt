@@ -17,15 +17,15 @@ returns-then-not-take_object-clause-err c = λ config.
     let bytes = c.args.bytes.now in
     let rest = c.objects.rest.now in
     let lines = c.objects.lines in
-    let taken = c.objects.invariant in
+    let objects_taken = c.objects.invariant in
     let line = c.in-Some.ensures.line in
-    let at = Listed (listed config counts taken.rows []) in (
+    let reader = Listed (listed config counts objects_taken.rows []) in (
       5 + lines,
       DumpWanted,
       c.dump_wanted.ensures,
-      stops_behind (Listed (listed config counts [] [])) at 5 (5 + lines) bytes rest lines (5 + lines) DumpWanted (taken.led config) refl
-          (stops_here at (5 + lines) rest DumpWanted (refused_here at rest line.0 c.in-Some.behind.now tt line.1
-          (rows_refused counts bytes rest c.in-Some.behind.now lines c.args.graph.now c.objects.graph line.0 c.in-Some.words.now config taken line.2 c.requires.counts (λ k. omega (arith, c.type_inv.counts k)) c.if-not-take_object.ensures))),
+      stops_behind (Listed (listed config counts [] [])) reader 5 (5 + lines) bytes rest lines (5 + lines) DumpWanted (objects_taken.led config) refl
+          (stops_here reader (5 + lines) rest DumpWanted (refused_here reader rest line.0 c.in-Some.behind.now tt line.1
+          (rows_refused counts bytes rest c.in-Some.behind.now lines c.args.graph.now c.objects.graph line.0 c.in-Some.words.now config objects_taken line.2 c.requires.counts (λ index. omega (arith, c.type_inv.counts index)) c.if-not-take_object.ensures))),
     )
 
 pub objects-preserved : goal.objects-preserved

@@ -3,7 +3,7 @@ use Rattle.heap_dump.specs.Listing.{HasTakenRows}
 use Rattle.heap_dump.proofs.read.take_objects.Given as goal
 
 abbrev pub invariant-objects : goal.invariant-objects
-invariant-objects l = HasTakenRows l.counts l.bytes l.rest l.lines l.fn.graph l.graph
+invariant-objects loop = HasTakenRows loop.counts loop.bytes loop.rest loop.lines loop.fn.graph loop.graph
 
 abbrev pub decreases-objects : goal.decreases-objects
-decreases-objects l = length l.rest
+decreases-objects loop = length loop.rest

@@ -8,8 +8,8 @@ use Rattle.heap_dump.proofs.TakenRoots.{both_ways, first_is, none_first, decimal
 use Rattle.heap_dump.proofs.roots.take_numbered.Goals as goal
 
 pub returns-in_default : goal.returns-in_default
-returns-in_default c = λ roots all.
-    none_first (decimal c.args.thread) [] roots (subst (λ (ws : List (List ℕ)). AreRootsWords ws (decimal c.args.thread ∷ []) roots) c.in_default.ensures.words all)
+returns-in_default c = λ roots roots_words.
+    none_first (decimal c.args.thread) [] roots (subst (λ (some_words : List (List ℕ)). AreRootsWords some_words (decimal c.args.thread ∷ []) roots) c.in_default.ensures.words roots_words)
 
 pub returns-in-Some-number_in : goal.returns-in-Some-number_in
 returns-in-Some-number_in c =
@@ -19,8 +19,8 @@ returns-in-Some-number_in c =
     (c.in-Some-number_in.ensures.1 ∙ ap decimal c.if-number-thread.true) c.take_root_words.ensures)
 
 pub returns-in_default-number_in : goal.returns-in_default-number_in
-returns-in_default-number_in c = λ roots all.
-    let whole = subst (λ (ws : List (List ℕ)). AreRootsWords ws (decimal c.args.thread ∷ []) roots) c.in-Some.ensures.words all in
-    let is = first_is c.in-Some.word.now (decimal c.args.thread) (parts_behind 32 c.in-Some.rest.now) [] roots whole in
+returns-in_default-number_in c = λ roots roots_words.
+    let whole_words = subst (λ (some_words : List (List ℕ)). AreRootsWords some_words (decimal c.args.thread ∷ []) roots) c.in-Some.ensures.words roots_words in
+    let first_told = first_is c.in-Some.word.now (decimal c.args.thread) (parts_behind 32 c.in-Some.rest.now) [] roots whole_words in
     let number = c.in-Some-number_in.ensures in
-    c.if-number-thread.false (decimal_once c.in-Some-number_in.number c.args.thread (omega (arith, number.0)) (omega (arith, c.requires.thread, c.requires.few)) (sym number.1 ∙ is))
+    c.if-number-thread.false (decimal_once c.in-Some-number_in.number c.args.thread (omega (arith, number.0)) (omega (arith, c.requires.thread, c.requires.few)) (sym number.1 ∙ first_told))

@@ -16,7 +16,7 @@ returns-then-eq c =
     (same_bytes c.cut.result.0.now (codes "roots") (rw (← c.as_slice.ensures) c.if-eq.ensures)) c.take_numbered.ensures)
 
 pub returns-else-eq : goal.returns-else-eq
-returns-else-eq c = λ roots all.
+returns-else-eq c = λ roots roots_words.
     not_same c.cut.result.0.now (codes "roots") (rw (← c.as_slice.ensures) c.if-eq.ensures)
     (first_is c.cut.result.0.now (codes "roots") (parts_behind 32 c.cut.result.1.now) (decimal c.args.thread ∷ []) roots
-    (subst (λ (ws : List (List ℕ)). AreRootsWords ws (codes "roots" ∷ decimal c.args.thread ∷ []) roots) c.cut.ensures.parts all))
+    (subst (λ (some_words : List (List ℕ)). AreRootsWords some_words (codes "roots" ∷ decimal c.args.thread ∷ []) roots) c.cut.ensures.parts roots_words))

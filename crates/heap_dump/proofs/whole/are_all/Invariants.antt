@@ -2,4 +2,4 @@ use Rattle.std.proofs.Common.{ℕ, ◌≡◌, ◌<◌, true, false, get_or}
 use Rattle.heap_dump.proofs.whole.are_all.Given as goal
 
 abbrev pub invariant-loop-mark : goal.invariant-loop-mark
-invariant-loop-mark l = (row : ℕ) → row < l.mark-index → get_or l.marks row false ≡ true
+invariant-loop-mark loop = (row : ℕ) → row < loop.mark-index → get_or loop.marks row false ≡ true

@@ -6,5 +6,5 @@ returns-in-Some c =
     let graph = c.args.graph.now in
     let marks = c.in-Some.marks.items in
     let reached = rw c.in-Some.is at c.in_ok-marks.ensures in
-    let all = rw c.deref.ensures.value at c.are_all.ensures in
-    (λ is. whole_reach graph marks c.requires.order reached (all.0 is), λ reach. all.1 (not_all_reach graph marks c.requires.order reached reach))
+    let all_told = rw c.deref.ensures.value at c.are_all.ensures in
+    (λ result_true. whole_reach graph marks c.requires.order reached (all_told.0 result_true), λ reach. all_told.1 (not_all_reach graph marks c.requires.order reached reach))

@@ -15,16 +15,16 @@ loop-count-init g c = puts_same (sym (append-nil title)) c.put.ensures.put
 pub loop-count-preserved : goal.loop-count-preserved
 loop-count-preserved g c =
     let counts = c.args.counts.now in
-    let i = c.loop-count.count-index in
+    let index = c.loop-count.count-index in
     puts_same
-    (append_assoc title (numbers (take i counts)) _
-    ∙ ap (λ t. title ++ t) (flat_map-take_more (λ n. space ∷ decimal n) counts i _ (omega arith)))
+    (append_assoc title (numbers (take index counts)) _
+    ∙ ap (λ text. title ++ text) (flat_map-take_more (λ number. space ∷ decimal number) counts index _ (omega arith)))
     (puts_both c.loop-count.invariant (puts_both c.put-in-loop-count.ensures.put c.put_number.ensures.put))
 
 pub returns : goal.returns
 returns g c =
     let counts = c.args.counts.now in
     puts_same
-    (ap (λ (ns : List ℕ). (title ++ numbers ns) ++ newline ∷ []) (take_all c.loop-count.count-index counts c.loop-count-test.false)
+    (ap (λ (some_counts : List ℕ). (title ++ numbers some_counts) ++ newline ∷ []) (take_all c.loop-count.count-index counts c.loop-count-test.false)
     ∙ append_assoc title (numbers counts) (newline ∷ []))
     (puts_both c.loop-count.invariant c.put-2.ensures.put)

@@ -11,5 +11,5 @@ pub returns : goal.returns
 returns g c =
     let dump = c.args.dump.now in
     let counts = puts_same (ap (titled (codes "counts")) c.list.ensures) c.put_counts.ensures in
-    let roots = puts_same (ap (λ n. flat_map (roots_line_in dump.graph.roots) (thread_numbers n)) c.requires.form.each) c.put_roots.ensures in
+    let roots = puts_same (ap (λ thread_count. flat_map (roots_line_in dump.graph.roots) (thread_numbers thread_count)) c.requires.form.each) c.put_roots.ensures in
     c.finish.ensures.ended _ _ (taken_by_new c.new-block.ensures (puts_both c.put_head.ensures (puts_both counts (puts_both c.put_objects.ensures roots))))

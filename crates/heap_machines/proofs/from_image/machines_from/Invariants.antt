@@ -7,8 +7,8 @@ use Rattle.heap_machines.specs.FromImage.{machine_from}
 use Rattle.heap_machines.proofs.from_image.machines_from.Given as goal
 
 abbrev pub invariant-loop-number : goal.invariant-loop-number
-invariant-loop-number l = record {
-  machines : map shown l.machines.items ≡ map (machine_from (config_of l.image) l.counts (memory_of l.image)) (range_with_len 0 l.number);
-  heap : All (λ m. machine_config m ≡ config_of l.image) l.machines.items;
-  orders : All (λ m. order_of m ≡ Nothing) l.machines.items;
+invariant-loop-number loop = record {
+  machines : map shown loop.machines.items ≡ map (machine_from (config_of loop.image) loop.counts (memory_of loop.image)) (range_with_len 0 loop.number);
+  heap : All (λ machine. machine_config machine ≡ config_of loop.image) loop.machines.items;
+  orders : All (λ machine. order_of machine ≡ Nothing) loop.machines.items;
 }

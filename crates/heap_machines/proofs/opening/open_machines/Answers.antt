@@ -10,8 +10,8 @@ loop-number-preserved c =
     let grown = c.in-Ok.ensures.items in
     record {
       machines = ap (map shown) grown ∙ machines_more c.args.config c.loop-number.machines.items c.in_ok-machine.machine c.loop-number.number c.loop-number.invariant.machines c.in_ok-machine.ensures.shown;
-      heap = subst (λ xs. All (λ m. config_of m ≡ c.args.config) xs) (sym grown)
-          (All-push (λ m. config_of m ≡ c.args.config) c.loop-number.machines.items c.in_ok-machine.machine c.loop-number.invariant.heap c.in_ok-machine.ensures.heap);
-      orders = subst (λ xs. All (λ m. order_of m ≡ Nothing) xs) (sym grown)
-          (All-push (λ m. order_of m ≡ Nothing) c.loop-number.machines.items c.in_ok-machine.machine c.loop-number.invariant.orders c.in_ok-machine.ensures.order);
+      heap = subst (λ xs. All (λ machine. config_of machine ≡ c.args.config) xs) (sym grown)
+          (All-push (λ machine. config_of machine ≡ c.args.config) c.loop-number.machines.items c.in_ok-machine.machine c.loop-number.invariant.heap c.in_ok-machine.ensures.heap);
+      orders = subst (λ xs. All (λ machine. order_of machine ≡ Nothing) xs) (sym grown)
+          (All-push (λ machine. order_of machine ≡ Nothing) c.loop-number.machines.items c.in_ok-machine.machine c.loop-number.invariant.orders c.in_ok-machine.ensures.order);
     }

@@ -6,8 +6,8 @@ use Rattle.heap_machines.specs.Shown.{shown, order_of, config_of}
 use Rattle.heap_machines.proofs.opening.open_machines.Given as goal
 
 abbrev pub invariant-loop-number : goal.invariant-loop-number
-invariant-loop-number l = record {
-  machines : map shown l.machines.items ≡ map (opening_machine l.config) (range_with_len 0 l.number);
-  heap : All (λ m. config_of m ≡ l.config) l.machines.items;
-  orders : All (λ m. order_of m ≡ Nothing) l.machines.items;
+invariant-loop-number loop = record {
+  machines : map shown loop.machines.items ≡ map (opening_machine loop.config) (range_with_len 0 loop.number);
+  heap : All (λ machine. config_of machine ≡ loop.config) loop.machines.items;
+  orders : All (λ machine. order_of machine ≡ Nothing) loop.machines.items;
 }

@@ -11,16 +11,16 @@ loop-seat-init c = (c.requires.config, none_out (memory_of c.args.image.now))
 
 pub loop-seat-preserved : goal.loop-seat-preserved
 loop-seat-preserved c =
-    let l = c.loop-seat in
+    let loop = c.loop-seat in
     let config = c.args.config in
-    let inside = c.loop-seat-test.true in
-    let end = l.auto.seat-end in (
-      c.set_word.ensures.config ∙ l.invariant.0,
-      stored (config_of l.image) config (memory_of l.image) (memory_of c.set_word.new.self) (State l.seat) c.state_at.result 0 l.invariant.0 (omega (arith, inside, end, c.mutators.ensures, c.helpers.ensures)) c.state_at.ensures c.set_word.ensures.named
-          ∙ ap (λ m. write m (State l.seat) 0) l.invariant.1 ∙ next_out l.seat (memory_of c.args.image.now),
+    let seat_inside = c.loop-seat-test.true in
+    let end_known = loop.auto.seat-end in (
+      c.set_word.ensures.config ∙ loop.invariant.0,
+      stored (config_of loop.image) config (memory_of loop.image) (memory_of c.set_word.new.self) (State loop.seat) c.state_at.result 0 loop.invariant.0 (omega (arith, seat_inside, end_known, c.mutators.ensures, c.helpers.ensures)) c.state_at.ensures c.set_word.ensures.named
+          ∙ ap (λ some_memory. write some_memory (State loop.seat) 0) loop.invariant.1 ∙ next_out loop.seat (memory_of c.args.image.now),
     )
 
 pub returns-clause-words : goal.returns-clause-words
 returns-clause-words c =
-    let l = c.loop-seat in
-    l.invariant.1 ∙ ap (λ seats. words_left_out seats (memory_of c.args.image.now)) (omega (arith, c.loop-seat-test.false, l.auto.seat-end, c.mutators.ensures, c.helpers.ensures))
+    let loop = c.loop-seat in
+    loop.invariant.1 ∙ ap (λ seats. words_left_out seats (memory_of c.args.image.now)) (omega (arith, c.loop-seat-test.false, loop.auto.seat-end, c.mutators.ensures, c.helpers.ensures))

@@ -4,4 +4,4 @@ use Rattle.heap_machines.specs.Reopened.{words_left_out}
 use Rattle.heap_machines.proofs.reopening.leave_all.Given as goal
 
 abbrev pub invariant-loop-seat : goal.invariant-loop-seat
-invariant-loop-seat l = (config_of l.image ≡ l.config) × (memory_of l.image ≡ words_left_out l.seat (memory_of l.initial.image))
+invariant-loop-seat loop = (config_of loop.image ≡ loop.config) × (memory_of loop.image ≡ words_left_out loop.seat (memory_of loop.initial.image))

@@ -19,11 +19,11 @@ pub seated-requires-clause-count : goal.seated-requires-clause-count
 seated-requires-clause-count c = c.in_ok-heap.ensures.count ∙ c.seats.ensures
 
 pub seated-requires-clause-bundles : goal.seated-requires-clause-bundles
-seated-requires-clause-bundles c k b there =
-    let opened = c.in_ok-heap.ensures in
+seated-requires-clause-bundles c index bundle bundle_there =
+    let heap_opened = c.in_ok-heap.ensures in
     let heap = c.in_ok-heap.heap in
-    subst (λ (stage : Stage Actor). IsFresh heap b (dealt_in c.args.config stage k)) (sym opened.opening)
-    (subst (λ workers. IsFresh heap b (dealt_to workers k (whole (Rattle.table_heap.specs.Core.heap_opening c.args.config).machines))) c.seats.ensures (opened.bundles k b there))
+    subst (λ (stage : Stage Actor). IsFresh heap bundle (dealt_in c.args.config stage index)) (sym heap_opened.opening)
+    (subst (λ workers. IsFresh heap bundle (dealt_to workers index (whole (Rattle.table_heap.specs.Core.heap_opening c.args.config).machines))) c.seats.ensures (heap_opened.bundles index bundle bundle_there))
 
 pub seated-requires-clause-begins : goal.seated-requires-clause-begins
 seated-requires-clause-begins c =

@@ -10,16 +10,16 @@ use Rattle.heap_seats.proofs.opening.seated.Goals as goal
 pub loop-number-init : goal.loop-number-init
 loop-number-init c =
     let config = c.args.config in
-    let h = arc_value c.in-Ok.heap in
-    subst (λ bundles. Opens config h bundles c.in-Ok-with_capacity.seats.items 0) (sym c.reverse.ensures.items)
-    (subst (λ seats. Opens config h (reverse c.args.bundles.items) seats 0) (sym c.in-Ok-with_capacity.ensures.items)
-    (opens_first config h c.args.bundles.items c.requires.count
-    (λ k bundle there. subst (λ (heap : Heap). IsFresh heap bundle (dealt_in config (start_of_heap heap) k)) (sym c.in-Ok.ensures.ok) (c.requires.bundles k bundle there))))
+    let shared_heap = arc_value c.in-Ok.heap in
+    subst (λ bundles. Opens config shared_heap bundles c.in-Ok-with_capacity.seats.items 0) (sym c.reverse.ensures.items)
+    (subst (λ seats. Opens config shared_heap (reverse c.args.bundles.items) seats 0) (sym c.in-Ok-with_capacity.ensures.items)
+    (opens_first config shared_heap c.args.bundles.items c.requires.count
+    (λ index bundle bundle_there. subst (λ (heap : Heap). IsFresh heap bundle (dealt_in config (start_of_heap heap) index)) (sym c.in-Ok.ensures.ok) (c.requires.bundles index bundle bundle_there))))
 
 pub unreachable-requires : goal.unreachable-requires
 unreachable-requires c =
-    let l = c.loop-number in
-    omega (arith, l.invariant.count, c.loop-number-test.true, c.in_default-pop.ensures.cases.0, l.bundles.ok.0, c.seats-number-end.ensures)
+    let loop = c.loop-number in
+    omega (arith, loop.invariant.count, c.loop-number-test.true, c.in_default-pop.ensures.cases.0, loop.bundles.ok.0, c.seats-number-end.ensures)
 
 pub open-requires-clause-fresh : goal.open-requires-clause-fresh
 open-requires-clause-fresh c =
@@ -30,17 +30,17 @@ open-requires-clause-begins c = subst (λ (heap : Heap). ∥ BeginsRenewable c.a
 
 pub loop-number-preserved : goal.loop-number-preserved
 loop-number-preserved c =
-    let l = c.loop-number in
-    let h = arc_value c.in-Ok.heap in
-    subst (λ seats. Opens c.args.config h c.pop.new.self.items seats (l.number + 1)) (sym c.in-Ok-push.ensures.items)
-    (opens_next c.args.config h l.bundles.items c.pop.new.self.items c.in-Some.bundle l.seats.items c.in_ok-seat.seat l.number l.invariant c.in-Some.ensures.items c.in_ok-seat.ensures)
+    let loop = c.loop-number in
+    let heap = arc_value c.in-Ok.heap in
+    subst (λ seats. Opens c.args.config heap c.pop.new.self.items seats (loop.number + 1)) (sym c.in-Ok-push.ensures.items)
+    (opens_next c.args.config heap loop.bundles.items c.pop.new.self.items c.in-Some.bundle loop.seats.items c.in_ok-seat.seat loop.number loop.invariant c.in-Some.ensures.items c.in_ok-seat.ensures)
 
 pub returns : goal.returns
 returns c =
-    let l = c.loop-number in
+    let loop = c.loop-number in
     record {
       heap = arc_value c.in-Ok.heap;
       begins = ap (λ (heap : Heap). start_of_heap heap) c.in-Ok.ensures.ok;
-      count = l.invariant.long ∙ omega (arith, c.loop-number-test.false, l.auto.number-end, c.seats-number-end.ensures);
-      each = l.invariant.each;
+      count = loop.invariant.long ∙ omega (arith, c.loop-number-test.false, loop.auto.number-end, c.seats-number-end.ensures);
+      each = loop.invariant.each;
     }

@@ -3,4 +3,4 @@ use Rattle.heap_seats.proofs.Opened.{Opens}
 use Rattle.heap_seats.proofs.opening.seated.Given as goal
 
 abbrev pub invariant-loop-number : goal.invariant-loop-number
-invariant-loop-number l = Opens l.config (arc_value l.heap) l.bundles.items l.seats.items l.number
+invariant-loop-number loop = Opens loop.config (arc_value loop.heap) loop.bundles.items loop.seats.items loop.number

@@ -5,4 +5,4 @@ use Rattle.table_heap.specs.State.{machine_at}
 use Rattle.heap_seats.proofs.renewing.count_made.Given as goal
 
 abbrev pub invariant-loop-mutator : goal.invariant-loop-mutator
-invariant-loop-mutator l = (length l.counts.items ≡ length l.initial.counts.items) × ((t : ℕ) → t < l.mutator → slice_index l.counts.items t ≡ made_of_machine (machine_at l.together t))
+invariant-loop-mutator loop = (length loop.counts.items ≡ length loop.initial.counts.items) × ((mutator : ℕ) → mutator < loop.mutator → slice_index loop.counts.items mutator ≡ made_of_machine (machine_at loop.together mutator))

@@ -27,24 +27,24 @@ renewed_seats-renewed-requires-clause-names c =
 pub returns-in-Ok : goal.returns-in-Ok
 returns-in-Ok c =
     let config = ends.config_of c.args.closed in
-    let left = ends.stage_of c.args.closed in
+    let stage_left = ends.stage_of c.args.closed in
     let text = c.graph.new.text in
     let seats = c.in-Ok.seats.items in
-    begin_others config (ShowsGraph text config.mutators) (IsGraphLeft config left) renewals.Renewed seats (left_shown config left text c.graph.ensures.shows)
+    begin_others config (ShowsGraph text config.mutators) (IsGraphLeft config stage_left) renewals.Renewed seats (left_shown config stage_left text c.graph.ensures.shows)
     (subst (λ (config : Config). BeginSeats config (ShowsGraph text config.mutators) renewals.Renewed seats) c.requires.sizes c.in-Ok.ensures.renewed)
 
 pub returns-in-Ok-reopened_seats : goal.returns-in-Ok-reopened_seats
 returns-in-Ok-reopened_seats c =
     let config = ends.config_of c.args.closed in
-    let left = ends.stage_of c.args.closed in
+    let stage_left = ends.stage_of c.args.closed in
     let new = c.graph.new.self in
     let text = c.graph.new.text in
-    let why = c.in-Err.renewal in
+    let cause = c.in-Err.renewal in
     let seats = c.in-Ok-reopened_seats.seats.items in
-    begin_others config (IsLeftKept config left why) (IsGraphLeft config left) why seats
+    begin_others config (IsLeftKept config stage_left cause) (IsGraphLeft config stage_left) cause seats
     (λ graph is_left. record {
       is_left = is_left;
-      keeps = subst (λ (config : Config). KeepsNames why config graph) c.requires.sizes (c.in-Err.ensures.kept graph (subst (λ (config : Config). ShowsGraph text config.mutators graph) (sym c.requires.sizes) (left_shown config left text c.graph.ensures.shows graph is_left)));
+      keeps = subst (λ (config : Config). KeepsNames cause config graph) c.requires.sizes (c.in-Err.ensures.kept graph (subst (λ (config : Config). ShowsGraph text config.mutators graph) (sym c.requires.sizes) (left_shown config stage_left text c.graph.ensures.shows graph is_left)));
     })
-    (subst (λ (stage : Stage Actor). BeginSeats config (IsLeftKept config stage why) why seats) c.graph.ensures.unchanged.stage
-    (subst (λ (config : Config). BeginSeats config (IsLeftKept config (ends.stage_of new) why) why seats) c.graph.ensures.unchanged.config (c.in-Ok-reopened_seats.ensures why)))
+    (subst (λ (stage : Stage Actor). BeginSeats config (IsLeftKept config stage cause) cause seats) c.graph.ensures.unchanged.stage
+    (subst (λ (config : Config). BeginSeats config (IsLeftKept config (ends.stage_of new) cause) cause seats) c.graph.ensures.unchanged.config (c.in-Ok-reopened_seats.ensures cause)))

@@ -21,8 +21,8 @@ open_seats_from-requires-clause-begins c =
     let counts = c.in-Ok-Heap.counts.items in
     let sizes : images.config_of image ≡ config = rw c.in-Ok-Heap.field-0-is at c.in-Ok-Heap.ensures.config in
     let placed : IsPlaced config (text_anew text) (images.memory_of image) = rw c.in-Ok-Heap.field-0-is at c.in-Ok-Heap.ensures.placed in
-    let stands : Represents config (images.memory_of image) (text_graph (text_anew text) counts) (λ m. nothing) = rw c.in-Ok-Heap.field-0-is at c.in-Ok-Heap.ensures.stands in
-    renewed_can config image sizes counts text c.requires.whole c.requires.names placed stands
+    let graph_stands : Represents config (images.memory_of image) (text_graph (text_anew text) counts) (λ m. nothing) = rw c.in-Ok-Heap.field-0-is at c.in-Ok-Heap.ensures.stands in
+    renewed_can config image sizes counts text c.requires.whole c.requires.names placed graph_stands
 
 pub returns-in-Ok-clause-renewed : goal.returns-in-Ok-clause-renewed
 returns-in-Ok-clause-renewed c =
@@ -32,15 +32,15 @@ returns-in-Ok-clause-renewed c =
     let counts = c.in-Ok-Heap.counts.items in
     let sizes : images.config_of image ≡ config = rw c.in-Ok-Heap.field-0-is at c.in-Ok-Heap.ensures.config in
     let placed : IsPlaced config (text_anew text) (images.memory_of image) = rw c.in-Ok-Heap.field-0-is at c.in-Ok-Heap.ensures.placed in
-    let stands : Represents config (images.memory_of image) (text_graph (text_anew text) counts) (λ m. nothing) = rw c.in-Ok-Heap.field-0-is at c.in-Ok-Heap.ensures.stands in
-    let are : AreCountsOf (names_of text) config.mutators counts = rw c.in-Ok-Heap.field-0-is at c.in-Ok-Heap.ensures.counts in
-    seats_renewed config image sizes counts text c.requires.whole c.requires.names placed stands are
-    (not_pinned text (λ pinned. let is = c.renew.ensures.pinned.1 pinned in let heap = c.in-Ok-Heap.is in let which = c.in-Ok-Heap.field-0-is in absurd (cc)))
+    let graph_stands : Represents config (images.memory_of image) (text_graph (text_anew text) counts) (λ m. nothing) = rw c.in-Ok-Heap.field-0-is at c.in-Ok-Heap.ensures.stands in
+    let are_counts : AreCountsOf (names_of text) config.mutators counts = rw c.in-Ok-Heap.field-0-is at c.in-Ok-Heap.ensures.counts in
+    seats_renewed config image sizes counts text c.requires.whole c.requires.names placed graph_stands are_counts
+    (not_pinned text (λ pinned. let pinned_result = c.renew.ensures.pinned.1 pinned in let heap = c.in-Ok-Heap.is in let heap_result = c.in-Ok-Heap.field-0-is in absurd (cc)))
     c.in-Ok.seats.items c.in-Ok.ensures
 
 pub returns-in-Ok-Pinned-clause-kept : goal.returns-in-Ok-Pinned-clause-kept
-returns-in-Ok-Pinned-clause-kept c g shows none =
-    let is = c.in-Ok-Pinned.is in
-    let which = c.in-Ok-Pinned.field-0-is in
-    let told : c.renew.result ≡ Ok renewals.Pinned = cc in
-    c.renew.ensures.pinned.0 told (nothing_held c.args.text.now c.args.config.mutators g shows c.requires.whole.threads none)
+returns-in-Ok-Pinned-clause-kept c g shows none_pinned =
+    let pinned_answer = c.in-Ok-Pinned.is in
+    let pinned_result = c.in-Ok-Pinned.field-0-is in
+    let result_is : c.renew.result ≡ Ok renewals.Pinned = cc in
+    c.renew.ensures.pinned.0 result_is (nothing_held c.args.text.now c.args.config.mutators g shows c.requires.whole.threads none_pinned)

@@ -14,6 +14,6 @@ make-requires-clause-rest g c =
 pub collected-requires-clause-control : goal.collected-requires-clause-control
 collected-requires-clause-control g c =
     let config = c.in_ok-config.config in
-    c.make-2.ensures.others 1 (λ e. cc) ∙ c.make.ensures.others 1 (λ e. cc)
+    c.make-2.ensures.others 1 (λ same_number. cc) ∙ c.make.ensures.others 1 (λ same_number. cc)
     ∙ subst (λ (config : Config). machine_at c.in_ok-plain.plain 1 ≡ fresh_control (first_free config.regions)) (sym (c.make-2.ensures.config ∙ c.make.ensures.config ∙ c.in_ok-plain.ensures.config))
     (opened_control config (machines_of c.in_ok-plain.plain) c.in_ok-plain.ensures.opening.machines_are c.in_ok-config.ensures.mutators c.in_ok-config.ensures.helpers)

@@ -3,7 +3,7 @@ use Rattle.shen_core.specs.State.{config_of, machine_at}
 use Rattle.heap_tests.proofs.calls_step_by_step.call.Given as goal
 
 abbrev pub invariant-loop : goal.invariant-loop
-invariant-loop l = record {
-  config : config_of l.plain ≡ config_of l.fn.plain;
-  others : (other : ℕ) → other ≢ l.number → machine_at l.plain other ≡ machine_at l.fn.plain other;
+invariant-loop loop = record {
+  config : config_of loop.plain ≡ config_of loop.fn.plain;
+  others : (other_number : ℕ) → other_number ≢ loop.number → machine_at loop.plain other_number ≡ machine_at loop.fn.plain other_number;
 }

@@ -15,7 +15,7 @@ full-requires c =
     let made = made_of_machine (machine_at c.args.plain.now 0) in
     let before = subst (λ (config : Config). ∥ LeftGraph config (images.memory_of image) made ∥₁) (sym c.in_ok-image.ensures.config) c.in_ok-image.ensures.stands in
     let prop : IsProp (HoldsSized (images.config_of image) (images.memory_of image)) = hlevel in
-    ∥∥₁_elim before prop (λ (left : LeftGraph (images.config_of image) (images.memory_of image) made). left_holds (images.config_of image) (images.memory_of image) made left)
+    ∥∥₁_elim before prop (λ (left_graph : LeftGraph (images.config_of image) (images.memory_of image) made). left_holds (images.config_of image) (images.memory_of image) made left_graph)
 
 pub goes_on-requires-clause-stands : goal.goes_on-requires-clause-stands
 goes_on-requires-clause-stands c =
@@ -23,7 +23,7 @@ goes_on-requires-clause-stands c =
     let made = made_of_machine (machine_at c.args.plain.now 0) in
     let config : config_of c.args.plain.now ≡ images.config_of image = sym c.in_ok-image.ensures.config in
     let before = subst (λ (config : Config). ∥ LeftGraph config (images.memory_of image) made ∥₁) config c.in_ok-image.ensures.stands in
-    let after = ∥∥₁_map before (λ (left : LeftGraph (images.config_of image) (images.memory_of image) made). left_collected (images.config_of image) (images.memory_of image) made left) in
+    let after = ∥∥₁_map before (λ (left_graph : LeftGraph (images.config_of image) (images.memory_of image) made). left_collected (images.config_of image) (images.memory_of image) made left_graph) in
     subst (λ (n : ℕ). ∥ LeftGraph (images.config_of c.full.new.image) (images.memory_of c.full.new.image) n ∥₁) (sym c.made.ensures)
     (subst (λ (config : Config). ∥ LeftGraph config (images.memory_of c.full.new.image) made ∥₁) (sym c.full.ensures.config)
     (subst (λ (memory : Word → ℕ). ∥ LeftGraph (images.config_of image) memory made ∥₁) (sym c.full.ensures.words) after))

@@ -3,7 +3,7 @@ use Rattle.shen_core.specs.State.{config_of, machine_at}
 use Rattle.heap_tests.proofs.hints.hint.Given as goal
 
 abbrev pub invariant-loop-hinted : goal.invariant-loop-hinted
-invariant-loop-hinted g l = record {
-  config : config_of l.plain ≡ config_of l.fn.plain;
-  mutator : machine_at l.plain 0 ≡ machine_at l.fn.plain 0;
+invariant-loop-hinted g loop = record {
+  config : config_of loop.plain ≡ config_of loop.fn.plain;
+  mutator : machine_at loop.plain 0 ≡ machine_at loop.fn.plain 0;
 }

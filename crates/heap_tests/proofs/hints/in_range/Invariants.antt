@@ -3,7 +3,7 @@ use Rattle.shen_core.specs.Progress.{IsRunnable}
 use Rattle.heap_tests.proofs.hints.in_range.Given as goal
 
 abbrev pub invariant-loop-commands : goal.invariant-loop-commands
-invariant-loop-commands l = record {
-  count : length l.made.items ≡ l.commands-index;
-  runnable : All IsRunnable l.made.items;
+invariant-loop-commands loop = record {
+  count : length loop.made.items ≡ loop.commands-index;
+  runnable : All IsRunnable loop.made.items;
 }

@@ -4,7 +4,7 @@ use Rattle.step_core.specs.Machines.{may_begin}
 use Rattle.heap_tests.proofs.hints.make_calls.Given as goal
 
 abbrev pub invariant-loop-command : goal.invariant-loop-command
-invariant-loop-command g l = record {
-  config : config_of l.plain ≡ config_of l.fn.plain;
-  rest : may_begin (machine_at l.plain 0) ≡ true;
+invariant-loop-command g loop = record {
+  config : config_of loop.plain ≡ config_of loop.fn.plain;
+  rest : may_begin (machine_at loop.plain 0) ≡ true;
 }

@@ -19,4 +19,4 @@ pub close-requires-clause-all : goal.close-requires-clause-all
 close-requires-clause-all g c = fresh_has_all c.args.config c.in_ok-heap.heap c.in_ok-heap.bundle c.run.new.self c.in_ok-heap.ensures.fresh c.in_ok-heap.ensures.config c.run.ensures.same
 
 pub close-requires-clause-control : goal.close-requires-clause-control
-close-requires-clause-control g c a here = idle_takes a.machine (c.run.ensures.idle _ a here)
+close-requires-clause-control g c actor actor_there = idle_takes actor.machine (c.run.ensures.idle _ actor actor_there)

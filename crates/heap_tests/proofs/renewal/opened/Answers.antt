@@ -24,9 +24,9 @@ use Rattle.heap_tests.proofs.renewal.opened.Goals as goal
 
 -- a machine is that of the opening
 first_at : (plain : Plain) (seat : ℕ) → Shows plain (opening (config_of plain)) → seat < seat_count (config_of plain).mutators (config_of plain).helpers → machine_at plain seat ≡ opening_machine (config_of plain) seat
-first_at plain seat shows below =
+first_at plain seat shows seat_below =
     let config = config_of plain in
-    ap (λ ms. get_or ms seat no_machine) (sym shows.machines_are ∙ first_machines config) ∙ get_or-map-range_with_len (opening_machine config) 0 (seat_count config.mutators config.helpers) seat seat no_machine below (omega arith)
+    ap (λ some_machines. get_or some_machines seat no_machine) (sym shows.machines_are ∙ first_machines config) ∙ get_or-map-range_with_len (opening_machine config) 0 (seat_count config.mutators config.helpers) seat seat no_machine seat_below (omega arith)
 
 -- the control has no image
 control_calm : (config : Config) → image_read (opening_machine config (control_number config)) ≡ None
@@ -41,7 +41,7 @@ rests : (plain : Plain) → Shows plain (opening (config_of plain)) → AllRest 
 rests plain shows =
     let config = config_of plain in
     record {
-      mutators = λ t below. ap is_resting (first_at plain t shows (omega arith)) ∙ first_rests config t below;
+      mutators = λ mutator mutator_below. ap is_resting (first_at plain mutator shows (omega arith)) ∙ first_rests config mutator mutator_below;
       control = ap image_read (first_at plain (control_number config) shows (omega arith)) ∙ control_calm config;
     }
 
@@ -55,9 +55,9 @@ stands plain shows =
       renewable = opening_renewable config.mutators;
     }
 
-of_opened : {E : Type 0} (config : Config) (P : Plain → Type 0) → ((plain : Plain) → Shows plain (opening (config_of plain)) → P plain) → (r : Result Plain E) → IfOk r (λ plain. config_of plain ≡ config) → IfOk r (λ plain. Shows plain (opening config)) → IfOk r P
-of_opened other_config P so (Ok plain) config shows = so plain (subst (λ (config : Config). Shows plain (opening config)) (sym config) shows)
-of_opened other_config P so (Err e) config shows = tt
+of_opened : {E : Type 0} (config : Config) (P : Plain → Type 0) → ((plain : Plain) → Shows plain (opening (config_of plain)) → P plain) → (result : Result Plain E) → IfOk result (λ plain. config_of plain ≡ config) → IfOk result (λ plain. Shows plain (opening config)) → IfOk result P
+of_opened other_config P opened_holds (Ok plain) config shows = opened_holds plain (subst (λ (config : Config). Shows plain (opening config)) (sym config) shows)
+of_opened other_config P opened_holds (Err fault) config shows = tt
 
 pub returns-clause-rest : goal.returns-clause-rest
 returns-clause-rest c = of_opened c.args.config AllRest rests c.open.result c.open.ensures.config c.open.ensures.opening

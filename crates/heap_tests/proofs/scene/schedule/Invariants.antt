@@ -3,4 +3,4 @@ use Rattle.shen_core.specs.Progress.{IsInSeats}
 use Rattle.heap_tests.proofs.scene.schedule.Given as goal
 
 abbrev pub invariant-loop-number : goal.invariant-loop-number
-invariant-loop-number l = All (IsInSeats l.config) l.schedule
+invariant-loop-number loop = All (IsInSeats loop.config) loop.schedule

@@ -3,4 +3,4 @@ use Rattle.shen_core.specs.Progress.{IsRunnable}
 use Rattle.heap_tests.proofs.scene.scripts.Given as goal
 
 abbrev pub invariant-loop-number : goal.invariant-loop-number
-invariant-loop-number l = All IsRunnable l.scripts.items × (length l.scripts.items ≡ l.number)
+invariant-loop-number loop = All IsRunnable loop.scripts.items × (length loop.scripts.items ≡ loop.number)

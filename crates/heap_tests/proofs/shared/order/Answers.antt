@@ -20,12 +20,12 @@ returns-then-not-between c = unordered c.args.bundle.now (next_for c.args.bundle
 
 pub returns-in-Some : goal.returns-in-Some
 returns-in-Some c =
-    let next = next_between c.args.bundle.now c.args.work.now c.args.number c.requires.here (c.requires.between c.if-not-between.false) ∙ sym c.next.ensures.next ∙ c.in-Some.is in
-    subst (λ o. IsOrdered c.args.bundle.now c.begin.new.self o c.args.number) (sym next)
+    let next_told = next_between c.args.bundle.now c.args.work.now c.args.number c.requires.here (c.requires.between c.if-not-between.false) ∙ sym c.next.ensures.next ∙ c.in-Some.is in
+    subst (λ order. IsOrdered c.args.bundle.now c.begin.new.self order c.args.number) (sym next_told)
     (ordered c.args.bundle.now c.begin.new.self (Some c.in-Some.command) c.args.number c.requires.here (c.requires.between c.if-not-between.false) c.begin.ensures.unmoved c.begin.ensures.order c.begin.ensures.takes)
 
 pub returns-in-None : goal.returns-in-None
 returns-in-None c =
-    let next = next_between c.args.bundle.now c.args.work.now c.args.number c.requires.here (c.requires.between c.if-not-between.false) ∙ sym c.next.ensures.next ∙ c.in-None.is in
-    subst (λ o. IsOrdered c.args.bundle.now c.finish.new.self o c.args.number) (sym next)
+    let next_told = next_between c.args.bundle.now c.args.work.now c.args.number c.requires.here (c.requires.between c.if-not-between.false) ∙ sym c.next.ensures.next ∙ c.in-None.is in
+    subst (λ order. IsOrdered c.args.bundle.now c.finish.new.self order c.args.number) (sym next_told)
     (ordered c.args.bundle.now c.finish.new.self None c.args.number c.requires.here (c.requires.between c.if-not-between.false) c.finish.ensures.unmoved c.finish.ensures.order c.finish.ensures.takes)

@@ -38,17 +38,17 @@ pub returns-in-Done-clause-others : goal.returns-in-Done-clause-others
 returns-in-Done-clause-others c = others_on c.args.bundle.now c.order.new.bundle c.step-said.new.self c.args.work.now c.args.number c.step-said.result c.order.ensures c.step-said.ensures.event c.step-said.ensures.unchanged
 
 pub returns-in-Done-clause-done : goal.returns-in-Done-clause-done
-returns-in-Done-clause-done c = λ is. replied_may (machine_at c.step-said.new.self c.args.number) (c.step-said.ensures.replied is)
+returns-in-Done-clause-done c = λ said_done. replied_may (machine_at c.step-said.new.self c.args.number) (c.step-said.ensures.replied said_done)
 
 pub returns-in_default-clause-same : goal.returns-in_default-clause-same
 returns-in_default-clause-same c = same_bundle_more c.args.bundle.now c.order.new.bundle c.step-said.new.self c.order.ensures.unmoved.same c.step-said.ensures.same
 
 pub returns-in_default-clause-work : goal.returns-in_default-clause-work
 returns-in_default-clause-work c =
-    works_on c.args.bundle.now c.order.new.bundle c.step-said.new.self c.args.work.now c.args.number c.step-said.result c.order.ensures c.step-said.ensures.event c.step-said.ensures.unchanged c.requires.work (λ done. c.in_default.not-Done done)
+    works_on c.args.bundle.now c.order.new.bundle c.step-said.new.self c.args.work.now c.args.number c.step-said.result c.order.ensures c.step-said.ensures.event c.step-said.ensures.unchanged c.requires.work (λ said_done. c.in_default.not-Done said_done)
 
 pub returns-in_default-clause-others : goal.returns-in_default-clause-others
 returns-in_default-clause-others c = others_on c.args.bundle.now c.order.new.bundle c.step-said.new.self c.args.work.now c.args.number c.step-said.result c.order.ensures c.step-said.ensures.event c.step-said.ensures.unchanged
 
 pub returns-in_default-clause-done : goal.returns-in_default-clause-done
-returns-in_default-clause-done c = λ is. absurd (c.in_default.not-Done is)
+returns-in_default-clause-done c = λ said_done. absurd (c.in_default.not-Done said_done)

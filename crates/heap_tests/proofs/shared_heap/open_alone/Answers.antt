@@ -7,7 +7,7 @@ pub returns-clause-fresh : goal.returns-clause-fresh
 returns-clause-fresh c =
     let bundle = c.in-Some.bundle in
     let bundles = c.in_ok-heap.bundles.items in
-    let one : length bundles ≡ 1 = c.in_ok-heap.ensures.count in
-    let long : c.in_ok-heap.bundles.len ≡ 1 = c.in_ok-heap.bundles.ok.0 ∙ one in
-    let there = slice_get-get_or bundles 0 bundle (omega (arith, one)) ∙ ap (λ k. Some (slice_index_or bundles k bundle)) (sym (ap (λ n. n - 1) long)) ∙ sym (c.pop.ensures.value bundle (omega (arith, long))) ∙ c.in-Some.is in
-    c.in_ok-heap.ensures.bundles 0 bundle there
+    let one_bundle : length bundles ≡ 1 = c.in_ok-heap.ensures.count in
+    let one_counted : c.in_ok-heap.bundles.len ≡ 1 = c.in_ok-heap.bundles.ok.0 ∙ one_bundle in
+    let bundle_there = slice_get-get_or bundles 0 bundle (omega (arith, one_bundle)) ∙ ap (λ place. Some (slice_index_or bundles place bundle)) (sym (ap (λ count. count - 1) one_counted)) ∙ sym (c.pop.ensures.value bundle (omega (arith, one_counted))) ∙ c.in-Some.is in
+    c.in_ok-heap.ensures.bundles 0 bundle bundle_there

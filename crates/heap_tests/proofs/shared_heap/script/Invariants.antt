@@ -3,4 +3,4 @@ use Rattle.shen_graph.specs.Valid.{IsValid}
 use Rattle.heap_tests.proofs.shared_heap.script.Given as goal
 
 abbrev pub invariant-loop-number : goal.invariant-loop-number
-invariant-loop-number l = All IsValid l.script × (length l.script ≤ l.number)
+invariant-loop-number locals = All IsValid locals.script × (length locals.script ≤ locals.number)

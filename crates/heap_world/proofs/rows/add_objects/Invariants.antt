@@ -4,10 +4,10 @@ use Rattle.heap_world.specs.Rows.{row_in_heap}
 use Rattle.heap_world.proofs.rows.add_objects.Given as goal
 
 abbrev pub invariant-loop-address : goal.invariant-loop-address
-invariant-loop-address l = record {
-  rows : l.text.rows ≡ l.initial.text.rows ++ map (row_in_heap l.first l.heap) (take l.address-index l.order);
-  roots : l.text.roots ≡ l.initial.text.roots;
-  pins : l.text.pins ≡ l.initial.text.pins;
-  room : l.text.room ≡ l.initial.text.room;
-  spare : l.text.spare + sum_by (λ a. size_at l.heap (a - l.first)) (take l.address-index l.order) ≡ l.initial.text.spare;
+invariant-loop-address loop = record {
+  rows : loop.text.rows ≡ loop.initial.text.rows ++ map (row_in_heap loop.first loop.heap) (take loop.address-index loop.order);
+  roots : loop.text.roots ≡ loop.initial.text.roots;
+  pins : loop.text.pins ≡ loop.initial.text.pins;
+  room : loop.text.room ≡ loop.initial.text.room;
+  spare : loop.text.spare + sum_by (λ address. size_at loop.heap (address - loop.first)) (take loop.address-index loop.order) ≡ loop.initial.text.spare;
 }

@@ -8,17 +8,17 @@ use Rattle.heap_world.proofs.rows.add_references.Goals as goal
 
 pub loop-word-preserved : goal.loop-word-preserved
 loop-word-preserved c =
-    let i = c.loop-word.word-index in
+    let index = c.loop-word.word-index in
     let words = c.args.words.now in
-    let word = get_or words i 0 in
+    let word = get_or words index 0 in
     let shown = reference_in c.args.first c.args.heap.now in
     let text = c.loop-word.text in
     let made = c.reference.ensures ∙ ap (with_reference text) c.reference_to.ensures in
     record {
-      rows = ap (λ t. length t.rows) made ∙ length-change_last (add_reference (shown word)) text.rows ∙ c.loop-word.invariant.rows;
-      spare = omega (arith, ap (λ t. t.spare) made);
-      added = (made ∙ ap (λ t. with_reference t (shown word)) c.loop-word.invariant.added
-          ∙ sym (with_references-push c.args.text.now (map shown (take i words)) (shown word))
+      rows = ap (λ written_text. length written_text.rows) made ∙ length-change_last (add_reference (shown word)) text.rows ∙ c.loop-word.invariant.rows;
+      spare = omega (arith, ap (λ written_text. written_text.spare) made);
+      added = (made ∙ ap (λ written_text. with_reference written_text (shown word)) c.loop-word.invariant.added
+          ∙ sym (with_references-push c.args.text.now (map shown (take index words)) (shown word))
           ∙ ap (with_references c.args.text.now)
-          (sym (map-append shown (take i words) (word ∷ [])) ∙ ap (map shown) (sym (take_more words i 0 (omega arith)))));
+          (sym (map-append shown (take index words) (word ∷ [])) ∙ ap (map shown) (sym (take_more words index 0 (omega arith)))));
     }

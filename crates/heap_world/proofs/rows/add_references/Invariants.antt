@@ -4,8 +4,8 @@ use Rattle.heap_world.specs.Rows.{reference_in}
 use Rattle.heap_world.proofs.rows.add_references.Given as goal
 
 abbrev pub invariant-loop-word : goal.invariant-loop-word
-invariant-loop-word l = record {
-  rows : length l.text.rows ≡ length l.initial.text.rows;
-  spare : l.text.spare + l.word-index ≡ l.initial.text.spare;
-  added : l.text ≡ with_references l.initial.text (map (reference_in l.first l.heap) (take l.word-index l.words));
+invariant-loop-word loop = record {
+  rows : length loop.text.rows ≡ length loop.initial.text.rows;
+  spare : loop.text.spare + loop.word-index ≡ loop.initial.text.spare;
+  added : loop.text ≡ with_references loop.initial.text (map (reference_in loop.first loop.heap) (take loop.word-index loop.words));
 }

@@ -4,10 +4,10 @@ use Rattle.heap_world.proofs.CellRows.{AreFull, AreSet}
 use Rattle.heap_world.proofs.rows.set_pins.Given as goal
 
 abbrev pub invariant-loop-position : goal.invariant-loop-position
-invariant-loop-position l = record {
-  rest : l.text ≡ record l.initial.text { pins = l.text.pins };
-  threads : length l.text.roots ≡ length l.initial.text.roots;
-  count : length l.text.pins ≡ length l.initial.text.pins;
-  full : AreFull 4 l.text.pins;
-  done : AreSet 4 (λ k. reference_in l.first l.heap (get_or l.pins k 0)) l.text.pins l.position;
+invariant-loop-position locals = record {
+  rest : locals.text ≡ record locals.initial.text { pins = locals.text.pins };
+  threads : length locals.text.roots ≡ length locals.initial.text.roots;
+  count : length locals.text.pins ≡ length locals.initial.text.pins;
+  full : AreFull 4 locals.text.pins;
+  done : AreSet 4 (λ place. reference_in locals.first locals.heap (get_or locals.pins place 0)) locals.text.pins locals.position;
 }

@@ -4,11 +4,11 @@ use Rattle.heap_world.proofs.CellRows.{AreFull, AreSet}
 use Rattle.heap_world.proofs.rows.set_roots.Given as goal
 
 abbrev pub invariant-loop-position : goal.invariant-loop-position
-invariant-loop-position l = record {
-  rows : l.text.rows ≡ l.initial.text.rows;
-  room : l.text.room ≡ l.initial.text.room;
-  pins : l.text.pins ≡ l.initial.text.pins;
-  count : length l.text.roots ≡ length l.initial.text.roots;
-  full : AreFull 16 l.text.roots;
-  done : AreSet 16 (λ k. reference_in l.first l.heap (get_or l.roots k 0)) l.text.roots l.position;
+invariant-loop-position locals = record {
+  rows : locals.text.rows ≡ locals.initial.text.rows;
+  room : locals.text.room ≡ locals.initial.text.room;
+  pins : locals.text.pins ≡ locals.initial.text.pins;
+  count : length locals.text.roots ≡ length locals.initial.text.roots;
+  full : AreFull 16 locals.text.roots;
+  done : AreSet 16 (λ place. reference_in locals.first locals.heap (get_or locals.roots place 0)) locals.text.roots locals.position;
 }

@@ -9,7 +9,7 @@ use Rattle.heap_world.proofs.walk.find_reachable.Goals as goal
 pub take_each_down-requires-clause-named : goal.take_each_down-requires-clause-named
 take_each_down-requires-clause-named c =
     all_named-in c.args.roots.now (IsNamed c.args.first c.args.heap.now)
-    (λ address h. c.requires.sound.roots_named address (has-left c.args.roots.now c.args.pins.now address h))
+    (λ address among. c.requires.sound.roots_named address (has-left c.args.roots.now c.args.pins.now address among))
 
 pub take_each_down-requires-clause-marked : goal.take_each_down-requires-clause-marked
 take_each_down-requires-clause-marked c =
@@ -18,17 +18,17 @@ take_each_down-requires-clause-marked c =
 pub take_each_down-requires-clause-among : goal.take_each_down-requires-clause-among
 take_each_down-requires-clause-among c =
     all_among c.args.first c.args.heap.now (c.args.roots.now ++ c.args.pins.now) _ _ c.requires.sound (omega arith)
-    (λ address ne h. from_root address ne (currents-left c.args.first c.args.heap.now c.args.roots.now c.args.pins.now address h))
+    (λ address some_address among. from_root address some_address (currents-left c.args.first c.args.heap.now c.args.roots.now c.args.pins.now address among))
 
 pub take_each_down-requires-2-clause-named : goal.take_each_down-requires-2-clause-named
 take_each_down-requires-2-clause-named c =
     all_named-in c.args.pins.now (IsNamed c.args.first c.args.heap.now)
-    (λ address h. c.requires.sound.roots_named address (has-right c.args.roots.now c.args.pins.now address h))
+    (λ address among. c.requires.sound.roots_named address (has-right c.args.roots.now c.args.pins.now address among))
 
 pub take_each_down-requires-2-clause-among : goal.take_each_down-requires-2-clause-among
 take_each_down-requires-2-clause-among c =
     all_among c.args.first c.args.heap.now (c.args.roots.now ++ c.args.pins.now) _ _ c.requires.sound (omega arith)
-    (λ address ne h. from_root address ne (currents-right c.args.first c.args.heap.now c.args.roots.now c.args.pins.now address h))
+    (λ address some_address among. from_root address some_address (currents-right c.args.first c.args.heap.now c.args.roots.now c.args.pins.now address among))
 
 pub loop-next-init : goal.loop-next-init
 loop-next-init c =
@@ -36,19 +36,19 @@ loop-next-init c =
     let heap = c.args.heap.now in
     let words = c.args.roots.now ++ c.args.pins.now in
     let start = c.take_each_down-2.ensures.taken
-    ∙ ap (λ xs. with_addresses xs (currents first heap c.args.pins.now))
-    (c.take_each_down.ensures.taken ∙ ap (λ xs. with_addresses xs (currents first heap c.args.roots.now)) c.clear.ensures.items)
+    ∙ ap (λ address_list. with_addresses address_list (currents first heap c.args.pins.now))
+    (c.take_each_down.ensures.taken ∙ ap (λ address_list. with_addresses address_list (currents first heap c.args.roots.now)) c.clear.ensures.items)
     ∙ taken_both first heap [] c.args.roots.now c.args.pins.now in
     record {
       marked = c.take_each_down-2.ensures.marked;
       room = omega arith;
       flags = omega arith;
       within = omega arith;
-      led = (λ a h.
-          led_step first heap words [] (currents first heap words) (λ a none. absurd (false≢true none)) from_root a
-          (ap (λ xs. has xs a) (sym start) ∙ h));
-      roots = (λ a ne h. ap (λ xs. has xs a) start ∙ new [] (currents first heap words) a ne h);
-      closed = (λ j a low. absurd (omega arith));
+      led = (λ reached_address among.
+          led_step first heap words [] (currents first heap words) (λ reached_address has_nothing. absurd (false≢true has_nothing)) from_root reached_address
+          (ap (λ address_list. has address_list reached_address) (sym start) ∙ among));
+      roots = (λ reached_address some_address among. ap (λ address_list. has address_list reached_address) start ∙ new [] (currents first heap words) reached_address some_address among);
+      closed = (λ index reached_address low. absurd (omega arith));
     }
 
 pub overflow_sub-index : goal.overflow_sub-index
@@ -58,25 +58,25 @@ overflow_sub-index c =
 
 pub references-requires : goal.references-requires
 references-requires c =
-    let x = c.index.result.now in
-    let led = c.loop-next.invariant.led x (has-read _ c.loop-next.next x (omega arith) c.index.ensures) in
-    omega (arith, c.requires.sound.above x led, c.requires.sound.below x led)
+    let found_address = c.index.result.now in
+    let led = c.loop-next.invariant.led found_address (has-read _ c.loop-next.next found_address (omega arith) c.index.ensures) in
+    omega (arith, c.requires.sound.above found_address led, c.requires.sound.below found_address led)
 
 pub take_each_down-requires-in-loop-next-clause-named :
     goal.take_each_down-requires-in-loop-next-clause-named
 take_each_down-requires-in-loop-next-clause-named c =
-    let x = c.index.result.now in
-    let led = c.loop-next.invariant.led x (has-read _ c.loop-next.next x (omega arith) c.index.ensures) in
+    let found_address = c.index.result.now in
+    let led = c.loop-next.invariant.led found_address (has-read _ c.loop-next.next found_address (omega arith) c.index.ensures) in
     all_named-in c.references.result.now (IsNamed c.args.first c.args.heap.now)
-    (λ address h. c.requires.sound.fields_named x address led (ap (λ xs. has xs address) (sym c.references.ensures) ∙ h))
+    (λ address among. c.requires.sound.fields_named found_address address led (ap (λ address_list. has address_list address) (sym c.references.ensures) ∙ among))
 
 pub take_each_down-requires-in-loop-next-clause-among :
     goal.take_each_down-requires-in-loop-next-clause-among
 take_each_down-requires-in-loop-next-clause-among c =
-    let x = c.index.result.now in
-    let led = c.loop-next.invariant.led x (has-read _ c.loop-next.next x (omega arith) c.index.ensures) in
+    let found_address = c.index.result.now in
+    let led = c.loop-next.invariant.led found_address (has-read _ c.loop-next.next found_address (omega arith) c.index.ensures) in
     all_among c.args.first c.args.heap.now (c.args.roots.now ++ c.args.pins.now) _ _ c.requires.sound (omega arith)
-    (λ address ne h. from_field x address led ne (ap (λ xs. has (currents c.args.first c.args.heap.now xs) address) (sym c.references.ensures) ∙ h))
+    (λ address some_address among. from_field found_address address led some_address (ap (λ address_list. has (currents c.args.first c.args.heap.now address_list) address) (sym c.references.ensures) ∙ among))
 
 pub loop-next-smaller : goal.loop-next-smaller
 loop-next-smaller c =
@@ -89,24 +89,24 @@ loop-next-preserved c =
     let roots = c.args.roots.now ++ c.args.pins.now in
     let order = c.loop-next.order.items in
     let words = currents first heap c.references.result.now in
-    let x = c.index.result.now in
+    let found_address = c.index.result.now in
     let low : c.loop-next.next < length order = omega arith in
-    let led = c.loop-next.invariant.led x (has-read order c.loop-next.next x low c.index.ensures) in
+    let led = c.loop-next.invariant.led found_address (has-read order c.loop-next.next found_address low c.index.ensures) in
     let taken = c.take_each_down-in-loop-next.ensures.taken in
-    let is : x ≡ get_or order c.loop-next.next 0 = get_or_read order c.loop-next.next x low c.index.ensures 0 in
+    let next_of_order : found_address ≡ get_or order c.loop-next.next 0 = get_or_read order c.loop-next.next found_address low c.index.ensures 0 in
     let fields : words ≡ currents first heap (refs_at heap (get_or order c.loop-next.next 0 - first)) =
-    ap (currents first heap) (c.references.ensures ∙ ap (λ y. refs_at heap (y - first)) is) in
+    ap (currents first heap) (c.references.ensures ∙ ap (λ y. refs_at heap (y - first)) next_of_order) in
     record {
       marked = c.take_each_down-in-loop-next.ensures.marked;
       room = omega arith;
       flags = omega arith;
-      within = (let p = prefix order words in
-          omega (arith, ap length taken, ap length p.1, length-append order p.0));
-      led = (λ a h.
+      within = (let order_prefix = prefix order words in
+          omega (arith, ap length taken, ap length order_prefix.1, length-append order order_prefix.0));
+      led = (λ reached_address among.
           led_step first heap roots order words c.loop-next.invariant.led
-          (λ address ne k. from_field x address led ne (ap (λ xs. has (currents first heap xs) address) (sym c.references.ensures) ∙ k)) a
-          (ap (λ xs. has xs a) (sym taken) ∙ h));
-      roots = (λ a ne h. ap (λ xs. has xs a) taken ∙ kept order words a (c.loop-next.invariant.roots a ne h));
+          (λ address some_address among_fields. from_field found_address address led some_address (ap (λ address_list. has (currents first heap address_list) address) (sym c.references.ensures) ∙ among_fields)) reached_address
+          (ap (λ address_list. has address_list reached_address) (sym taken) ∙ among));
+      roots = (λ reached_address some_address among. ap (λ address_list. has address_list reached_address) taken ∙ kept order words reached_address (c.loop-next.invariant.roots reached_address some_address among));
       closed = (rw taken (closed_step first heap order words c.loop-next.next low fields c.loop-next.invariant.closed));
     }
 

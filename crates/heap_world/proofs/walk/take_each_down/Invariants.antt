@@ -3,9 +3,9 @@ use Rattle.heap_world.specs.Walk.{IsMarked, currents, with_addresses}
 use Rattle.heap_world.proofs.walk.take_each_down.Given as goal
 
 abbrev pub invariant-loop-word : goal.invariant-loop-word
-invariant-loop-word l = record {
-  marked : IsMarked l.first l.marks l.order.items;
-  room : vec_capacity l.order ≡ vec_capacity l.initial.order;
-  flags : length l.marks ≡ length l.initial.marks;
-  taken : l.order.items ≡ with_addresses l.initial.order.items (currents l.first l.heap (take l.word-index l.words));
+invariant-loop-word locals = record {
+  marked : IsMarked locals.first locals.marks locals.order.items;
+  room : vec_capacity locals.order ≡ vec_capacity locals.initial.order;
+  flags : length locals.marks ≡ length locals.initial.marks;
+  taken : locals.order.items ≡ with_addresses locals.initial.order.items (currents locals.first locals.heap (take locals.word-index locals.words));
 }

@@ -35,10 +35,10 @@ pub write_objects-requires-clause-room : goal.write_objects-requires-clause-room
 write_objects-requires-clause-room c =
     let is_sound = sound_some c.args.first c.args.heap.now c.args.roots.now c.args.pins.now c.requires.first c.requires.stand in
     let order = c.find_reachable.new.order.items in
-    let words = λ (a : ℕ). size_at c.args.heap.now (a - c.args.first) in
+    let words = λ (address : ℕ). size_at c.args.heap.now (address - c.args.first) in
     let fit : sum_by words order ≤ length c.args.heap.now =
     all_fit c.args.first c.args.heap.now c.args.roots.now c.args.pins.now is_sound order c.find_reachable.ensures.walk in
-    let spare : c.clear.new.self.spare ≡ c.args.text.now.room = ap (λ t. t.spare) c.clear.ensures in
+    let spare : c.clear.new.self.spare ≡ c.args.text.now.room = ap (λ text. text.spare) c.clear.ensures in
     let enough : sum_by words order ≤ c.clear.new.self.spare = omega arith in
     rw c.deref.ensures.value enough
 
@@ -46,12 +46,12 @@ pub write_objects-requires-clause-differ : goal.write_objects-requires-clause-di
 write_objects-requires-clause-differ c =
     let row = row_in_heap c.args.first c.args.heap.now in
     let order = c.find_reachable.new.order.items in
-    let differ : IsDistinct same_name (map (λ r. r.name) (map row order)) =
-    ∥∥₁_elim c.requires.stand (IsDistinct-prop same_name (map (λ r. r.name) (map row order)))
+    let differ : IsDistinct same_name (map (λ object_row. object_row.name) (map row order)) =
+    ∥∥₁_elim c.requires.stand (IsDistinct-prop same_name (map (λ object_row. object_row.name) (map row order)))
     (λ stand. names_differ c.args.first c.args.heap.now c.args.roots.now c.args.pins.now order stand.0 stand.1.0 c.requires.first stand.1.1 c.find_reachable.ensures.walk) in
     let rows : c.clear.new.self.rows ++ map row c.deref.result.now ≡ map row c.find_reachable.new.order.items =
-    ap (λ t. t.rows ++ map row c.deref.result.now) c.clear.ensures ∙ ap (map row) c.deref.ensures.value in
-    subst (λ rs. IsDistinct same_name (map (λ r. r.name) rs)) (sym rows) differ
+    ap (λ text. text.rows ++ map row c.deref.result.now) c.clear.ensures ∙ ap (map row) c.deref.ensures.value in
+    subst (λ row_list. IsDistinct same_name (map (λ object_row. object_row.name) row_list)) (sym rows) differ
 
 pub set_roots-requires-clause-named : goal.set_roots-requires-clause-named
 set_roots-requires-clause-named c =
@@ -67,7 +67,7 @@ pub set_pins-requires-clause-threads : goal.set_pins-requires-clause-threads
 set_pins-requires-clause-threads c =
     let null = replicate {A = Reference} 16 None in
     let threads : length c.set_roots.new.text.roots ≡ length c.args.text.now.roots =
-    c.set_roots.ensures.threads ∙ ap length c.write_objects.ensures.roots ∙ ap (λ t. length t.roots) c.clear.ensures
+    c.set_roots.ensures.threads ∙ ap length c.write_objects.ensures.roots ∙ ap (λ text. length text.roots) c.clear.ensures
     ∙ length-replicate (length c.args.text.now.roots) null in
     omega (arith, threads, c.requires.slots)
 
@@ -75,7 +75,7 @@ pub set_pins-requires-clause-few : goal.set_pins-requires-clause-few
 set_pins-requires-clause-few c =
     let null = replicate {A = Reference} 16 None in
     let threads : length c.set_roots.new.text.roots ≡ length c.args.text.now.roots =
-    c.set_roots.ensures.threads ∙ ap length c.write_objects.ensures.roots ∙ ap (λ t. length t.roots) c.clear.ensures
+    c.set_roots.ensures.threads ∙ ap length c.write_objects.ensures.roots ∙ ap (λ text. length text.roots) c.clear.ensures
     ∙ length-replicate (length c.args.text.now.roots) null in
     omega (arith, threads, c.requires.few)
 
@@ -84,9 +84,9 @@ set_pins-requires-clause-rows c =
     let null = replicate {A = Reference} 16 None in
     let nothing = replicate {A = Reference} 4 None in
     let threads : length c.set_roots.new.text.roots ≡ length c.args.text.now.roots =
-    c.set_roots.ensures.threads ∙ ap length c.write_objects.ensures.roots ∙ ap (λ t. length t.roots) c.clear.ensures
+    c.set_roots.ensures.threads ∙ ap length c.write_objects.ensures.roots ∙ ap (λ text. length text.roots) c.clear.ensures
     ∙ length-replicate (length c.args.text.now.roots) null in
-    ap length c.set_roots.ensures.pins ∙ ap length c.write_objects.ensures.pins ∙ ap (λ t. length t.pins) c.clear.ensures
+    ap length c.set_roots.ensures.pins ∙ ap length c.write_objects.ensures.pins ∙ ap (λ text. length text.pins) c.clear.ensures
     ∙ length-replicate (length c.args.text.now.roots) nothing ∙ sym threads
 
 pub set_pins-requires-clause-lengths : goal.set_pins-requires-clause-lengths
@@ -94,41 +94,41 @@ set_pins-requires-clause-lengths c =
     let nothing = replicate {A = Reference} 4 None in
     let threads = length c.args.text.now.roots in
     let pins : c.set_roots.new.text.pins ≡ replicate threads nothing =
-    c.set_roots.ensures.pins ∙ c.write_objects.ensures.pins ∙ ap (λ t. t.pins) c.clear.ensures in
+    c.set_roots.ensures.pins ∙ c.write_objects.ensures.pins ∙ ap (λ text. text.pins) c.clear.ensures in
     subst (λ (rows : List (List Reference)). All (λ row. length row ≡ 4) rows) (sym pins)
-    (λ k d h. ap length (get_or-replicate threads k nothing d (rw length-replicate at h)) ∙ length-replicate {A = Reference} 4 None)
+    (λ place otherwise is_below. ap length (get_or-replicate threads place nothing otherwise (rw length-replicate at is_below)) ∙ length-replicate {A = Reference} 4 None)
 
 pub returns-clause-shows : goal.returns-clause-shows
-returns-clause-shows c at g stand =
+returns-clause-shows c naming graph stand =
     let order = c.find_reachable.new.order.items in
     let text = c.set_pins.new.text in
     let row = row_in_heap c.args.first c.args.heap.now in
     let rows : c.clear.new.self.rows ++ map row c.deref.result.now ≡ map row order =
-    ap (λ t. t.rows ++ map row c.deref.result.now) c.clear.ensures ∙ ap (map row) c.deref.ensures.value in
-    let same = sym (ap (λ t. t.rows) c.set_pins.ensures.rest ∙ c.set_roots.ensures.rows) in
+    ap (λ written_text. written_text.rows ++ map row c.deref.result.now) c.clear.ensures ∙ ap (map row) c.deref.ensures.value in
+    let same_rows = sym (ap (λ written_text. written_text.rows) c.set_pins.ensures.rest ∙ c.set_roots.ensures.rows) in
     let moved : IsPermutation (map row order) text.rows =
-    subst (λ rs. IsPermutation rs text.rows) rows
-    (subst (λ rs. IsPermutation (c.clear.new.self.rows ++ map row c.deref.result.now) rs) same c.write_objects.ensures.rows) in
+    subst (λ row_list. IsPermutation row_list text.rows) rows
+    (subst (λ row_list. IsPermutation (c.clear.new.self.rows ++ map row c.deref.result.now) row_list) same_rows c.write_objects.ensures.rows) in
     let ordered : InOrder (names_of text) =
-    subst (λ rs. InOrder (map (λ r. r.name) rs)) same c.write_objects.ensures.order in
+    subst (λ row_list. InOrder (map (λ object_row. object_row.name) row_list)) same_rows c.write_objects.ensures.order in
     let null = replicate {A = Reference} 16 None in
     let threads : length c.write_objects.new.text.roots ≡ length c.args.text.now.roots =
-    ap length c.write_objects.ensures.roots ∙ ap (λ t. length t.roots) c.clear.ensures
+    ap length c.write_objects.ensures.roots ∙ ap (λ written_text. length written_text.roots) c.clear.ensures
     ∙ length-replicate (length c.args.text.now.roots) null in
-    let root = λ (t i : ℕ). reference_in c.args.first c.args.heap.now (root_word c.args.roots.now t i) in
-    let pin = λ (t i : ℕ). reference_in c.args.first c.args.heap.now (pin_word c.args.pins.now t i) in
-    shows c.args.first c.args.heap.now c.args.roots.now c.args.pins.now order at g c.requires.first stand c.find_reachable.ensures.walk text moved
+    let root = λ (written_text index : ℕ). reference_in c.args.first c.args.heap.now (root_word c.args.roots.now written_text index) in
+    let pin = λ (written_text index : ℕ). reference_in c.args.first c.args.heap.now (pin_word c.args.pins.now written_text index) in
+    shows c.args.first c.args.heap.now c.args.roots.now c.args.pins.now order naming graph c.requires.first stand c.find_reachable.ensures.walk text moved
     (length c.args.text.now.roots) ordered
-    (ap (λ t. t.roots) c.set_pins.ensures.rest ∙ c.set_roots.ensures.roots ∙ ap (root_rows root) threads)
+    (ap (λ written_text. written_text.roots) c.set_pins.ensures.rest ∙ c.set_roots.ensures.roots ∙ ap (root_rows root) threads)
     (c.set_pins.ensures.pins ∙ ap (pin_rows pin) (c.set_roots.ensures.threads ∙ threads))
 
 pub returns-clause-words : goal.returns-clause-words
 returns-clause-words c =
-    ap (λ t. t.room) c.set_pins.ensures.rest ∙ c.set_roots.ensures.room ∙ c.write_objects.ensures.room ∙ ap (λ t. t.room) c.clear.ensures
+    ap (λ text. text.room) c.set_pins.ensures.rest ∙ c.set_roots.ensures.room ∙ c.write_objects.ensures.room ∙ ap (λ text. text.room) c.clear.ensures
 
 pub returns-clause-threads : goal.returns-clause-threads
 returns-clause-threads c =
     let null = replicate {A = Reference} 16 None in
-    ap (λ t. length t.roots) c.set_pins.ensures.rest ∙ c.set_roots.ensures.threads
-    ∙ ap length c.write_objects.ensures.roots ∙ ap (λ t. length t.roots) c.clear.ensures
+    ap (λ text. length text.roots) c.set_pins.ensures.rest ∙ c.set_roots.ensures.threads
+    ∙ ap length c.write_objects.ensures.roots ∙ ap (λ text. length text.roots) c.clear.ensures
     ∙ length-replicate (length c.args.text.now.roots) null

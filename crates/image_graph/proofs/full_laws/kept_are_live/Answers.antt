@@ -3,4 +3,4 @@ use Rattle.image_graph.proofs.Live.{kept_are_live}
 use Rattle.image_graph.proofs.full_laws.kept_are_live.Goals as goal
 
 pub returns : goal.returns
-returns c = λ config top heap block now kept roots g names holds are reach. kept_are_live config top heap block now kept (IsAmong roots) g holds are names reach
+returns c = λ config top heap block now kept roots graph names graph_held are_kept reach. kept_are_live config top heap block now kept (IsAmong roots) graph graph_held are_kept names reach

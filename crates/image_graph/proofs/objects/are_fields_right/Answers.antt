@@ -21,8 +21,8 @@ loop-index-preserved c =
     let index = c.loop-index.index in
     let word : c.word.result ≡ memory (Heap (c.args.address + 3 + index)) =
     read (config_of c.args.image.now) _ memory (Heap (c.args.address + 3 + index)) _ _ c.config-config.ensures (c.requires.inside index c.loop-index-test.true) c.heap_at.ensures c.word.ensures.named in
-    below_more (λ (j : ℕ). IsReference c.args.objects.now (memory (Heap (c.args.address + 3 + j)))) index c.loop-index.invariant
+    below_more (λ (field : ℕ). IsReference c.args.objects.now (memory (Heap (c.args.address + 3 + field)))) index c.loop-index.invariant
     (subst (IsReference c.args.objects.now) word (c.is_reference.ensures c.if-not-is_reference.false))
 
 pub returns : goal.returns
-returns c = λ _ i below. c.loop-index.invariant i (omega (arith, below, c.loop-index-test.false))
+returns c = λ _ index index_below. c.loop-index.invariant index (omega (arith, index_below, c.loop-index-test.false))

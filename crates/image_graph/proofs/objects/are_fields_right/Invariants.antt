@@ -5,4 +5,4 @@ use Rattle.image_graph.specs.Laid.{IsReference}
 use Rattle.image_graph.proofs.objects.are_fields_right.Given as goal
 
 abbrev pub invariant-loop-index : goal.invariant-loop-index
-invariant-loop-index l = (i : ℕ) → i < l.index → IsReference l.objects (memory_of l.image (Heap (l.address + 3 + i)))
+invariant-loop-index loop = (index : ℕ) → index < loop.index → IsReference loop.objects (memory_of loop.image (Heap (loop.address + 3 + index)))

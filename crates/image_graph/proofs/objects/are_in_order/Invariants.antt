@@ -5,7 +5,7 @@ use Rattle.image_graph.specs.Laid.{laid_words}
 use Rattle.image_graph.proofs.objects.are_in_order.Given as goal
 
 abbrev pub invariant-loop-index : goal.invariant-loop-index
-invariant-loop-index l = record {
-  apart : (k : ℕ) → k + 1 < l.index → get_or l.objects k 0 + laid_words (memory_of l.image) (get_or l.objects k 0) ≤ get_or l.objects (k + 1) 0;
-  named : (k : ℕ) → k + 1 < l.index → memory_of l.image (Heap (get_or l.objects k 0 + 2)) < memory_of l.image (Heap (get_or l.objects (k + 1) 0 + 2));
+invariant-loop-index loop = record {
+  apart : (index : ℕ) → index + 1 < loop.index → get_or loop.objects index 0 + laid_words (memory_of loop.image) (get_or loop.objects index 0) ≤ get_or loop.objects (index + 1) 0;
+  named : (index : ℕ) → index + 1 < loop.index → memory_of loop.image (Heap (get_or loop.objects index 0 + 2)) < memory_of loop.image (Heap (get_or loop.objects (index + 1) 0 + 2));
 }

@@ -4,4 +4,4 @@ use Rattle.image_graph.specs.Laid.{LiesRight}
 use Rattle.image_graph.proofs.objects.lie_right.Given as goal
 
 abbrev pub invariant-loop-address : goal.invariant-loop-address
-invariant-loop-address l = (k : ℕ) → k < l.address-index → LiesRight (config_of l.image) (memory_of l.image) l.objects (get_or l.objects k 0)
+invariant-loop-address loop = (index : ℕ) → index < loop.address-index → LiesRight (config_of loop.image) (memory_of loop.image) loop.objects (get_or loop.objects index 0)

@@ -46,11 +46,11 @@ pub overflow_add-end : goal.overflow_add-end
 overflow_add-end c =
     let region = c.region_of-region.result in
     let config = config_of c.args.image.now in
-    let below : region < config.regions = subst (λ (config : Config). region < config.regions) c.config-config.ensures c.region_of-region.ensures.below in
-    let top : c.word-2.result ≡ memory_of c.args.image.now (Top region) =
-    read config _ (memory_of c.args.image.now) (Top region) _ _ c.config-config.ensures below c.top_at.ensures c.word-2.ensures.named in
+    let region_below : region < config.regions = subst (λ (config : Config). region < config.regions) c.config-config.ensures c.region_of-region.ensures.below in
+    let top_is : c.word-2.result ≡ memory_of c.args.image.now (Top region) =
+    read config _ (memory_of c.args.image.now) (Top region) _ _ c.config-config.ensures region_below c.top_at.ensures c.word-2.ensures.named in
     let base : c.base.result ≡ base_of config region = c.base.ensures ∙ ap (λ (config : Config). base_of config region) c.config-config.ensures in
-    omega (arith, top, base, c.requires region below, low_region config region below)
+    omega (arith, top_is, base, c.requires region region_below, low_region config region region_below)
 
 pub returns-then-behind-end-2 : goal.returns-then-behind-end-2
 returns-then-behind-end-2 c =
@@ -58,13 +58,13 @@ returns-then-behind-end-2 c =
     let memory : Word → ℕ = memory_of c.args.image.now in
     let address = c.args.address in
     let region = c.region_of-region.result in
-    let below : region < config.regions = subst (λ (config : Config). region < config.regions) c.config-config.ensures c.region_of-region.ensures.below in
-    let top : c.word-2.result ≡ memory (Top region) = read config _ memory (Top region) _ _ c.config-config.ensures below c.top_at.ensures c.word-2.ensures.named in
+    let region_below : region < config.regions = subst (λ (config : Config). region < config.regions) c.config-config.ensures c.region_of-region.ensures.below in
+    let top_is : c.word-2.result ≡ memory (Top region) = read config _ memory (Top region) _ _ c.config-config.ensures region_below c.top_at.ensures c.word-2.ensures.named in
     let word : IsWord config (Heap (address + 1)) = subst (λ (config : Config). IsWord config (Heap (address + 1))) c.config-config.ensures
     (between c.config-config.result _ _ _ 1 c.region_words-first.ensures c.heap_size.ensures.value c.if-address-first.false c.if-last-address-lt3.false (omega arith)) in
-    let long : c.words_of.result ≡ laid_words memory address = c.words_of.ensures ∙ ap object_words (read config _ memory (Heap (address + 1)) _ _ c.config-config.ensures word c.heap_at.ensures c.word.ensures.named) in
+    let same_length : c.words_of.result ≡ laid_words memory address = c.words_of.ensures ∙ ap object_words (read config _ memory (Heap (address + 1)) _ _ c.config-config.ensures word c.heap_at.ensures c.word.ensures.named) in
     λ _. lies_by config c.config-config.result memory c.args.objects.now address _ _ _ region _ _ c.config-config.ensures c.region_words-first.ensures c.heap_size.ensures.value c.if-address-first.false
-    c.if-last-address-lt3.false long c.region_of-region.ensures.value c.base.ensures top c.if-behind-end.true (λ other. absurd (other c.if-behind-end-2.true))
+    c.if-last-address-lt3.false same_length c.region_of-region.ensures.value c.base.ensures top_is c.if-behind-end.true (λ other_end. absurd (other_end c.if-behind-end-2.true))
 
 pub returns-else-behind-end-2 : goal.returns-else-behind-end-2
 returns-else-behind-end-2 c =
@@ -72,13 +72,13 @@ returns-else-behind-end-2 c =
     let memory : Word → ℕ = memory_of c.args.image.now in
     let address = c.args.address in
     let region = c.region_of-region.result in
-    let below : region < config.regions = subst (λ (config : Config). region < config.regions) c.config-config.ensures c.region_of-region.ensures.below in
-    let top : c.word-2.result ≡ memory (Top region) = read config _ memory (Top region) _ _ c.config-config.ensures below c.top_at.ensures c.word-2.ensures.named in
+    let region_below : region < config.regions = subst (λ (config : Config). region < config.regions) c.config-config.ensures c.region_of-region.ensures.below in
+    let top_is : c.word-2.result ≡ memory (Top region) = read config _ memory (Top region) _ _ c.config-config.ensures region_below c.top_at.ensures c.word-2.ensures.named in
     let word : IsWord config (Heap (address + 1)) = subst (λ (config : Config). IsWord config (Heap (address + 1))) c.config-config.ensures
     (between c.config-config.result _ _ _ 1 c.region_words-first.ensures c.heap_size.ensures.value c.if-address-first.false c.if-last-address-lt3.false (omega arith)) in
-    let long : c.words_of.result ≡ laid_words memory address = c.words_of.ensures ∙ ap object_words (read config _ memory (Heap (address + 1)) _ _ c.config-config.ensures word c.heap_at.ensures c.word.ensures.named) in
-    λ yes. lies_by config c.config-config.result memory c.args.objects.now address _ _ _ region _ _ c.config-config.ensures c.region_words-first.ensures c.heap_size.ensures.value c.if-address-first.false
-    c.if-last-address-lt3.false long c.region_of-region.ensures.value c.base.ensures top c.if-behind-end.true (λ _. sym c.is_among.ensures ∙ yes)
+    let same_length : c.words_of.result ≡ laid_words memory address = c.words_of.ensures ∙ ap object_words (read config _ memory (Heap (address + 1)) _ _ c.config-config.ensures word c.heap_at.ensures c.word.ensures.named) in
+    λ result_true. lies_by config c.config-config.result memory c.args.objects.now address _ _ _ region _ _ c.config-config.ensures c.region_words-first.ensures c.heap_size.ensures.value c.if-address-first.false
+    c.if-last-address-lt3.false same_length c.region_of-region.ensures.value c.base.ensures top_is c.if-behind-end.true (λ _. sym c.is_among.ensures ∙ result_true)
 
 pub returns-else-behind-end : goal.returns-else-behind-end
-returns-else-behind-end c = λ yes. absurd (omega (arith, leb-true _ _ yes, c.if-behind-end.false))
+returns-else-behind-end c = λ result_true. absurd (omega (arith, leb-true _ _ result_true, c.if-behind-end.false))

@@ -14,8 +14,8 @@ reads_right-requires-clause-inside c =
 
 pub loop-address-preserved : goal.loop-address-preserved
 loop-address-preserved c =
-    below_more (λ (k : ℕ). ReadsRight (config_of c.args.image.now) (memory_of c.args.image.now) c.args.objects.now (get_or c.args.objects.now k 0)) c.loop-address.address-index
+    below_more (λ (index : ℕ). ReadsRight (config_of c.args.image.now) (memory_of c.args.image.now) c.args.objects.now (get_or c.args.objects.now index 0)) c.loop-address.address-index
     c.loop-address.invariant (c.reads_right.ensures c.if-not-reads_right.false)
 
 pub returns : goal.returns
-returns c = λ _ k below. c.loop-address.invariant k (omega (arith, below, c.loop-address-test.false))
+returns c = λ _ index index_below. c.loop-address.invariant index (omega (arith, index_below, c.loop-address-test.false))

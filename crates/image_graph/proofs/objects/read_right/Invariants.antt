@@ -4,4 +4,4 @@ use Rattle.image_graph.specs.Laid.{ReadsRight}
 use Rattle.image_graph.proofs.objects.read_right.Given as goal
 
 abbrev pub invariant-loop-address : goal.invariant-loop-address
-invariant-loop-address l = (k : ℕ) → k < l.address-index → ReadsRight (config_of l.image) (memory_of l.image) l.objects (get_or l.objects k 0)
+invariant-loop-address loop = (index : ℕ) → index < loop.address-index → ReadsRight (config_of loop.image) (memory_of loop.image) loop.objects (get_or loop.objects index 0)

@@ -36,9 +36,9 @@ pub are_fields_right-requires-clause-inside : goal.are_fields_right-requires-cla
 are_fields_right-requires-clause-inside c =
     let config = config_of c.args.image.now in
     let memory : Word → ℕ = memory_of c.args.image.now in
-    let shape : c.word-shape.result ≡ memory (Heap (c.args.address + 1)) =
+    let shape_is : c.word-shape.result ≡ memory (Heap (c.args.address + 1)) =
     read config _ memory (Heap (c.args.address + 1)) _ _ c.config-config.ensures (head _ config _ _ _ 1 refl c.requires.lies (omega arith)) c.heap_at.ensures c.word-shape.ensures.named in
-    λ i below. field config memory _ c.args.address i c.requires.lies c.requires.inside (subst (λ (n : ℕ). i < n) (c.refs_of.ensures ∙ ap refs_in shape) below)
+    λ field_index field_below. field config memory _ c.args.address field_index c.requires.lies c.requires.inside (subst (λ (count : ℕ). field_index < count) (c.refs_of.ensures ∙ ap refs_in shape_is) field_below)
 
 pub are_fields_right-requires-clause-small : goal.are_fields_right-requires-clause-small
 are_fields_right-requires-clause-small c = omega (arith, low _ _ _ _ c.requires.lies, c.refs_of.ensures)
@@ -48,15 +48,15 @@ returns c =
     let config = config_of c.args.image.now in
     let memory : Word → ℕ = memory_of c.args.image.now in
     let address = c.args.address in
-    let shape : c.word-shape.result ≡ memory (Heap (address + 1)) =
+    let shape_is : c.word-shape.result ≡ memory (Heap (address + 1)) =
     read config _ memory (Heap (address + 1)) _ _ c.config-config.ensures (head _ config _ _ _ 1 refl c.requires.lies (omega arith)) c.heap_at.ensures c.word-shape.ensures.named in
-    let header : c.word.result ≡ memory (Heap address) =
+    let header_is : c.word.result ≡ memory (Heap address) =
     read config _ memory (Heap address) _ _ c.config-config.ensures (first _ config _ _ _ refl c.requires.lies) c.heap_at-2.ensures c.word.ensures.named in
-    let name : c.word-2.result ≡ memory (Heap (address + 2)) =
+    let name_is : c.word-2.result ≡ memory (Heap (address + 2)) =
     read config _ memory (Heap (address + 2)) _ _ c.config-config.ensures (head _ config _ _ _ 2 refl c.requires.lies (omega arith)) c.heap_at-3.ensures c.word-2.ensures.named in
-    λ yes. record {
-      header = sym header ∙ c.if-word-ne1.false;
-      shape = subst IsShape shape (c.is_shape.ensures c.if-not-is_shape.false);
-      name = subst (IsNamedRight config memory) name (c.is_named_right.ensures c.if-not-is_named_right.false);
-      fields = λ i below. c.are_fields_right.ensures yes i (subst (λ (n : ℕ). i < n) (sym (c.refs_of.ensures ∙ ap refs_in shape)) below);
+    λ fields_right. record {
+      header = sym header_is ∙ c.if-word-ne1.false;
+      shape = subst IsShape shape_is (c.is_shape.ensures c.if-not-is_shape.false);
+      name = subst (IsNamedRight config memory) name_is (c.is_named_right.ensures c.if-not-is_named_right.false);
+      fields = λ field_index field_below. c.are_fields_right.ensures fields_right field_index (subst (λ (count : ℕ). field_index < count) (sym (c.refs_of.ensures ∙ ap refs_in shape_is)) field_below);
     }

@@ -23,4 +23,4 @@ loop-index-preserved c =
     (subst (IsReference c.args.objects.now) word (c.is_reference.ensures c.if-not-is_reference.false))
 
 pub returns : goal.returns
-returns c = λ _ i below. c.loop-index.invariant i (omega (arith, below, c.loop-index-test.false))
+returns c = λ _ index index_below. c.loop-index.invariant index (omega (arith, index_below, c.loop-index-test.false))

@@ -5,4 +5,4 @@ use Rattle.image_graph.specs.Laid.{IsReference}
 use Rattle.image_graph.proofs.rest.are_roots_right.Given as goal
 
 abbrev pub invariant-loop-index : goal.invariant-loop-index
-invariant-loop-index l = (i : ℕ) → i < l.index → IsReference l.objects (memory_of l.image (Root l.mutator i))
+invariant-loop-index loop = (index : ℕ) → index < loop.index → IsReference loop.objects (memory_of loop.image (Root loop.mutator index))

@@ -21,4 +21,4 @@ loop-slot-preserved c =
     below_more (λ (slot : ℕ). memory (Pin c.args.mutator slot) ≡ 0) slot c.loop-slot.invariant (sym word ∙ c.if-word-ne0.false)
 
 pub returns : goal.returns
-returns c = λ _ i below. c.loop-slot.invariant i (omega (arith, below, c.loop-slot-test.false))
+returns c = λ _ slot slot_below. c.loop-slot.invariant slot (omega (arith, slot_below, c.loop-slot-test.false))

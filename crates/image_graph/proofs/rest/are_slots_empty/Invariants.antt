@@ -4,4 +4,4 @@ use Rattle.image_graph.specs.State.{memory_of}
 use Rattle.image_graph.proofs.rest.are_slots_empty.Given as goal
 
 abbrev pub invariant-loop-slot : goal.invariant-loop-slot
-invariant-loop-slot l = (i : ℕ) → i < l.slot → memory_of l.image (Pin l.mutator i) ≡ 0
+invariant-loop-slot loop = (slot : ℕ) → slot < loop.slot → memory_of loop.image (Pin loop.mutator slot) ≡ 0

@@ -4,4 +4,4 @@ use Rattle.image_graph.specs.State.{memory_of}
 use Rattle.image_graph.proofs.rest.has_no_buffers.Given as goal
 
 abbrev pub invariant-loop-seat : goal.invariant-loop-seat
-invariant-loop-seat l = (seat : ℕ) → seat < l.seat → memory_of l.image (Current seat) ≡ 0
+invariant-loop-seat loop = (seat : ℕ) → seat < loop.seat → memory_of loop.image (Current seat) ≡ 0

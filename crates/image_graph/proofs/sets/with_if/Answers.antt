@@ -4,4 +4,4 @@ use Rattle.image_graph.proofs.sets.with_if.Goals as goal
 
 pub returns-then-member : goal.returns-then-member
 returns-then-member c =
-    bit_joined c.args.set c.args.region c.requires.region c.requires.below ∙ ap (λ b. (if b then 1 else 0) * 2 ^ c.args.region + c.args.set) (sym c.if-member.true)
+    bit_joined c.args.set c.args.region c.requires.region c.requires.below ∙ ap (λ member. (if member then 1 else 0) * 2 ^ c.args.region + c.args.set) (sym c.if-member.true)

@@ -5,11 +5,11 @@ use Rattle.shen_core.specs.Agendas.{IsWalkOf}
 use Rattle.listing_lines.proofs.scout.made_before.Given as goal
 
 abbrev pub invariant-loop-made : goal.invariant-loop-made
-invariant-loop-made l = record {
-  run : CanRun l.plain l.work;
-  walk : IsWalkOf (config_of l.plain) l.walk;
-  less : l.made ≤ l.limit;
+invariant-loop-made loop = record {
+  run : CanRun loop.plain loop.work;
+  walk : IsWalkOf (config_of loop.plain) loop.walk;
+  less : loop.made ≤ loop.limit;
 }
 
 abbrev pub decreases-loop-made : goal.decreases-loop-made
-decreases-loop-made l = l.limit - l.made
+decreases-loop-made loop = loop.limit - loop.made

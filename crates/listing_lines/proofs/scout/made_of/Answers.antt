@@ -12,8 +12,8 @@ pub open-requires : goal.open-requires
 open-requires c =
     let trace = c.args.trace.now in
     let count = count_scripts c.requires.0 trace.version trace.config trace.scripts trace.schedule c.requires.1 in
-    let same = ap (λ (scripts : List (List Command)). length scripts) c.list.ensures in
-    omega (arith, count, same)
+    let same_length = ap (λ (scripts : List (List Command)). length scripts) c.list.ensures in
+    omega (arith, count, same_length)
 
 pub made_before-requires-clause-run : goal.made_before-requires-clause-run
 made_before-requires-clause-run c =

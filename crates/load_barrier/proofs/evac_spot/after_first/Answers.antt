@@ -4,6 +4,6 @@ use Rattle.load_barrier.proofs.evac_spot.after_first.Goals as goal
 
 pub overflow_add-address : goal.overflow_add-address
 overflow_add-address c =
-    let small = address_small c.args.config c.args.address c.requires in
-    let few = filler_small c.args.header c.in-Some.words (omega (arith, c.ranges.header)) (sym c.in-Some.ensures) in
-    omega (arith, small, few)
+    let address_fits = address_small c.args.config c.args.address c.requires in
+    let words_small = filler_small c.args.header c.in-Some.words (omega (arith, c.ranges.header)) (sym c.in-Some.ensures) in
+    omega (arith, address_fits, words_small)

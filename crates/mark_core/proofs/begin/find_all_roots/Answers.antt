@@ -11,14 +11,14 @@ pub loop-mutator-preserved : goal.loop-mutator-preserved
 loop-mutator-preserved c =
     let mutator = c.loop-mutator.mutator in
     let old = c.args.image.now in
-    let now = c.loop-mutator.image in
-    let same = c.loop-mutator.invariant.unchanged in
+    let image_now = c.loop-mutator.image in
+    let unchanged = c.loop-mutator.invariant.unchanged in
     let memory : Word → ℕ = memory_of old in
     record {
-      unchanged = both old now c.find_roots.new.image same c.find_roots.ensures.unchanged;
+      unchanged = both old image_now c.find_roots.new.image unchanged c.find_roots.ensures.unchanged;
       found = c.find_roots.ensures.found;
       noted = c.find_roots.ensures.noted
-          ∙ ap (λ (memory : Word → ℕ). with_addresses (found_of now) (map (λ index. memory (Root mutator index)) (range_with_len 0 16))) (memory_same old now same)
-          ∙ ap (λ xs. with_addresses xs (map (λ index. memory (Root mutator index)) (range_with_len 0 16))) c.loop-mutator.invariant.noted
+          ∙ ap (λ (memory : Word → ℕ). with_addresses (found_of image_now) (map (λ index. memory (Root mutator index)) (range_with_len 0 16))) (memory_same old image_now unchanged)
+          ∙ ap (λ found_list. with_addresses found_list (map (λ index. memory (Root mutator index)) (range_with_len 0 16))) c.loop-mutator.invariant.noted
           ∙ roots_more memory mutator (found_of old);
     }

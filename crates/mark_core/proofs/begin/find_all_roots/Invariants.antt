@@ -5,8 +5,8 @@ use Rattle.image_graph.specs.State.{memory_of, found_of, AreFound, IsUnchanged}
 use Rattle.mark_core.proofs.begin.find_all_roots.Given as goal
 
 abbrev pub invariant-loop-mutator : goal.invariant-loop-mutator
-invariant-loop-mutator l = record {
-  unchanged : IsUnchanged l.fn.image l.image;
-  found : AreFound l.image;
-  noted : found_of l.image ≡ with_addresses (found_of l.fn.image) (roots_below (memory_of l.fn.image) l.mutator);
+invariant-loop-mutator locals = record {
+  unchanged : IsUnchanged locals.fn.image locals.image;
+  found : AreFound locals.image;
+  noted : found_of locals.image ≡ with_addresses (found_of locals.fn.image) (roots_below (memory_of locals.fn.image) locals.mutator);
 }

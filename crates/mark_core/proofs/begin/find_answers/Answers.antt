@@ -11,21 +11,21 @@ pub loop-mutator-preserved : goal.loop-mutator-preserved
 loop-mutator-preserved c =
     let mutator = c.loop-mutator.mutator in
     let old = c.args.image.now in
-    let now = c.loop-mutator.image in
-    let after = c.find_answer.new.image in
-    let same = c.loop-mutator.invariant.unchanged in
+    let image_now = c.loop-mutator.image in
+    let later_image = c.find_answer.new.image in
+    let unchanged = c.loop-mutator.invariant.unchanged in
     let memory : Word → ℕ = memory_of old in
-    let answer : memory_of now (Answer mutator) ≡ memory (Answer mutator) = ap (λ k. k (Answer mutator)) (memory_same old now same) in
+    let answer : memory_of image_now (Answer mutator) ≡ memory (Answer mutator) = ap (λ memory_then. memory_then (Answer mutator)) (memory_same old image_now unchanged) in
     record {
-      unchanged = both old now after same c.find_answer.ensures.unchanged;
+      unchanged = both old image_now later_image unchanged c.find_answer.ensures.unchanged;
       found = c.find_answer.ensures.found;
       noted = ⊎_elim
-          (λ (some : 1 < memory (Answer mutator)).
-          c.find_answer.ensures.noted (omega (arith, some, answer))
-          ∙ ap (with_address (found_of now)) answer
-          ∙ ap (λ xs. with_address xs (memory (Answer mutator))) c.loop-mutator.invariant.noted
-          ∙ answer_more memory mutator (found_of old) some)
-          (λ (none : memory (Answer mutator) ≤ 1).
-          c.find_answer.ensures.none (omega (arith, none, answer)) ∙ c.loop-mutator.invariant.noted ∙ answer_none memory mutator (found_of old) none)
+          (λ (some_answer : 1 < memory (Answer mutator)).
+          c.find_answer.ensures.noted (omega (arith, some_answer, answer))
+          ∙ ap (with_address (found_of image_now)) answer
+          ∙ ap (λ found_list. with_address found_list (memory (Answer mutator))) c.loop-mutator.invariant.noted
+          ∙ answer_more memory mutator (found_of old) some_answer)
+          (λ (no_answer : memory (Answer mutator) ≤ 1).
+          c.find_answer.ensures.none (omega (arith, no_answer, answer)) ∙ c.loop-mutator.invariant.noted ∙ answer_none memory mutator (found_of old) no_answer)
           (cases_lt 1 (memory (Answer mutator)));
     }

@@ -6,8 +6,8 @@ use Rattle.image_graph.specs.State.{memory_of, found_of, AreFound, IsUnchanged}
 use Rattle.mark_core.proofs.begin.find_pins.Given as goal
 
 abbrev pub invariant-loop-slot : goal.invariant-loop-slot
-invariant-loop-slot l = record {
-  unchanged : IsUnchanged l.fn.image l.image;
-  found : AreFound l.image;
-  noted : found_of l.image ≡ with_addresses (found_of l.fn.image) (map (λ slot. memory_of l.fn.image (Pin l.mutator slot)) (range_with_len 0 l.slot));
+invariant-loop-slot locals = record {
+  unchanged : IsUnchanged locals.fn.image locals.image;
+  found : AreFound locals.image;
+  noted : found_of locals.image ≡ with_addresses (found_of locals.fn.image) (map (λ slot. memory_of locals.fn.image (Pin locals.mutator slot)) (range_with_len 0 locals.slot));
 }

@@ -6,8 +6,8 @@ use Rattle.image_graph.specs.State.{memory_of, found_of, AreFound, IsUnchanged}
 use Rattle.mark_core.proofs.begin.find_roots.Given as goal
 
 abbrev pub invariant-loop-index : goal.invariant-loop-index
-invariant-loop-index l = record {
-  unchanged : IsUnchanged l.fn.image l.image;
-  found : AreFound l.image;
-  noted : found_of l.image ≡ with_addresses (found_of l.fn.image) (map (λ index. memory_of l.fn.image (Root l.mutator index)) (range_with_len 0 l.index));
+invariant-loop-index locals = record {
+  unchanged : IsUnchanged locals.fn.image locals.image;
+  found : AreFound locals.image;
+  noted : found_of locals.image ≡ with_addresses (found_of locals.fn.image) (map (λ index. memory_of locals.fn.image (Root locals.mutator index)) (range_with_len 0 locals.index));
 }

@@ -15,9 +15,9 @@ pub init_mark_by_part-requires-clause-buffers : goal.init_mark_by_part-requires-
 init_mark_by_part-requires-clause-buffers c = inside_some (config_of c.args.image.now) (memory_of c.args.image.now) c.requires.holds
 
 pub returns-clause-begins : goal.returns-clause-begins
-returns-clause-begins c = λ block owner p graph holds.
-    subst (λ n. BeginsMarking (config_of c.args.image.now) (memory_of c.args.image.now) n block owner p graph) (sym c.init_mark_by_part.ensures.words)
-    (init_marks (config_of c.args.image.now) (memory_of c.args.image.now) block owner p graph holds c.requires.calm (no_more_seats (config_of c.args.image.now) (words_of c.args.image.now)))
+returns-clause-begins c = λ block owner promises graph holds.
+    subst (λ memory_then. BeginsMarking (config_of c.args.image.now) (memory_of c.args.image.now) memory_then block owner promises graph) (sym c.init_mark_by_part.ensures.words)
+    (init_marks (config_of c.args.image.now) (memory_of c.args.image.now) block owner promises graph holds c.requires.calm (no_more_seats (config_of c.args.image.now) (words_of c.args.image.now)))
 
 pub returns-clause-marks : goal.returns-clause-marks
 returns-clause-marks c = marks_after (config_of c.args.image.now) (memory_of c.args.image.now) (memory_of c.init_mark_by_part.new.image) (returns-clause-begins c) c.requires.holds

@@ -4,7 +4,7 @@ use Rattle.mark_core.specs.Steps.{noted}
 use Rattle.mark_core.proofs.begin.note_edges.Given as goal
 
 abbrev pub invariant-loop-region : goal.invariant-loop-region
-invariant-loop-region l = record {
-  config : config_of l.image ≡ config_of l.fn.image;
-  words : memory_of l.image ≡ noted (config_of l.fn.image) l.region (memory_of l.fn.image);
+invariant-loop-region locals = record {
+  config : config_of locals.image ≡ config_of locals.fn.image;
+  words : memory_of locals.image ≡ noted (config_of locals.fn.image) locals.region (memory_of locals.fn.image);
 }

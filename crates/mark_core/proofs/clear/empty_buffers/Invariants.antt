@@ -4,7 +4,7 @@ use Rattle.mark_core.specs.Steps.{emptied}
 use Rattle.mark_core.proofs.clear.empty_buffers.Given as goal
 
 abbrev pub invariant-loop-mutator : goal.invariant-loop-mutator
-invariant-loop-mutator l = record {
-  config : config_of l.image ≡ config_of l.fn.image;
-  words : memory_of l.image ≡ emptied l.mutator (memory_of l.fn.image);
+invariant-loop-mutator locals = record {
+  config : config_of locals.image ≡ config_of locals.fn.image;
+  words : memory_of locals.image ≡ emptied locals.mutator (memory_of locals.fn.image);
 }

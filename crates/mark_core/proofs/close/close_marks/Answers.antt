@@ -22,31 +22,31 @@ returns-clause-words c =
     let old = c.args.image.now in
     let config = config_of old in
     let memory : Word → ℕ = memory_of old in
-    let one = c.find_traced.new.image in
-    let two = c.mark_found.new.image in
-    let same = c.find_traced.ensures.unchanged in
-    let to_two : memory_of two ≡ marked config (has (traced_in config memory)) (bit_words config) memory =
+    let traced_image = c.find_traced.new.image in
+    let marked_image = c.mark_found.new.image in
+    let unchanged = c.find_traced.ensures.unchanged in
+    let to_two : memory_of marked_image ≡ marked config (has (traced_in config memory)) (bit_words config) memory =
     c.mark_found.ensures.words
-    ∙ ap (λ (config : Config). marked config (has (found_of one)) (bit_words config) (memory_of one)) same.config
-    ∙ ap (λ n. marked config (has (found_of one)) (bit_words config) n) (memory_same old one same)
-    ∙ ap (λ xs. marked config (has xs) (bit_words config) memory) c.find_traced.ensures.traced in
+    ∙ ap (λ (config : Config). marked config (has (found_of traced_image)) (bit_words config) (memory_of traced_image)) unchanged.config
+    ∙ ap (λ memory_then. marked config (has (found_of traced_image)) (bit_words config) memory_then) (memory_same old traced_image unchanged)
+    ∙ ap (λ found_list. marked config (has found_list) (bit_words config) memory) c.find_traced.ensures.traced in
     c.empty_buffers.ensures.words
-    ∙ ap (λ (config : Config). emptied config.mutators (memory_of two)) (c.mark_found.ensures.config ∙ same.config)
+    ∙ ap (λ (config : Config). emptied config.mutators (memory_of marked_image)) (c.mark_found.ensures.config ∙ unchanged.config)
     ∙ ap (emptied config.mutators) to_two
     ∙ closed_is config (words_of old) (can_trace_some config memory c.requires)
 
 pub returns-clause-traced : goal.returns-clause-traced
-returns-clause-traced c = λ block owner p graph holds marking.
+returns-clause-traced c = λ block owner promises graph holds marking.
     let config = config_of c.args.image.now in
     let memory : Word → ℕ = memory_of c.args.image.now in
-    subst (λ n. AreClosed config memory n) (sym (returns-clause-words c)) (are_closed config memory block owner p graph holds marking)
+    subst (λ memory_then. AreClosed config memory memory_then) (sym (returns-clause-words c)) (are_closed config memory block owner promises graph holds marking)
 
 pub returns-clause-through : goal.returns-clause-through
-returns-clause-through c = λ block owner p graph holds marking.
+returns-clause-through c = λ block owner promises graph holds marking.
     let config = config_of c.args.image.now in
     let memory : Word → ℕ = memory_of c.args.image.now in
-    subst (λ memory. HoldsBy config memory block owner p graph × IsMarkedThrough config memory block) (sym (returns-clause-words c))
-    (closed_holds config memory block owner p graph holds marking, closed_through config memory block owner p graph holds marking)
+    subst (λ memory. HoldsBy config memory block owner promises graph × IsMarkedThrough config memory block) (sym (returns-clause-words c))
+    (closed_holds config memory block owner promises graph holds marking, closed_through config memory block owner promises graph holds marking)
 
 pub returns-clause-holds : goal.returns-clause-holds
 returns-clause-holds c =

@@ -24,33 +24,33 @@ loop-word-preserved c =
     let old = c.args.image.now in
     let config = config_of old in
     let memory : Word → ℕ = memory_of old in
-    let set = has [] in
+    let empty_set = has [] in
     let word = c.loop-word.word in
-    let now = c.loop-word.image in
-    let one = c.set_word.new.self in
-    let two = c.set_word-in-loop-word.new.self in
-    let is = c.loop-word.invariant in
-    let same : c.config-config.result ≡ config = c.config-config.ensures in
-    let below : word < bit_words config = omega (arith, c.loop-word-test.true, c.mark_words-word-end.ensures.value, ap bit_words same) in
-    let bits : 0 ≡ mark_bits config set word = sym (bits_none set (config.region_words + 64 * word) 64 (λ k few. refl)) in
-    let to_one = stored (config_of now) config (memory_of now) (memory_of one) (Grey word) c.grey_at.result 0
-    is.config below (c.grey_at.ensures ∙ ap (λ (config : Config). word_at config (Grey word)) same) c.set_word.ensures.named in
-    let to_two = stored (config_of one) config (memory_of one) (memory_of two) (Black word) c.black_at.result 0
-    (c.set_word.ensures.config ∙ is.config) below (c.black_at.ensures ∙ ap (λ (config : Config). word_at config (Black word)) same) c.set_word-in-loop-word.ensures.named in
+    let image_now = c.loop-word.image in
+    let first_cleared = c.set_word.new.self in
+    let second_cleared = c.set_word-in-loop-word.new.self in
+    let cleared_so_far = c.loop-word.invariant in
+    let same_config : c.config-config.result ≡ config = c.config-config.ensures in
+    let word_below : word < bit_words config = omega (arith, c.loop-word-test.true, c.mark_words-word-end.ensures.value, ap bit_words same_config) in
+    let bits : 0 ≡ mark_bits config empty_set word = sym (bits_none empty_set (config.region_words + 64 * word) 64 (λ k few. refl)) in
+    let to_one = stored (config_of image_now) config (memory_of image_now) (memory_of first_cleared) (Grey word) c.grey_at.result 0
+    cleared_so_far.config word_below (c.grey_at.ensures ∙ ap (λ (config : Config). word_at config (Grey word)) same_config) c.set_word.ensures.named in
+    let to_two = stored (config_of first_cleared) config (memory_of first_cleared) (memory_of second_cleared) (Black word) c.black_at.result 0
+    (c.set_word.ensures.config ∙ cleared_so_far.config) word_below (c.black_at.ensures ∙ ap (λ (config : Config). word_at config (Black word)) same_config) c.set_word-in-loop-word.ensures.named in
     record {
-      config = c.set_word-in-loop-word.ensures.config ∙ c.set_word.ensures.config ∙ is.config;
-      same = c.set_word-in-loop-word.ensures.found ∙ c.set_word.ensures.found ∙ is.same;
-      found = still_found one two c.set_word-in-loop-word.ensures.config c.set_word-in-loop-word.ensures.marks c.set_word-in-loop-word.ensures.found
-          (still_found now one c.set_word.ensures.config c.set_word.ensures.marks c.set_word.ensures.found is.found);
+      config = c.set_word-in-loop-word.ensures.config ∙ c.set_word.ensures.config ∙ cleared_so_far.config;
+      same = c.set_word-in-loop-word.ensures.found ∙ c.set_word.ensures.found ∙ cleared_so_far.same;
+      found = still_found first_cleared second_cleared c.set_word-in-loop-word.ensures.config c.set_word-in-loop-word.ensures.marks c.set_word-in-loop-word.ensures.found
+          (still_found image_now first_cleared c.set_word.ensures.config c.set_word.ensures.marks c.set_word.ensures.found cleared_so_far.found);
       words = to_two
-          ∙ ap (λ k. write k (Black word) 0) (to_one ∙ ap (λ k. write k (Grey word) 0) is.words ∙ ap (write (greyed config set word memory) (Grey word)) bits)
-          ∙ greyed_next config set word memory;
+          ∙ ap (λ k. write k (Black word) 0) (to_one ∙ ap (λ k. write k (Grey word) 0) cleared_so_far.words ∙ ap (write (greyed config empty_set word memory) (Grey word)) bits)
+          ∙ greyed_next config empty_set word memory;
     }
 
 pub returns-clause-words : goal.returns-clause-words
 returns-clause-words c =
     let old = c.args.image.now in
     let config = config_of old in
-    let all : c.loop-word.word ≡ bit_words config =
+    let all_words : c.loop-word.word ≡ bit_words config =
     omega (arith, c.loop-word-test.false, c.loop-word.auto.word-end, c.mark_words-word-end.ensures.value, ap bit_words c.config-config.ensures) in
-    c.loop-word.invariant.words ∙ ap (λ n. greyed config (has []) n (memory_of old)) all
+    c.loop-word.invariant.words ∙ ap (λ count. greyed config (has []) count (memory_of old)) all_words

@@ -5,9 +5,9 @@ use Rattle.mark_core.specs.Steps.{greyed}
 use Rattle.mark_core.proofs.colour.clear_marks.Given as goal
 
 abbrev pub invariant-loop-word : goal.invariant-loop-word
-invariant-loop-word l = record {
-  config : config_of l.image ≡ config_of l.fn.image;
-  same : found_of l.image ≡ found_of l.fn.image;
-  found : AreFound l.image;
-  words : memory_of l.image ≡ greyed (config_of l.fn.image) (has []) l.word (memory_of l.fn.image);
+invariant-loop-word locals = record {
+  config : config_of locals.image ≡ config_of locals.fn.image;
+  same : found_of locals.image ≡ found_of locals.fn.image;
+  found : AreFound locals.image;
+  words : memory_of locals.image ≡ greyed (config_of locals.fn.image) (has []) locals.word (memory_of locals.fn.image);
 }

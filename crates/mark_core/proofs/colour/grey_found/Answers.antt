@@ -28,36 +28,36 @@ set_mark-requires-clause-inside c = found_inside c.loop-address.image c.loop-add
 
 pub loop-address-smaller : goal.loop-address-smaller
 loop-address-smaller c =
-    let now = c.loop-address.image in
-    let within = slice_get_within (found_of now) c.loop-address.turn c.in-Some.address (sym c.in-Some.ensures) in
-    let few = marks.few (config_of now).region_words (marks_of now) (found_of now) c.loop-address.invariant.found in
-    omega (arith, within, few, now.all_marks, ap heap_size c.loop-address.invariant.config)
+    let image_now = c.loop-address.image in
+    let turn_within = slice_get_within (found_of image_now) c.loop-address.turn c.in-Some.address (sym c.in-Some.ensures) in
+    let few_found = marks.few (config_of image_now).region_words (marks_of image_now) (found_of image_now) c.loop-address.invariant.found in
+    omega (arith, turn_within, few_found, image_now.all_marks, ap heap_size c.loop-address.invariant.config)
 
 pub loop-address-preserved : goal.loop-address-preserved
 loop-address-preserved c =
     let old = c.args.image.now in
     let config = config_of old in
     let memory : Word → ℕ = memory_of old in
-    let xs : List ℕ = found_of old in
-    let now = c.loop-address.image in
-    let one = c.set_mark.new.image in
-    let was = c.loop-address.invariant in
+    let found_list : List ℕ = found_of old in
+    let image_now = c.loop-address.image in
+    let marked_image = c.set_mark.new.image in
+    let greyed_so_far = c.loop-address.invariant in
     let address : ℕ = c.in-Some.address in
     let turn : ℕ = c.loop-address.turn in
-    let at : slice_get xs turn ≡ Some address = sym (ap (λ ys. slice_get ys turn) was.same) ∙ sym c.in-Some.ensures in
-    let heap : IsWord config (Heap address) = subst (λ (config : Config). IsWord config (Heap address)) was.config (found_inside now turn address was.found (sym c.in-Some.ensures)) in
-    let grey : c.grey_at-grey.result ≡ word_at (config_of now) (Grey 0) = c.grey_at-grey.ensures ∙ ap (λ (config : Config). word_at config (Grey 0)) (c.config.ensures ∙ c.clear_marks.ensures.config ∙ sym was.config) in
-    let to_one : memory_of one ≡ grey_besides config address (greyed config (has (take turn xs)) (bit_words config) memory) =
-    c.set_mark.ensures.grey grey ∙ ap (λ (config : Config). grey_besides config address (memory_of now)) was.config ∙ ap (grey_besides config address) was.words in
-    let within = slice_get_within (found_of now) turn address (sym c.in-Some.ensures) in
-    let few = marks.few (config_of now).region_words (marks_of now) (found_of now) was.found in
+    let address_at_turn : slice_get found_list turn ≡ Some address = sym (ap (λ list_now. slice_get list_now turn) greyed_so_far.same) ∙ sym c.in-Some.ensures in
+    let heap : IsWord config (Heap address) = subst (λ (config : Config). IsWord config (Heap address)) greyed_so_far.config (found_inside image_now turn address greyed_so_far.found (sym c.in-Some.ensures)) in
+    let grey_start : c.grey_at-grey.result ≡ word_at (config_of image_now) (Grey 0) = c.grey_at-grey.ensures ∙ ap (λ (config : Config). word_at config (Grey 0)) (c.config.ensures ∙ c.clear_marks.ensures.config ∙ sym greyed_so_far.config) in
+    let to_one : memory_of marked_image ≡ grey_besides config address (greyed config (has (take turn found_list)) (bit_words config) memory) =
+    c.set_mark.ensures.grey grey_start ∙ ap (λ (config : Config). grey_besides config address (memory_of image_now)) greyed_so_far.config ∙ ap (grey_besides config address) greyed_so_far.words in
+    let turn_within = slice_get_within (found_of image_now) turn address (sym c.in-Some.ensures) in
+    let few_found = marks.few (config_of image_now).region_words (marks_of image_now) (found_of image_now) greyed_so_far.found in
     record {
-      config = c.set_mark.ensures.config ∙ was.config;
-      same = c.set_mark.ensures.found ∙ was.same;
-      found = still_found now one c.set_mark.ensures.config c.set_mark.ensures.marks c.set_mark.ensures.found was.found;
+      config = c.set_mark.ensures.config ∙ greyed_so_far.config;
+      same = c.set_mark.ensures.found ∙ greyed_so_far.same;
+      found = still_found image_now marked_image c.set_mark.ensures.config c.set_mark.ensures.marks c.set_mark.ensures.found greyed_so_far.found;
       words = to_one
-          ∙ greyed_more config (has (take turn xs)) (has (take (turn + 1) xs)) address heap.0 (has_next xs turn address at) (λ q other. has_others xs turn address q at other) memory (bit_words config) (word_inside config address heap);
-      few = omega (arith, within, few, now.all_marks, ap heap_size was.config);
+          ∙ greyed_more config (has (take turn found_list)) (has (take (turn + 1) found_list)) address heap.0 (has_next found_list turn address address_at_turn) (λ other_address differs. has_others found_list turn address other_address address_at_turn differs) memory (bit_words config) (word_inside config address heap);
+      few = omega (arith, turn_within, few_found, image_now.all_marks, ap heap_size greyed_so_far.config);
     }
 
 pub returns-clause-words : goal.returns-clause-words
@@ -65,6 +65,6 @@ returns-clause-words c =
     let old = c.args.image.now in
     let config = config_of old in
     let turn : ℕ = c.loop-address.turn in
-    let was = c.loop-address.invariant in
-    let none : slice_get (found_of old) turn ≡ None = sym (ap (λ ys. slice_get ys turn) was.same) ∙ sym c.found_at.ensures ∙ none_if_never c.found_at.result c.in_default.not-Some in
-    was.words ∙ ap (λ ys. greyed config (has ys) (bit_words config) (memory_of old)) (take_all turn (found_of old) (index_past_end (found_of old) turn none))
+    let greyed_so_far = c.loop-address.invariant in
+    let none_at_turn : slice_get (found_of old) turn ≡ None = sym (ap (λ list_now. slice_get list_now turn) greyed_so_far.same) ∙ sym c.found_at.ensures ∙ none_if_never c.found_at.result c.in_default.not-Some in
+    greyed_so_far.words ∙ ap (λ list_now. greyed config (has list_now) (bit_words config) (memory_of old)) (take_all turn (found_of old) (index_past_end (found_of old) turn none_at_turn))

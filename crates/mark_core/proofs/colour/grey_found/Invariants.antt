@@ -6,13 +6,13 @@ use Rattle.mark_core.specs.Steps.{greyed}
 use Rattle.mark_core.proofs.colour.grey_found.Given as goal
 
 abbrev pub invariant-loop-address : goal.invariant-loop-address
-invariant-loop-address l = record {
-  config : config_of l.image ≡ config_of l.fn.image;
-  same : found_of l.image ≡ found_of l.fn.image;
-  found : AreFound l.image;
-  words : memory_of l.image ≡ greyed (config_of l.fn.image) (has (take l.turn (found_of l.fn.image))) (bit_words (config_of l.fn.image)) (memory_of l.fn.image);
-  few : l.turn ≤ heap_size (config_of l.fn.image);
+invariant-loop-address locals = record {
+  config : config_of locals.image ≡ config_of locals.fn.image;
+  same : found_of locals.image ≡ found_of locals.fn.image;
+  found : AreFound locals.image;
+  words : memory_of locals.image ≡ greyed (config_of locals.fn.image) (has (take locals.turn (found_of locals.fn.image))) (bit_words (config_of locals.fn.image)) (memory_of locals.fn.image);
+  few : locals.turn ≤ heap_size (config_of locals.fn.image);
 }
 
 abbrev pub decreases-loop-address : goal.decreases-loop-address
-decreases-loop-address l = heap_size (config_of l.fn.image) - l.turn
+decreases-loop-address locals = heap_size (config_of locals.fn.image) - locals.turn

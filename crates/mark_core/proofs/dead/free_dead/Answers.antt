@@ -16,24 +16,24 @@ loop-region-preserved c =
     let old = c.args.image.now in
     let config = config_of old in
     let memory : Word → ℕ = memory_of old in
-    let out : ℕ → Bool = is_dead config memory in
+    let dead_region : ℕ → Bool = is_dead config memory in
     let region = c.loop-region.region in
-    let now = c.loop-region.image in
-    let is = c.loop-region.invariant in
-    let few : region < 64 = omega (arith, c.loop-region-test.true, c.regions-region-end.ensures, ap (λ (config : Config). config.regions) c.config-config.ensures, config.in_range.most_regions) in
-    let still : is_dead (config_of now) (memory_of now) region ≡ out region =
-    ap (λ (config : Config). is_dead config (memory_of now) region) is.config ∙ ap (λ n. is_dead config n region) is.words ∙ dead_still out config region memory in
+    let current_image = c.loop-region.image in
+    let invariant_before = c.loop-region.invariant in
+    let region_below : region < 64 = omega (arith, c.loop-region-test.true, c.regions-region-end.ensures, ap (λ (config : Config). config.regions) c.config-config.ensures, config.in_range.most_regions) in
+    let still_dead : is_dead (config_of current_image) (memory_of current_image) region ≡ dead_region region =
+    ap (λ (config : Config). is_dead config (memory_of current_image) region) invariant_before.config ∙ ap (λ memory_then. is_dead config memory_then region) invariant_before.words ∙ dead_still dead_region config region memory in
     record {
-      config = c.free_if_dead.ensures.config ∙ is.config;
+      config = c.free_if_dead.ensures.config ∙ invariant_before.config;
       words = ⊎_elim
-          (λ (yes : out region ≡ true). c.free_if_dead.ensures.freed (still ∙ yes) ∙ ap (freed_one region) is.words ∙ freed_next out region memory few yes)
-          (λ (no : out region ≡ false). c.free_if_dead.ensures.left (still ∙ no) ∙ is.words ∙ left_next out region memory no)
-          (cases_Bool (out region));
+          (λ (is_out : dead_region region ≡ true). c.free_if_dead.ensures.freed (still_dead ∙ is_out) ∙ ap (freed_one region) invariant_before.words ∙ freed_next dead_region region memory region_below is_out)
+          (λ (not_out : dead_region region ≡ false). c.free_if_dead.ensures.left (still_dead ∙ not_out) ∙ invariant_before.words ∙ left_next dead_region region memory not_out)
+          (cases_Bool (dead_region region));
     }
 
 pub returns-clause-words : goal.returns-clause-words
 returns-clause-words c =
     let old = c.args.image.now in
-    let all : c.loop-region.region ≡ (config_of old).regions =
+    let all_regions : c.loop-region.region ≡ (config_of old).regions =
     omega (arith, c.loop-region-test.false, c.loop-region.auto.region-end, c.regions-region-end.ensures, ap (λ (config : Config). config.regions) c.config-config.ensures) in
-    c.loop-region.invariant.words ∙ ap (λ n. freed_below (is_dead (config_of old) (memory_of old)) n (memory_of old)) all
+    c.loop-region.invariant.words ∙ ap (λ count. freed_below (is_dead (config_of old) (memory_of old)) count (memory_of old)) all_regions

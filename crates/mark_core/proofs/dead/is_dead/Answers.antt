@@ -15,13 +15,13 @@ returns-then-is_in c =
     let config = config_of c.args.image.now in
     let memory : Word → ℕ = memory_of c.args.image.now in
     let region = c.args.region in
-    let free : c.word.result ≡ memory Free = c.word.ensures.named Free tt (ap (λ (config : Config). word_at config Free) (sym c.config-config.ensures) ∙ sym c.free_at.ensures) in
-    sym (false_from_ne_true (is_dead config memory region) (λ told.
-    let dead = (dead_is_dead config memory region).0 told in
+    let same_free : c.word.result ≡ memory Free = c.word.ensures.named Free tt (ap (λ (config : Config). word_at config Free) (sym c.config-config.ensures) ∙ sym c.free_at.ensures) in
+    sym (false_from_ne_true (is_dead config memory region) (λ told_dead.
+    let dead = (dead_is_dead config memory region).0 told_dead in
     elim c.then-is_in.branch [
       | then-is_in-via-then-is_in w ↦
-          let is = c.is_in.ensures.0 w.if-is_in.true in
-          omega (arith, is, ap (λ x. bit_at x region) free, dead.in_use)
+          let region_free = c.is_in.ensures.0 w.if-is_in.true in
+          omega (arith, region_free, ap (λ x. bit_at x region) same_free, dead.in_use)
       | then-is_in-via-else-is_in+then-is_current w ↦ dead.nobodys (w.is_current.ensures.yes w.if-is_current.true)
     ]))
 
@@ -30,8 +30,8 @@ returns-then-is_pinned c =
     let config = config_of c.args.image.now in
     let memory : Word → ℕ = memory_of c.args.image.now in
     let region = c.args.region in
-    sym (false_from_ne_true (is_dead config memory region) (λ told.
-    let dead = (dead_is_dead config memory region).0 told in
+    sym (false_from_ne_true (is_dead config memory region) (λ told_dead.
+    let dead = (dead_is_dead config memory region).0 told_dead in
     true≢false (sym c.if-is_pinned.true ∙ c.is_pinned.ensures ∙ dead.unpinned)))
 
 pub returns : goal.returns
@@ -39,11 +39,11 @@ returns c =
     let config = config_of c.args.image.now in
     let memory : Word → ℕ = memory_of c.args.image.now in
     let region = c.args.region in
-    let free : c.word.result ≡ memory Free = c.word.ensures.named Free tt (ap (λ (config : Config). word_at config Free) (sym c.config-config.ensures) ∙ sym c.free_at.ensures) in
+    let same_free : c.word.result ≡ memory Free = c.word.ensures.named Free tt (ap (λ (config : Config). word_at config Free) (sym c.config-config.ensures) ∙ sym c.free_at.ensures) in
     let tams : c.word-2.result ≡ memory (Tams region) =
     c.word-2.ensures.named (Tams region) c.requires (ap (λ (config : Config). word_at config (Tams region)) (sym c.config-config.ensures) ∙ sym c.tams_at.ensures) in
-    let outside : bit_at (memory Free) region ≢ 1 = λ is. true≢false (sym (c.is_in.ensures.1 (ap (λ x. bit_at x region) free ∙ is)) ∙ c.if-is_in.false) in
+    let outside : bit_at (memory Free) region ≢ 1 = λ region_is. true≢false (sym (c.is_in.ensures.1 (ap (λ x. bit_at x region) same_free ∙ region_is)) ∙ c.if-is_in.false) in
     let unset : bit_at (memory Free) region ≡ 0 = omega (arith, outside, bit_at-lt (memory Free) region) in
-    let unseated : is_current config memory region ≡ false = false_from_ne_true (is_current config memory region) (λ is. c.is_current.ensures.no c.if-is_current.false (current_is config memory region is)) in
-    let top : memory (Top region) ≡ memory (Tams region) = omega (arith, c.top.ensures, tams, c.if-top-word.false) in
-    ap not c.has_black.ensures ∙ sym (marks_decide config memory region unset (sym c.is_pinned.ensures ∙ c.if-is_pinned.false) unseated top)
+    let unseated : is_current config memory region ≡ false = false_from_ne_true (is_current config memory region) (λ region_is. c.is_current.ensures.no c.if-is_current.false (current_is config memory region region_is)) in
+    let top_at_tams : memory (Top region) ≡ memory (Tams region) = omega (arith, c.top.ensures, tams, c.if-top-word.false) in
+    ap not c.has_black.ensures ∙ sym (marks_decide config memory region unset (sym c.is_pinned.ensures ∙ c.if-is_pinned.false) unseated top_at_tams)

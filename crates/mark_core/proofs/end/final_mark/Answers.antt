@@ -19,29 +19,29 @@ returns-clause-words c =
     final_words c.args.image.now c.close_marks.new.image c.free_dead.new.image c.close_marks.ensures.config c.close_marks.ensures.words c.free_dead.ensures.words
 
 pub returns-clause-freed : goal.returns-clause-freed
-returns-clause-freed c = λ r below.
+returns-clause-freed c = λ region region_below.
     let config = config_of c.args.image.now in
     let memory : Word → ℕ = memory_of c.args.image.now in
-    let words = ap (λ n. n Free) (returns-clause-words c) in (
-      (λ is. ⊎_elim
-          (λ (was : IsIn (memory Free) r). inl was)
-          (λ (dead : dead_in config memory r ≡ true). inr ((dead_is_dead config (closed config memory) r).0 dead))
-          (free_was config (dead_in config memory) (closed config memory) r below (subst (λ set. IsIn set r) words is))),
-      (λ is. subst (λ set. IsIn set r) (sym words)
-          (free_is config (dead_in config memory) (closed config memory) r below (⊎_elim
-          (λ (was : IsIn (memory Free) r). inl was)
-          (λ (dead : IsDead config (closed config memory) r). inr ((dead_is_dead config (closed config memory) r).1 dead))
-          is))),
+    let words = ap (λ memory_then. memory_then Free) (returns-clause-words c) in (
+      (λ now_free. ⊎_elim
+          (λ (was_free : IsIn (memory Free) region). inl was_free)
+          (λ (dead : dead_in config memory region ≡ true). inr ((dead_is_dead config (closed config memory) region).0 dead))
+          (free_was config (dead_in config memory) (closed config memory) region region_below (subst (λ free_set. IsIn free_set region) words now_free))),
+      (λ now_free. subst (λ free_set. IsIn free_set region) (sym words)
+          (free_is config (dead_in config memory) (closed config memory) region region_below (⊎_elim
+          (λ (was_free : IsIn (memory Free) region). inl was_free)
+          (λ (dead : IsDead config (closed config memory) region). inr ((dead_is_dead config (closed config memory) region).1 dead))
+          now_free))),
     )
 
 pub returns-clause-ends : goal.returns-clause-ends
-returns-clause-ends c = λ block owner p graph holds marking.
+returns-clause-ends c = λ block owner promises graph holds marking.
     let config = config_of c.args.image.now in
     let memory : Word → ℕ = memory_of c.args.image.now in
-    let out = dead_in config memory in
+    let dead_regions = dead_in config memory in
     let seats = no_more_seats config (words_of c.args.image.now) in
-    subst (λ memory. HoldsBy config memory (freed_block config out block) (freed_owner out owner) p graph × IsMarkedThrough config memory (freed_block config out block)) (sym (returns-clause-words c))
-    (ended_holds config memory block owner p graph holds marking seats, ended_through config memory block owner p graph holds marking seats)
+    subst (λ memory. HoldsBy config memory (freed_block config dead_regions block) (freed_owner dead_regions owner) promises graph × IsMarkedThrough config memory (freed_block config dead_regions block)) (sym (returns-clause-words c))
+    (ended_holds config memory block owner promises graph holds marking seats, ended_through config memory block owner promises graph holds marking seats)
 
 pub returns-clause-holds : goal.returns-clause-holds
 returns-clause-holds c =

@@ -26,11 +26,11 @@ returns c =
     let config = config_of c.args.image.now in
     let memory : Word → ℕ = memory_of c.args.image.now in
     let address = c.args.address in
-    let n = c.mark_word.result in
-    let at : n ≡ mark_word config address = c.mark_word.ensures.value ∙ ap (λ (config : Config). mark_word config address) c.config-config.ensures in
-    let word : c.word-word.result ≡ memory (Black n) =
-    read config _ memory (Black n) _ _ c.config-config.ensures (subst (λ (config : Config). n < bit_words config) c.config-config.ensures c.mark_word.ensures.inside) c.black_at.ensures c.word-word.ensures.named in
+    let mark_number = c.mark_word.result in
+    let same_word : mark_number ≡ mark_word config address = c.mark_word.ensures.value ∙ ap (λ (config : Config). mark_word config address) c.config-config.ensures in
+    let word : c.word-word.result ≡ memory (Black mark_number) =
+    read config _ memory (Black mark_number) _ _ c.config-config.ensures (subst (λ (config : Config). mark_number < bit_words config) c.config-config.ensures c.mark_word.ensures.inside) c.black_at.ensures c.word-word.ensures.named in
     c.is_marked_in.ensures
     ∙ ap (λ (config : Config). bit_at c.word-word.result (mark_bit config address) == 1) c.config-config.ensures
-    ∙ ap (λ (w : ℕ). bit_at w (mark_bit config address) == 1) (word ∙ ap (λ (number : ℕ). memory (Black number)) at)
+    ∙ ap (λ (given_word : ℕ). bit_at given_word (mark_bit config address) == 1) (word ∙ ap (λ (number : ℕ). memory (Black number)) same_word)
     ∙ ap (λ (holds : Bool). holds && (bit_at (memory (Black (mark_word config address))) (mark_bit config address) == 1)) (sym (le-leb config.region_words address c.requires.0))

@@ -9,17 +9,17 @@ pub black_at-requires : goal.black_at-requires
 black_at-requires c = some_marks c.config.result
 
 pub returns-clause-none : goal.returns-clause-none
-returns-clause-none c = λ a from below.
+returns-clause-none c = λ address from address_below.
     let config = config_of c.args.image.now in
     let start : c.black_at.result ≡ word_at config (Black 0) = c.black_at.ensures ∙ ap (λ (config : Config). word_at config (Black 0)) c.config.ensures in
-    black_in_row config (words_of c.args.image.now) c.black_at.result a 0
-    (omega (arith, c.requires.above, from), omega (arith, c.requires.inside, below, c.next_marked.ensures.end))
-    (c.next_marked.ensures.none a from below) start
+    black_in_row config (words_of c.args.image.now) c.black_at.result address 0
+    (omega (arith, c.requires.above, from), omega (arith, c.requires.inside, address_below, c.next_marked.ensures.end))
+    (c.next_marked.ensures.none address from address_below) start
 
 pub returns-clause-black : goal.returns-clause-black
-returns-clause-black c = λ less.
+returns-clause-black c = λ found_below.
     let config = config_of c.args.image.now in
     let start : c.black_at.result ≡ word_at config (Black 0) = c.black_at.ensures ∙ ap (λ (config : Config). word_at config (Black 0)) c.config.ensures in
     black_in_row config (words_of c.args.image.now) c.black_at.result c.next_marked.result 1
-    (omega (arith, c.requires.above, c.next_marked.ensures.from), omega (arith, c.requires.inside, less))
-    (c.next_marked.ensures.marked less) start
+    (omega (arith, c.requires.above, c.next_marked.ensures.from), omega (arith, c.requires.inside, found_below))
+    (c.next_marked.ensures.marked found_below) start

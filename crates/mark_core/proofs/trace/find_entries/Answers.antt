@@ -17,17 +17,17 @@ find-requires-clause-inside c =
     let old = c.args.image.now in
     let config = config_of old in
     let memory : Word → ℕ = memory_of old in
-    let now = c.loop-entry.image in
-    let same = c.loop-entry.invariant.unchanged in
+    let current_image = c.loop-entry.image in
+    let unchanged_image = c.loop-entry.invariant.unchanged in
     let count : c.word-count.result ≡ memory (Count mutator) =
     c.word-count.ensures.named (Count mutator) c.requires.mutator (ap (λ (config : Config). word_at config (Count mutator)) (sym c.config-config.ensures) ∙ sym c.count_at.ensures) in
-    let below : entry < memory (Count mutator) = omega (arith, count, c.loop-entry-test.true) in
-    let few : entry < 8 = omega (arith, below, c.requires.can.counts mutator c.requires.mutator) in
-    let value : c.word-word.result ≡ memory_of now (Buffer mutator entry) =
-    c.word-word.ensures.named (Buffer mutator entry) (omega (arith, c.requires.mutator, ap (λ (config : Config). config.mutators) same.config), few)
-    (ap (λ (config : Config). word_at config (Buffer mutator entry)) (same.config ∙ sym c.config-config.ensures) ∙ sym c.buffer_at.ensures) in
-    subst (IsNullOrInside (config_of now)) (sym value)
-    (carried (λ k n. IsNullOrInside k (n (Buffer mutator entry))) old now same (entry_inside config memory c.requires.can mutator entry c.requires.mutator below))
+    let entry_below : entry < memory (Count mutator) = omega (arith, count, c.loop-entry-test.true) in
+    let few_entries : entry < 8 = omega (arith, entry_below, c.requires.can.counts mutator c.requires.mutator) in
+    let value : c.word-word.result ≡ memory_of current_image (Buffer mutator entry) =
+    c.word-word.ensures.named (Buffer mutator entry) (omega (arith, c.requires.mutator, ap (λ (config : Config). config.mutators) unchanged_image.config), few_entries)
+    (ap (λ (config : Config). word_at config (Buffer mutator entry)) (unchanged_image.config ∙ sym c.config-config.ensures) ∙ sym c.buffer_at.ensures) in
+    subst (IsNullOrInside (config_of current_image)) (sym value)
+    (carried (λ given_config memory_then. IsNullOrInside given_config (memory_then (Buffer mutator entry))) old current_image unchanged_image (entry_inside config memory c.requires.can mutator entry c.requires.mutator entry_below))
 
 pub loop-entry-preserved : goal.loop-entry-preserved
 loop-entry-preserved c =
@@ -35,19 +35,19 @@ loop-entry-preserved c =
     let entry = c.loop-entry.entry in
     let old = c.args.image.now in
     let memory : Word → ℕ = memory_of old in
-    let now = c.loop-entry.image in
-    let same = c.loop-entry.invariant.unchanged in
+    let current_image = c.loop-entry.image in
+    let unchanged_image = c.loop-entry.invariant.unchanged in
     let count : c.word-count.result ≡ memory (Count mutator) =
     c.word-count.ensures.named (Count mutator) c.requires.mutator (ap (λ (config : Config). word_at config (Count mutator)) (sym c.config-config.ensures) ∙ sym c.count_at.ensures) in
-    let few : entry < 8 = omega (arith, count, c.loop-entry-test.true, c.requires.can.counts mutator c.requires.mutator) in
-    let value : c.word-word.result ≡ memory_of now (Buffer mutator entry) =
-    c.word-word.ensures.named (Buffer mutator entry) (omega (arith, c.requires.mutator, ap (λ (config : Config). config.mutators) same.config), few)
-    (ap (λ (config : Config). word_at config (Buffer mutator entry)) (same.config ∙ sym c.config-config.ensures) ∙ sym c.buffer_at.ensures) in
+    let entry_below : entry < 8 = omega (arith, count, c.loop-entry-test.true, c.requires.can.counts mutator c.requires.mutator) in
+    let value : c.word-word.result ≡ memory_of current_image (Buffer mutator entry) =
+    c.word-word.ensures.named (Buffer mutator entry) (omega (arith, c.requires.mutator, ap (λ (config : Config). config.mutators) unchanged_image.config), entry_below)
+    (ap (λ (config : Config). word_at config (Buffer mutator entry)) (unchanged_image.config ∙ sym c.config-config.ensures) ∙ sym c.buffer_at.ensures) in
     record {
-      unchanged = both old now c.find.new.self same c.find.ensures.unchanged;
+      unchanged = both old current_image c.find.new.self unchanged_image c.find.ensures.unchanged;
       found = c.find.ensures.found;
-      noted = noted_step (found_of old) (found_of now) (found_of c.find.new.self) (λ entry. memory (Buffer mutator entry)) entry c.word-word.result c.loop-entry.invariant.noted
-          (value ∙ ap (λ n. n (Buffer mutator entry)) (memory_same old now same)) c.find.ensures.noted;
+      noted = noted_step (found_of old) (found_of current_image) (found_of c.find.new.self) (λ entry. memory (Buffer mutator entry)) entry c.word-word.result c.loop-entry.invariant.noted
+          (value ∙ ap (λ memory_then. memory_then (Buffer mutator entry)) (memory_same old current_image unchanged_image)) c.find.ensures.noted;
     }
 
 pub returns-clause-noted : goal.returns-clause-noted
@@ -57,5 +57,5 @@ returns-clause-noted c =
     let memory : Word → ℕ = memory_of old in
     let count : c.word-count.result ≡ memory (Count mutator) =
     c.word-count.ensures.named (Count mutator) c.requires.mutator (ap (λ (config : Config). word_at config (Count mutator)) (sym c.config-config.ensures) ∙ sym c.count_at.ensures) in
-    let all : c.loop-entry.entry ≡ memory (Count mutator) = omega (arith, count, c.loop-entry-test.false, c.loop-entry.auto.entry-end) in
-    c.loop-entry.invariant.noted ∙ ap (λ n. with_addresses (found_of old) (map (λ entry. memory (Buffer mutator entry)) (range_with_len 0 n))) all
+    let all_entries : c.loop-entry.entry ≡ memory (Count mutator) = omega (arith, count, c.loop-entry-test.false, c.loop-entry.auto.entry-end) in
+    c.loop-entry.invariant.noted ∙ ap (λ entries. with_addresses (found_of old) (map (λ entry. memory (Buffer mutator entry)) (range_with_len 0 entries))) all_entries

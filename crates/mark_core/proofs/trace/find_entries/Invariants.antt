@@ -6,8 +6,8 @@ use Rattle.image_graph.specs.State.{memory_of, found_of, AreFound, IsUnchanged}
 use Rattle.mark_core.proofs.trace.find_entries.Given as goal
 
 abbrev pub invariant-loop-entry : goal.invariant-loop-entry
-invariant-loop-entry l = record {
-  unchanged : IsUnchanged l.fn.image l.image;
-  found : AreFound l.image;
-  noted : found_of l.image ≡ with_addresses (found_of l.fn.image) (map (λ entry. memory_of l.fn.image (Buffer l.mutator entry)) (range_with_len 0 l.entry));
+invariant-loop-entry locals = record {
+  unchanged : IsUnchanged locals.fn.image locals.image;
+  found : AreFound locals.image;
+  noted : found_of locals.image ≡ with_addresses (found_of locals.fn.image) (map (λ entry. memory_of locals.fn.image (Buffer locals.mutator entry)) (range_with_len 0 locals.entry));
 }

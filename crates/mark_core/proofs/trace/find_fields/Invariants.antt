@@ -6,8 +6,8 @@ use Rattle.image_graph.specs.State.{memory_of, found_of, AreFound, IsUnchanged}
 use Rattle.mark_core.proofs.trace.find_fields.Given as goal
 
 abbrev pub invariant-loop-index : goal.invariant-loop-index
-invariant-loop-index l = record {
-  unchanged : IsUnchanged l.fn.image l.image;
-  found : AreFound l.image;
-  noted : found_of l.image ≡ with_addresses (found_of l.fn.image) (map (λ i. memory_of l.fn.image (Heap (l.address + 3 + i))) (range_with_len 0 l.index));
+invariant-loop-index locals = record {
+  unchanged : IsUnchanged locals.fn.image locals.image;
+  found : AreFound locals.image;
+  noted : found_of locals.image ≡ with_addresses (found_of locals.fn.image) (map (λ field. memory_of locals.fn.image (Heap (locals.address + 3 + field))) (range_with_len 0 locals.index));
 }

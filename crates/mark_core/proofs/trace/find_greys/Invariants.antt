@@ -6,14 +6,14 @@ use Rattle.image_graph.specs.State.{config_of, memory_of, found_of, AreFound, Is
 use Rattle.mark_core.proofs.trace.find_greys.Given as goal
 
 abbrev pub invariant-loop-address : goal.invariant-loop-address
-invariant-loop-address l = record {
-  unchanged : IsUnchanged l.fn.image l.image;
-  found : AreFound l.image;
-  first : (config_of l.fn.image).region_words ≤ l.address;
-  last : l.address ≤ l.end;
-  grey : l.address < l.end → is_grey (config_of l.fn.image) (memory_of l.fn.image) l.address ≡ true;
-  noted : found_of l.image ≡ with_addresses (found_of l.fn.image) (greys_below (config_of l.fn.image) (memory_of l.fn.image) (l.address - (config_of l.fn.image).region_words));
+invariant-loop-address locals = record {
+  unchanged : IsUnchanged locals.fn.image locals.image;
+  found : AreFound locals.image;
+  first : (config_of locals.fn.image).region_words ≤ locals.address;
+  last : locals.address ≤ locals.end;
+  grey : locals.address < locals.end → is_grey (config_of locals.fn.image) (memory_of locals.fn.image) locals.address ≡ true;
+  noted : found_of locals.image ≡ with_addresses (found_of locals.fn.image) (greys_below (config_of locals.fn.image) (memory_of locals.fn.image) (locals.address - (config_of locals.fn.image).region_words));
 }
 
 abbrev pub decreases-loop-address : goal.decreases-loop-address
-decreases-loop-address l = l.end - l.address
+decreases-loop-address locals = locals.end - locals.address

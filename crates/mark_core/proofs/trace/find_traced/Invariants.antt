@@ -5,12 +5,12 @@ use Rattle.cycle_words.specs.Marking.Close.{traced_by}
 use Rattle.mark_core.proofs.trace.find_traced.Given as goal
 
 abbrev pub invariant-loop-address : goal.invariant-loop-address
-invariant-loop-address l = record {
-  unchanged : IsUnchanged l.fn.image l.image;
-  found : AreFound l.image;
-  turns : found_of l.image ≡ traced_by (config_of l.fn.image) (memory_of l.fn.image) l.turn;
-  few : l.turn ≤ heap_size (config_of l.fn.image);
+invariant-loop-address locals = record {
+  unchanged : IsUnchanged locals.fn.image locals.image;
+  found : AreFound locals.image;
+  turns : found_of locals.image ≡ traced_by (config_of locals.fn.image) (memory_of locals.fn.image) locals.turn;
+  few : locals.turn ≤ heap_size (config_of locals.fn.image);
 }
 
 abbrev pub decreases-loop-address : goal.decreases-loop-address
-decreases-loop-address l = heap_size (config_of l.fn.image) - l.turn
+decreases-loop-address locals = heap_size (config_of locals.fn.image) - locals.turn

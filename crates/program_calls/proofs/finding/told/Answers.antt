@@ -31,7 +31,7 @@ returns-in-Err-clause-fits g c =
     } in
     refused c.refuse.result c.in-Err.fault input sink errors
     (fault_is c.in-Err.fault input
-    (λ n why e. let bad = c.in-Err.ensures.refused n why (cc) in record { bytes = bad.0; came = bad.1; is = bad.2 })
-    (λ n e. (c.in-Err.ensures.too_long n (cc)).1)
-    (λ e. c.in-Err.ensures.read_fault (cc)))
+    (λ line why is_fault. let bad = c.in-Err.ensures.refused line why (cc) in record { bytes = bad.0; came = bad.1; is = bad.2 })
+    (λ line is_fault. (c.in-Err.ensures.too_long line (cc)).1)
+    (λ is_fault. c.in-Err.ensures.read_fault (cc)))
     refl c.refuse.ensures.status c.refuse.ensures.text

@@ -15,7 +15,7 @@ loop-left-preserved g c = record {
   run = c.list_next.ensures.run;
   config = c.list_next.ensures.config ∙ c.loop-left.invariant.config;
   walk = c.list_next.ensures.walk;
-  less = (let before = c.loop-left.invariant.less in omega arith);
+  less = (let lines_before = c.loop-left.invariant.less in omega arith);
   runs = runs_more c.args.plain.now c.loop-left.plain c.list_next.new.plain c.args.work.now c.loop-left.work c.list_next.new.work _ _ _ _ _ c.loop-left.left c.loop-left.invariant.config c.loop-left.invariant.runs
       c.in-Some.ensures.next (omega (arith, c.loop-left-test.true));
 }

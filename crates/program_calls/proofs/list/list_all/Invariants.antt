@@ -5,13 +5,13 @@ use Rattle.shen_core.specs.Agendas.{agenda_in, IsWalkOf}
 use Rattle.program_calls.proofs.list.list_all.Given as goal
 
 abbrev pub invariant-loop-left : goal.invariant-loop-left
-invariant-loop-left g l = record {
-  run : CanRun l.plain l.work;
-  config : config_of l.plain ≡ config_of l.initial.plain;
-  walk : IsWalkOf (config_of l.plain) l.walk;
-  less : l.left ≤ l.initial.left;
-  runs : Runs l.initial.plain l.initial.work (agenda_in l.initial.walk) l.initial.left l.plain l.work (agenda_in l.walk) l.left;
+invariant-loop-left g loop = record {
+  run : CanRun loop.plain loop.work;
+  config : config_of loop.plain ≡ config_of loop.initial.plain;
+  walk : IsWalkOf (config_of loop.plain) loop.walk;
+  less : loop.left ≤ loop.initial.left;
+  runs : Runs loop.initial.plain loop.initial.work (agenda_in loop.initial.walk) loop.initial.left loop.plain loop.work (agenda_in loop.walk) loop.left;
 }
 
 abbrev pub decreases-loop-left : goal.decreases-loop-left
-decreases-loop-left g l = l.left
+decreases-loop-left g loop = loop.left

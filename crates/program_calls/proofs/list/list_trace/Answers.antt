@@ -12,8 +12,8 @@ use Rattle.program_calls.proofs.list.list_trace.Goals as goal
 pub of-requires : goal.of-requires
 of-requires g c =
     let count = count_scripts c.requires.0 c.args.trace.version c.args.trace.config c.args.trace.scripts c.args.trace.schedule c.requires.1 in
-    let same = ap (λ (scripts : List (List Command)). length scripts) c.into_vec.ensures in
-    omega (arith, count, same)
+    let same_length = ap (λ (scripts : List (List Command)). length scripts) c.into_vec.ensures in
+    omega (arith, count, same_length)
 
 pub list-listed-requires-clause-run : goal.list-listed-requires-clause-run
 list-listed-requires-clause-run g c =

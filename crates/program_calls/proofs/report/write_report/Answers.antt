@@ -4,5 +4,5 @@ use Rattle.program_calls.proofs.report.write_report.Goals as goal
 
 pub returns : goal.returns
 returns g c =
-    let told = behind_more c.put_schedules.ensures c.put_runs.ensures c.put_verdict.ensures in
-    (told.0, c.finish.ensures.ended _ _ (taken_by_new c.new-block.ensures told.1))
+    let all_told = behind_more c.put_schedules.ensures c.put_runs.ensures c.put_verdict.ensures in
+    (all_told.0, c.finish.ensures.ended _ _ (taken_by_new c.new-block.ensures all_told.1))

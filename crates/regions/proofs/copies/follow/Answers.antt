@@ -11,25 +11,25 @@ loop-index-preserved c =
     let places = c.loop-index.places in
     let old = c.args.places.now in
     let index = c.loop-index.index in
-    let j = c.current_index.result in
+    let found_index = c.current_index.result in
     let before = c.loop-index.invariant in
-    let new = get_or places j 0 in
+    let new = get_or places found_index 0 in
     let inside : index < length places = omega (arith, before.table, c.requires.table, c.loop-index-test.true) in
-    let is : j ≡ current_index first heap index = c.current_index.ensures.value in
-    let read : IsOwnCopy first heap (current_index first heap index) → get_or places j 0 ≡ get_or old (current_index first heap index) 0 =
+    let found_current : found_index ≡ current_index first heap index = c.current_index.ensures.value in
+    let read : IsOwnCopy first heap (current_index first heap index) → get_or places found_index 0 ≡ get_or old (current_index first heap index) 0 =
     λ current.
-    let stays : current_index first heap j ≡ j = ap (current_index first heap) is ∙ current ∙ sym is in
+    let stays : current_index first heap found_index ≡ found_index = ap (current_index first heap) found_current ∙ current ∙ sym found_current in
     ⊎_elim
-    (λ (earlier : j < index). before.done j earlier (ap (current_index first heap) stays) ∙ ap (λ index. get_or old index 0) (stays ∙ is))
-    (λ (later : index ≤ j). before.later j later ∙ ap (λ index. get_or old index 0) is)
-    (cases_lt j index) in
+    (λ (earlier : found_index < index). before.done found_index earlier (ap (current_index first heap) stays) ∙ ap (λ index. get_or old index 0) (stays ∙ found_current))
+    (λ (later : index ≤ found_index). before.later found_index later ∙ ap (λ index. get_or old index 0) found_current)
+    (cases_lt found_index index) in
     record {
       table = length-set places index new ∙ before.table;
-      done = λ i below current. ⊎_elim
-          (λ (here : index ≡ i).
-          subst (λ other_index. IsOwnCopy first heap (current_index first heap other_index) → get_or (set places index new) other_index 0 ≡ get_or old (current_index first heap other_index) 0) here
-          (λ now. get_or-set_same places index new 0 inside ∙ read now) current)
-          (λ (other : index ≢ i). get_or-set_other places index i new 0 (λ e. other (sym e)) ∙ before.done i (omega (arith, below, other)) current)
-          (cases_eq index i);
-      later = λ i high. get_or-set_other places index i new 0 (λ e. omega (arith, e, high)) ∙ before.later i (omega (arith, high));
+      done = λ any_index index_below current. ⊎_elim
+          (λ (same_place : index ≡ any_index).
+          subst (λ other_index. IsOwnCopy first heap (current_index first heap other_index) → get_or (set places index new) other_index 0 ≡ get_or old (current_index first heap other_index) 0) same_place
+          (λ current_now. get_or-set_same places index new 0 inside ∙ read current_now) current)
+          (λ (other_place : index ≢ any_index). get_or-set_other places index any_index new 0 (λ numbers_equal. other_place (sym numbers_equal)) ∙ before.done any_index (omega (arith, index_below, other_place)) current)
+          (cases_eq index any_index);
+      later = λ any_index high. get_or-set_other places index any_index new 0 (λ numbers_equal. omega (arith, numbers_equal, high)) ∙ before.later any_index (omega (arith, high));
     }

@@ -3,9 +3,9 @@ use Rattle.regions.specs.Table.{current_index, IsOwnCopy}
 use Rattle.regions.proofs.copies.follow.Given as goal
 
 abbrev pub invariant-loop-index : goal.invariant-loop-index
-invariant-loop-index l = record {
-  table : length l.places ≡ length l.fn.places;
-  done : (address : ℕ) → address < l.index → IsOwnCopy l.first l.heap (current_index l.first l.heap address)
-      → slice_index l.places address ≡ slice_index l.fn.places (current_index l.first l.heap address);
-  later : (address : ℕ) → l.index ≤ address → slice_index l.places address ≡ slice_index l.fn.places address;
+invariant-loop-index locals = record {
+  table : length locals.places ≡ length locals.fn.places;
+  done : (address : ℕ) → address < locals.index → IsOwnCopy locals.first locals.heap (current_index locals.first locals.heap address)
+      → slice_index locals.places address ≡ slice_index locals.fn.places (current_index locals.first locals.heap address);
+  later : (address : ℕ) → locals.index ≤ address → slice_index locals.places address ≡ slice_index locals.fn.places address;
 }

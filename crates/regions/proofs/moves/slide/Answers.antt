@@ -34,13 +34,13 @@ loop-index-preserved c =
       | then-marked w ↦
           record {
             words = ap length w.heap-is ∙ w.slide_object.auto.heap ∙ before.words;
-            slid = subst (λ xs. IsSlidTo (words + (c.loop-index.index + 1)) words (word_of words places) (kept_of words heap marks) (from_table words places) (word_of words heap) (word_of words xs)) (sym w.heap-is)
+            slid = subst (λ heap_words. IsSlidTo (words + (c.loop-index.index + 1)) words (word_of words places) (kept_of words heap marks) (from_table words places) (word_of words heap) (word_of words heap_words)) (sym w.heap-is)
                 (slid_at words places marks heap c.requires.marked c.requires.places c.loop-index.heap w.slide_object.new.heap c.loop-index.index w.if-marked.true before.slid w.slide_object.ensures);
           }
       | else-marked w ↦
           record {
             words = ap length w.heap-is ∙ before.words;
-            slid = subst (λ xs. IsSlidTo (words + (c.loop-index.index + 1)) words (word_of words places) (kept_of words heap marks) (from_table words places) (word_of words heap) (word_of words xs)) (sym w.heap-is)
+            slid = subst (λ heap_words. IsSlidTo (words + (c.loop-index.index + 1)) words (word_of words places) (kept_of words heap marks) (from_table words places) (word_of words heap) (word_of words heap_words)) (sym w.heap-is)
                 (slid_past words places marks heap c.requires.marked c.requires.places c.loop-index.heap c.loop-index.index w.if-marked.false before.slid);
           }
     ]

@@ -5,12 +5,12 @@ use Rattle.regions.specs.Table.{kept_of, word_of}
 use Rattle.regions.proofs.places.assign.Given as goal
 
 abbrev pub invariant-loop-index : goal.invariant-loop-index
-invariant-loop-index l = record {
-  table : length l.places ≡ length l.fn.places;
-  regions : length l.tops ≡ length l.fn.tops;
-  end : l.end ≡ end_before l.region_words (is_shut l.shut) (kept_of l.region_words l.heap l.marks) (l.region_words + l.index);
-  places : (a : ℕ) → a < l.region_words + l.index → 0 < kept_of l.region_words l.heap l.marks a
-      → word_of l.region_words l.places a ≡ new_place l.region_words (is_shut l.shut) (kept_of l.region_words l.heap l.marks) a;
-  tops : (index : ℕ) → index < length l.tops → slice_index l.tops index
-      ≡ (if is_shut l.shut (index + 1) then slice_index l.fn.tops index else top_before l.region_words (is_shut l.shut) (kept_of l.region_words l.heap l.marks) index (l.region_words + l.index));
+invariant-loop-index locals = record {
+  table : length locals.places ≡ length locals.fn.places;
+  regions : length locals.tops ≡ length locals.fn.tops;
+  end : locals.end ≡ end_before locals.region_words (is_shut locals.shut) (kept_of locals.region_words locals.heap locals.marks) (locals.region_words + locals.index);
+  places : (address : ℕ) → address < locals.region_words + locals.index → 0 < kept_of locals.region_words locals.heap locals.marks address
+      → word_of locals.region_words locals.places address ≡ new_place locals.region_words (is_shut locals.shut) (kept_of locals.region_words locals.heap locals.marks) address;
+  tops : (index : ℕ) → index < length locals.tops → slice_index locals.tops index
+      ≡ (if is_shut locals.shut (index + 1) then slice_index locals.fn.tops index else top_before locals.region_words (is_shut locals.shut) (kept_of locals.region_words locals.heap locals.marks) index (locals.region_words + locals.index));
 }

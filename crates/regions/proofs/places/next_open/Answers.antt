@@ -14,7 +14,7 @@ loop-step-preserved c =
 pub returns-clause-row : goal.returns-clause-row
 returns-clause-row c =
     let shut = is_shut c.args.shut in
-    let last : c.loop-step.step ≡ 64 = omega (arith, c.loop-step-test.false, c.loop-step.auto.step-end) in
-    let here : next_open shut (64 - c.loop-step.step) (c.args.row + c.loop-step.step) ≡ next_open shut 0 (c.args.row + 64) =
-    ap (λ n. next_open shut (64 - n) (c.args.row + n)) last in
-    sym (c.loop-step.invariant ∙ here ∙ open_none shut (c.args.row + 64))
+    let last_step : c.loop-step.step ≡ 64 = omega (arith, c.loop-step-test.false, c.loop-step.auto.step-end) in
+    let same_search : next_open shut (64 - c.loop-step.step) (c.args.row + c.loop-step.step) ≡ next_open shut 0 (c.args.row + 64) =
+    ap (λ steps. next_open shut (64 - steps) (c.args.row + steps)) last_step in
+    sym (c.loop-step.invariant ∙ same_search ∙ open_none shut (c.args.row + 64))

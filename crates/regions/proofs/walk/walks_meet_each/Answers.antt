@@ -6,7 +6,7 @@ pub returns-clause-each : goal.returns-clause-each
 returns-clause-each c = walks_meet_each
 
 pub returns-clause-exactly : goal.returns-clause-exactly
-returns-clause-exactly c = λ begins. parsable_is_walked (λ a. IsTrue (begins a))
+returns-clause-exactly c = λ begins. parsable_is_walked (λ address. IsTrue (begins address))
 
 pub returns-clause-goes_on : goal.returns-clause-goes_on
 returns-clause-goes_on c = walk_goes_on

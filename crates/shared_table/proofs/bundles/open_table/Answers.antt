@@ -8,5 +8,5 @@ use Rattle.shared_table.proofs.bundles.open_table.Goals as goal
 
 pub of_words-requires : goal.of_words-requires
 of_words-requires g c =
-    subst (λ (ws : List ℕ). Rule (g.M.Machines.kind c.args.key.now) (g.M.Machines.opening c.args.key.now) (opening {S = Unit {0}} ws [] (whole (g.M.Machines.opening c.args.key.now).machines))) (sym c.requires)
+    subst (λ (words : List ℕ). Rule (g.M.Machines.kind c.args.key.now) (g.M.Machines.opening c.args.key.now) (opening {S = Unit {0}} words [] (whole (g.M.Machines.opening c.args.key.now).machines))) (sym c.requires)
     (opens (g.M.Machines.kind c.args.key.now) (g.M.Machines.opening c.args.key.now) {S = Unit {0}} [])

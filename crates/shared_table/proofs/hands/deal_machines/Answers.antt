@@ -9,27 +9,27 @@ use Rattle.shared_table.proofs.hands.deal_machines.Goals.{then-number-bundles, e
 pub loop-number-init : goal.loop-number-init
 loop-number-init g c =
     taking_begins (is_dealt_to c.args.bundles c.args.bundle) c.args.machines.now.items c.in_ok-dealt.dealt.items
-    (c.in_ok-dealt.ensures ∙ ap (λ (n : ℕ). replicate {A = Option g.row.T.Denot} n None) (let same : c.len.result ≡ length c.args.machines.now.items = omega (arith, c.len.ensures) in same))
+    (c.in_ok-dealt.ensures ∙ ap (λ (count : ℕ). replicate {A = Option g.row.T.Denot} count None) (let same_length : c.len.result ≡ length c.args.machines.now.items = omega (arith, c.len.ensures) in same_length))
 
 pub loop-number-preserved : goal.loop-number-preserved
 loop-number-preserved g c =
-    let l = c.loop-number in
-    let within : l.number < length l.machines.items = omega (arith, c.len-number-end.ensures) in
-    let out_within : l.number < length l.dealt.items = omega (arith, c.len-number-end.ensures) in
+    let loop = c.loop-number in
+    let within : loop.number < length loop.machines.items = omega (arith, c.len-number-end.ensures) in
+    let out_within : loop.number < length loop.dealt.items = omega (arith, c.len-number-end.ensures) in
     elim c.if-number-bundles.branch [
       | then-number-bundles w ↦
           (let is_its_turn = w.if-number-bundles.true in
-          let passes : is_dealt_to c.args.bundles c.args.bundle l.number ≡ true = grind (arith, nat_tests, is_its_turn) in
-          taking_swap (is_dealt_to c.args.bundles c.args.bundle) c.args.machines.now.items l.number l.machines.items l.dealt.items c.if-number-bundles.machines.items c.if-number-bundles.dealt.items
-          w.index_mut-then-number-bundles.result.now w.index_mut.result.now l.invariant within out_within w.index_mut-then-number-bundles.ensures.value w.index_mut.ensures.value passes
-          (ap (λ v. v.items) w.machines-is ∙ ap (λ (x : Option g.row.T.Denot). slice_set l.machines.items l.number x) w.swap.ensures.y_after)
-          (ap (λ v. v.items) w.dealt-is ∙ ap (λ (x : Option g.row.T.Denot). slice_set l.dealt.items l.number x) w.swap.ensures.x_after))
+          let passes : is_dealt_to c.args.bundles c.args.bundle loop.number ≡ true = grind (arith, nat_tests, is_its_turn) in
+          taking_swap (is_dealt_to c.args.bundles c.args.bundle) c.args.machines.now.items loop.number loop.machines.items loop.dealt.items c.if-number-bundles.machines.items c.if-number-bundles.dealt.items
+          w.index_mut-then-number-bundles.result.now w.index_mut.result.now loop.invariant within out_within w.index_mut-then-number-bundles.ensures.value w.index_mut.ensures.value passes
+          (ap (λ view. view.items) w.machines-is ∙ ap (λ (machine : Option g.row.T.Denot). slice_set loop.machines.items loop.number machine) w.swap.ensures.y_after)
+          (ap (λ view. view.items) w.dealt-is ∙ ap (λ (machine : Option g.row.T.Denot). slice_set loop.dealt.items loop.number machine) w.swap.ensures.x_after))
       | else-number-bundles w ↦
           (let is_not_its_turn = w.if-number-bundles.false in
-          let fails : is_dealt_to c.args.bundles c.args.bundle l.number ≡ false = grind (arith, nat_tests, is_not_its_turn) in
-          subst (λ (v : View g.row.T.Denot). TakingOut (is_dealt_to c.args.bundles c.args.bundle) c.args.machines.now.items (l.number + 1) v c.if-number-bundles.dealt.items) (ap (λ v. v.items) (sym w.machines-is))
-          (subst (λ (v : View g.row.T.Denot). TakingOut (is_dealt_to c.args.bundles c.args.bundle) c.args.machines.now.items (l.number + 1) l.machines.items v) (ap (λ v. v.items) (sym w.dealt-is))
-          (taking_none (is_dealt_to c.args.bundles c.args.bundle) c.args.machines.now.items l.number l.machines.items l.dealt.items l.invariant fails)))
+          let fails : is_dealt_to c.args.bundles c.args.bundle loop.number ≡ false = grind (arith, nat_tests, is_not_its_turn) in
+          subst (λ (view : View g.row.T.Denot). TakingOut (is_dealt_to c.args.bundles c.args.bundle) c.args.machines.now.items (loop.number + 1) view c.if-number-bundles.dealt.items) (ap (λ view. view.items) (sym w.machines-is))
+          (subst (λ (view : View g.row.T.Denot). TakingOut (is_dealt_to c.args.bundles c.args.bundle) c.args.machines.now.items (loop.number + 1) loop.machines.items view) (ap (λ view. view.items) (sym w.dealt-is))
+          (taking_none (is_dealt_to c.args.bundles c.args.bundle) c.args.machines.now.items loop.number loop.machines.items loop.dealt.items loop.invariant fails)))
     ]
 
 pub returns-clause-dealt : goal.returns-clause-dealt

@@ -7,23 +7,23 @@ use Rattle.shared_table.proofs.hands.join_machines.Goals.{then-is_none, else-is_
 
 pub loop-number-preserved : goal.loop-number-preserved
 loop-number-preserved g c =
-    let l = c.loop-number in
-    let within : l.number < length l.machines.items = omega (arith, c.len-number-end.ensures) in
-    let other_within : l.number < length l.others.items = omega (arith, c.len-number-end.ensures, c.requires) in
+    let loop = c.loop-number in
+    let within : loop.number < length loop.machines.items = omega (arith, c.len-number-end.ensures) in
+    let inside_joined : loop.number < length loop.others.items = omega (arith, c.len-number-end.ensures, c.requires) in
     elim c.if-is_none.branch [
       | then-is_none w ↦
-          joining_swap c.args.machines.now.items c.args.others.items l.number l.machines.items l.others.items c.if-is_none.machines.items c.if-is_none.others.items w.index_mut.result.now w.index_mut-then-is_none.result.now
-          l.invariant within other_within w.index_mut.ensures.value w.index_mut-then-is_none.ensures.value
-          (w.index_mut.ensures.value ∙ sym (machine_of-index l.machines.items l.number w.index_mut.result.now within) ∙ machine_of-index l.machines.items l.number c.index.result.now within
+          joining_swap c.args.machines.now.items c.args.others.items loop.number loop.machines.items loop.others.items c.if-is_none.machines.items c.if-is_none.others.items w.index_mut.result.now w.index_mut-then-is_none.result.now
+          loop.invariant within inside_joined w.index_mut.ensures.value w.index_mut-then-is_none.ensures.value
+          (w.index_mut.ensures.value ∙ sym (machine_of-index loop.machines.items loop.number w.index_mut.result.now within) ∙ machine_of-index loop.machines.items loop.number c.index.result.now within
           ∙ sym c.index.ensures ∙ none_there c.index.result.now w.if-is_none.ensures)
-          (ap (λ v. v.items) w.machines-is ∙ ap (λ (x : Option g.row.T.Denot). slice_set l.machines.items l.number x) w.swap.ensures.x_after)
-          (ap (λ v. v.items) w.others-is ∙ ap (λ (x : Option g.row.T.Denot). slice_set l.others.items l.number x) w.swap.ensures.y_after)
+          (ap (λ view. view.items) w.machines-is ∙ ap (λ (machine : Option g.row.T.Denot). slice_set loop.machines.items loop.number machine) w.swap.ensures.x_after)
+          (ap (λ view. view.items) w.others-is ∙ ap (λ (machine : Option g.row.T.Denot). slice_set loop.others.items loop.number machine) w.swap.ensures.y_after)
       | else-is_none w ↦
-          let there = some_there c.index.result.now (c.is_none.ensures ∙ ap not w.if-is_none.false) in
-          subst (λ (v : View g.row.T.Denot). Joining c.args.machines.now.items c.args.others.items (l.number + 1) v c.if-is_none.others.items) (ap (λ v. v.items) (sym w.machines-is))
-          (subst (λ (v : View g.row.T.Denot). Joining c.args.machines.now.items c.args.others.items (l.number + 1) l.machines.items v) (ap (λ v. v.items) (sym w.others-is))
-          (joining_skip c.args.machines.now.items c.args.others.items l.number l.machines.items l.others.items there.0 l.invariant
-          (machine_of-index l.machines.items l.number c.index.result.now within ∙ sym c.index.ensures ∙ there.1)))
+          let machine_there = some_there c.index.result.now (c.is_none.ensures ∙ ap not w.if-is_none.false) in
+          subst (λ (view : View g.row.T.Denot). Joining c.args.machines.now.items c.args.others.items (loop.number + 1) view c.if-is_none.others.items) (ap (λ view. view.items) (sym w.machines-is))
+          (subst (λ (view : View g.row.T.Denot). Joining c.args.machines.now.items c.args.others.items (loop.number + 1) loop.machines.items view) (ap (λ view. view.items) (sym w.others-is))
+          (joining_skip c.args.machines.now.items c.args.others.items loop.number loop.machines.items loop.others.items machine_there.0 loop.invariant
+          (machine_of-index loop.machines.items loop.number c.index.result.now within ∙ sym c.index.ensures ∙ machine_there.1)))
     ]
 
 pub returns : goal.returns

@@ -4,7 +4,7 @@ use Rattle.shen_check.specs.JudgeState.{names_held, words_held}
 use Rattle.shen_check.proofs.crowd.held_words.Given as goal
 
 abbrev pub invariant-loop-pinned : goal.invariant-loop-pinned
-invariant-loop-pinned l = record {
-  names : l.names.items ≡ names_held (take l.pinned-index l.held);
-  sum : l.words ≡ words_held (graph_of l.graph) l.names.items;
+invariant-loop-pinned loop = record {
+  names : loop.names.items ≡ names_held (take loop.pinned-index loop.held);
+  sum : loop.words ≡ words_held (graph_of loop.graph) loop.names.items;
 }

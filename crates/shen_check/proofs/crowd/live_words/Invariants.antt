@@ -5,4 +5,4 @@ use Rattle.shen_graph.specs.Reach.{size}
 use Rattle.shen_check.proofs.crowd.live_words.Given as goal
 
 abbrev pub invariant-loop-name : goal.invariant-loop-name
-invariant-loop-name l = l.words ≡ sum_by (λ n. size (named (graph_of l.graph) (Some n))) (take l.name-index l.name-items)
+invariant-loop-name loop = loop.words ≡ sum_by (λ name. size (named (graph_of loop.graph) (Some name))) (take loop.name-index loop.name-items)

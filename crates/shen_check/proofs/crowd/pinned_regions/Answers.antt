@@ -7,13 +7,13 @@ use Rattle.shen_check.proofs.crowd.pinned_regions.Goals.{then-not-contains+in_ok
 
 pub loop-pinned-preserved : goal.loop-pinned-preserved
 loop-pinned-preserved c =
-    let found = c.loop-pinned.regions.items in
-    let told = c.contains.ensures.value ∙ ap (list_any (λ (m : ℕ). m == _)) c.deref.ensures.value in
+    let found_regions = c.loop-pinned.regions.items in
+    let membership = c.contains.ensures.value ∙ ap (list_any (λ (region : ℕ). region == _)) c.deref.ensures.value in
     elim c.if-not-contains.branch [
       | then-not-contains+in_ok-push w ↦
-          ap (λ n. n.items) w.regions-is ∙ w.in_ok-push.ensures.items
-          ∙ region_added c.args.region_words c.args.held.now c.loop-pinned.pinned-index _ found c.loop-pinned-test.true c.loop-pinned.invariant (sym told ∙ w.if-not-contains.true)
+          ap (λ numbers. numbers.items) w.regions-is ∙ w.in_ok-push.ensures.items
+          ∙ region_added c.args.region_words c.args.held.now c.loop-pinned.pinned-index _ found_regions c.loop-pinned-test.true c.loop-pinned.invariant (sym membership ∙ w.if-not-contains.true)
       | else-not-contains w ↦
-          ap (λ n. n.items) w.regions-is
-          ∙ region_again c.args.region_words c.args.held.now c.loop-pinned.pinned-index _ found c.loop-pinned-test.true c.loop-pinned.invariant (sym told ∙ w.if-not-contains.false)
+          ap (λ numbers. numbers.items) w.regions-is
+          ∙ region_again c.args.region_words c.args.held.now c.loop-pinned.pinned-index _ found_regions c.loop-pinned-test.true c.loop-pinned.invariant (sym membership ∙ w.if-not-contains.false)
     ]

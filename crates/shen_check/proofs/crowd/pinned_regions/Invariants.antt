@@ -3,4 +3,4 @@ use Rattle.shen_check.specs.JudgeState.{regions_held}
 use Rattle.shen_check.proofs.crowd.pinned_regions.Given as goal
 
 abbrev pub invariant-loop-pinned : goal.invariant-loop-pinned
-invariant-loop-pinned l = l.regions.items ≡ regions_held l.region_words (take l.pinned-index l.held)
+invariant-loop-pinned loop = loop.regions.items ≡ regions_held loop.region_words (take loop.pinned-index loop.held)

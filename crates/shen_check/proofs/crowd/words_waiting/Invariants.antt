@@ -4,7 +4,7 @@ use Rattle.shen_check.specs.JudgeState.{words_beside}
 use Rattle.shen_check.proofs.crowd.words_waiting.Given as goal
 
 abbrev pub invariant-loop-mutator : goal.invariant-loop-mutator
-invariant-loop-mutator l = record {
-  sum : l.words ≡ sum_by (words_beside l.work l.thread) (range_with_len 0 l.mutator);
-  few : l.words ≤ l.mutator * 2 ^ 40;
+invariant-loop-mutator loop = record {
+  sum : loop.words ≡ sum_by (words_beside loop.work loop.thread) (range_with_len 0 loop.mutator);
+  few : loop.words ≤ loop.mutator * 2 ^ 40;
 }

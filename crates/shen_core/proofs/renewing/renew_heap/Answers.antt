@@ -28,20 +28,20 @@ renew-requires-clause-whole c =
     let plain = c.args.plain.now in
     let config = config_of plain in
     let text = c.in_ok-text.text in
-    let same : c.config-config.result ≡ config = c.config-config.ensures in
+    let same_config : c.config-config.result ≡ config = c.config-config.ensures in
     let run = c.requires.renewable.run in
     let shows = c.in_ok-text.ensures.shows run c.requires.renewable.leads in
-    subst (λ (config : Config). IsPlaceable config text) (sym same) (placeable config text (graph_after pause_image config run) c.requires.renewable.renewable shows)
+    subst (λ (config : Config). IsPlaceable config text) (sym same_config) (placeable config text (graph_after pause_image config run) c.requires.renewable.renewable shows)
 
 pub renew-requires-clause-names : goal.renew-requires-clause-names
 renew-requires-clause-names c =
     let plain = c.args.plain.now in
     let config = config_of plain in
     let text = c.in_ok-text.text in
-    let same : c.config-config.result ≡ config = c.config-config.ensures in
+    let same_config : c.config-config.result ≡ config = c.config-config.ensures in
     let run = c.requires.renewable.run in
     let shows = c.in_ok-text.ensures.shows run c.requires.renewable.leads in
-    subst (λ (config : Config). AreOfThreads config.mutators (names_of text)) (sym same) (of_threads config text (graph_after pause_image config run) c.requires.renewable.renewable shows)
+    subst (λ (config : Config). AreOfThreads config.mutators (names_of text)) (sym same_config) (of_threads config text (graph_after pause_image config run) c.requires.renewable.renewable shows)
 
 pub open_from-requires-clause-begins : goal.open_from-requires-clause-begins
 open_from-requires-clause-begins c =
@@ -51,11 +51,11 @@ open_from-requires-clause-begins c =
     let sizes : images.config_of image ≡ c.config-config.result = rw c.in-Heap.is at c.in_ok-image.ensures.config in
     let placed : IsPlaced c.config-config.result (text_anew text) (images.memory_of image) = rw c.in-Heap.is at c.in_ok-image.ensures.placed in
     let stands : Represents c.config-config.result (images.memory_of image) (text_graph (text_anew text) counts) (λ m. nothing) = rw c.in-Heap.is at c.in_ok-image.ensures.stands in
-    let can = placed_can_begin c.config-config.result text counts (images.memory_of image) placed stands in
+    let can_begin = placed_can_begin c.config-config.result text counts (images.memory_of image) placed stands in
     ∣ (
       text_graph (text_anew text) counts,
       subst (λ (xs : List ℕ). CanBeginFrom (images.config_of image) (images.memory_of image) xs (text_graph (text_anew text) counts)) (sym c.deref.ensures.value)
-          (subst (λ (config : Config). CanBeginFrom config (images.memory_of image) counts (text_graph (text_anew text) counts)) (sym sizes) can),
+          (subst (λ (config : Config). CanBeginFrom config (images.memory_of image) counts (text_graph (text_anew text) counts)) (sym sizes) can_begin),
     ) ∣₁
 
 pub returns-in-Heap-clause-renewed : goal.returns-in-Heap-clause-renewed
@@ -63,7 +63,7 @@ returns-in-Heap-clause-renewed c = λ now leads.
     let plain = c.args.plain.now in
     let config = config_of plain in
     let text = c.in_ok-text.text in
-    let same : c.config-config.result ≡ config = c.config-config.ensures in
+    let same_config : c.config-config.result ≡ config = c.config-config.ensures in
     let run = c.requires.renewable.run in
     let shows = c.in_ok-text.ensures.shows run c.requires.renewable.leads in
     let image = c.in-Heap.image in
@@ -71,17 +71,17 @@ returns-in-Heap-clause-renewed c = λ now leads.
     let sizes : images.config_of image ≡ c.config-config.result = rw c.in-Heap.is at c.in_ok-image.ensures.config in
     let placed : IsPlaced c.config-config.result (text_anew text) (images.memory_of image) = rw c.in-Heap.is at c.in_ok-image.ensures.placed in
     let stands : Represents c.config-config.result (images.memory_of image) (text_graph (text_anew text) counts) (λ m. nothing) = rw c.in-Heap.is at c.in_ok-image.ensures.stands in
-    let can = placed_can_begin c.config-config.result text counts (images.memory_of image) placed stands in
-    let whole = placeable config text (graph_after pause_image config run) c.requires.renewable.renewable shows in
+    let can_begin = placed_can_begin c.config-config.result text counts (images.memory_of image) placed stands in
+    let text_placeable = placeable config text (graph_after pause_image config run) c.requires.renewable.renewable shows in
     let threads = of_threads config text (graph_after pause_image config run) c.requires.renewable.renewable shows in
-    let are : AreCountsOf (names_of text) c.config-config.result.mutators counts = rw c.in-Heap.is at c.in_ok-image.ensures.counts in
+    let made_counts : AreCountsOf (names_of text) c.config-config.result.mutators counts = rw c.in-Heap.is at c.in_ok-image.ensures.counts in
     let new = c.in_ok-plain-in-Heap.plain in
-    begins_anew config text whole threads (graph_after pause_image config now) (c.in_ok-text.ensures.shows now leads) counts (subst (λ (config : Config). AreCountsOf (names_of text) config.mutators counts) same are) new image
-    (c.in_ok-plain-in-Heap.ensures.config ∙ sizes ∙ same) (sizes ∙ same)
+    begins_anew config text text_placeable threads (graph_after pause_image config now) (c.in_ok-text.ensures.shows now leads) counts (subst (λ (config : Config). AreCountsOf (names_of text) config.mutators counts) same_config made_counts) new image
+    (c.in_ok-plain-in-Heap.ensures.config ∙ sizes ∙ same_config) (sizes ∙ same_config)
     (subst (λ (xs : List ℕ). Shows new (stage_from (images.config_of image) (images.words_of image) xs)) c.deref.ensures.value c.in_ok-plain-in-Heap.ensures.stage)
     (subst (λ (xs : List ℕ). (graph : Graph) → CanBeginFrom (images.config_of image) (images.memory_of image) xs graph → Begins (images.config_of image) (stage_from (images.config_of image) (images.words_of image) xs) graph) c.deref.ensures.value
     c.in_ok-plain-in-Heap.ensures.begins)
-    (subst (λ (config : Config). CanBeginFrom config (images.memory_of image) counts (text_graph (text_anew text) counts)) same can)
+    (subst (λ (config : Config). CanBeginFrom config (images.memory_of image) counts (text_graph (text_anew text) counts)) same_config can_begin)
     (nothing_pinned text config.mutators (graph_after pause_image config now) (c.in_ok-text.ensures.shows now leads) c.in_ok-text.ensures.threads
     (not_pinned text (λ pinned. let is = c.in_ok-image.ensures.pinned.1 pinned in let heap = c.in-Heap.is in absurd (cc))))
 
@@ -89,10 +89,10 @@ pub returns-in-Pinned-clause-pinned : goal.returns-in-Pinned-clause-pinned
 returns-in-Pinned-clause-pinned c = λ told now leads none.
     let config = config_of c.args.plain.now in
     let text = c.in_ok-text.text in
-    c.in_ok-image.ensures.pinned.0 (ap (λ (r : Renewed). Ok r) c.in-Pinned.is) (nothing_held text config.mutators (graph_after pause_image config now) (c.in_ok-text.ensures.shows now leads) c.in_ok-text.ensures.threads none)
+    c.in_ok-image.ensures.pinned.0 (ap (λ (renewed : Renewed). Ok renewed) c.in-Pinned.is) (nothing_held text config.mutators (graph_after pause_image config now) (c.in_ok-text.ensures.shows now leads) c.in_ok-text.ensures.threads none)
 
 pub returns-clause-too_small : goal.returns-clause-too_small
 returns-clause-too_small c = λ told now leads.
     let config = config_of c.args.plain.now in
     let text = c.in_ok-text.text in
-    (text, c.in_ok-text.ensures.shows now leads, subst (λ (config : Config). Fits config text → ⊥) c.config-config.ensures (c.in_ok-image.ensures.too_small.0 (ap (λ (r : Renewed). Ok r) c.in-TooSmall.is)).1)
+    (text, c.in_ok-text.ensures.shows now leads, subst (λ (config : Config). Fits config text → ⊥) c.config-config.ensures (c.in_ok-image.ensures.too_small.0 (ap (λ (renewed : Renewed). Ok renewed) c.in-TooSmall.is)).1)

@@ -41,10 +41,10 @@ pub returns-in_default : goal.returns-in_default
 returns-in_default c =
     let facts = (stepped c.args.plain.now c.order_next.new.self c.step-said.new.self c.args.work.now c.args.number _ c.step-said.result c.requires.number c.order_next.ensures.words c.order_next.ensures.machines c.order_next.ensures.config c.order_next.ensures.orders c.order_next.ensures.turn c.order_next.ensures.next c.order_next.ensures.has c.if-not-order_next.false c.step-said.ensures.event c.step-said.ensures.says c.step-said.ensures.machines c.step-said.ensures.orders c.step-said.ensures.config) in
     record {
-      run = can_run_on _ _ _ _ _ _ facts (none_given _ _ _ _ _ _ facts (λ done. c.in_default.not-Done done)) c.requires.run;
+      run = can_run_on _ _ _ _ _ _ facts (none_given _ _ _ _ _ _ facts (λ is_done. c.in_default.not-Done is_done)) c.requires.run;
       config = c.step-said.ensures.config ∙ c.order_next.ensures.config;
-      turned = turned_on _ _ _ _ _ _ facts (none_given _ _ _ _ _ _ facts (λ done. c.in_default.not-Done done));
-      moved = λ idle. absurd (let none = c.step-said.ensures.idle.0 idle in let has = c.order_next.ensures.has ∙ c.if-not-order_next.false in let both : true ≡ false = sym has ∙ none in cc);
+      turned = turned_on _ _ _ _ _ _ facts (none_given _ _ _ _ _ _ facts (λ is_done. c.in_default.not-Done is_done));
+      moved = λ idle. absurd (let none = c.step-said.ensures.idle.0 idle in let has_order = c.order_next.ensures.has ∙ c.if-not-order_next.false in let impossible : true ≡ false = sym has_order ∙ none in cc);
       idle = λ none. cc;
       idle_work = λ none. cc;
       seen = sees_turn _ _ _ _ _ _ _ facts refl c.in_ok-place.ensures.place c.plan-access.ensures.row (c.word-found.ensures ∙ ap (slice_index _) c.at.ensures);

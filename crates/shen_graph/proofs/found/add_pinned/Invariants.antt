@@ -4,4 +4,4 @@ use Rattle.shen_graph.specs.Step.{name_in}
 use Rattle.shen_graph.proofs.found.add_pinned.Given as goal
 
 abbrev pub invariant-loop-slot : goal.invariant-loop-slot
-invariant-loop-slot l = l.found.items ≡ with_names l.initial.found.items (map name_in (take l.slot-index l.slots))
+invariant-loop-slot loop = loop.found.items ≡ with_names loop.initial.found.items (map name_in (take loop.slot-index loop.slots))

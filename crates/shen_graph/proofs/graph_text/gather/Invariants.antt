@@ -5,14 +5,14 @@ use Rattle.shen_graph.specs.TextLayout.{row_at, span_length, IsLaid}
 use Rattle.shen_graph.proofs.graph_text.gather.Given as goal
 
 abbrev pub invariant-loop-i : goal.invariant-loop-i
-invariant-loop-i l = record {
-  left : (k : ℕ) (place : Place) → l.i ≤ k → get_or l.places.items k place ≡ get_or l.initial.places.items k place;
-  rows : map (row_at l.moved_references.items l.moved_numbers.items) (take l.i l.places.items) ≡ map (row_at l.references l.numbers) (take l.i l.initial.places.items);
-  laid : IsLaid (take l.i l.places.items) (vec_len l.moved_references) (vec_len l.moved_numbers);
-  references : vec_len l.moved_references ≡ sum_by (λ p. span_length p.refs) (take l.i l.initial.places.items);
-  numbers : vec_len l.moved_numbers ≡ sum_by (λ p. span_length p.nums) (take l.i l.initial.places.items);
-  length : vec_len l.places ≡ vec_len l.initial.places;
-  place_room : vec_capacity l.places ≡ vec_capacity l.initial.places;
-  reference_room : vec_capacity l.initial.moved_references ≤ vec_capacity l.moved_references;
-  number_room : vec_capacity l.initial.moved_numbers ≤ vec_capacity l.moved_numbers;
+invariant-loop-i loop = record {
+  left : (index : ℕ) (place : Place) → loop.i ≤ index → get_or loop.places.items index place ≡ get_or loop.initial.places.items index place;
+  rows : map (row_at loop.moved_references.items loop.moved_numbers.items) (take loop.i loop.places.items) ≡ map (row_at loop.references loop.numbers) (take loop.i loop.initial.places.items);
+  laid : IsLaid (take loop.i loop.places.items) (vec_len loop.moved_references) (vec_len loop.moved_numbers);
+  references : vec_len loop.moved_references ≡ sum_by (λ place. span_length place.refs) (take loop.i loop.initial.places.items);
+  numbers : vec_len loop.moved_numbers ≡ sum_by (λ place. span_length place.nums) (take loop.i loop.initial.places.items);
+  length : vec_len loop.places ≡ vec_len loop.initial.places;
+  place_room : vec_capacity loop.places ≡ vec_capacity loop.initial.places;
+  reference_room : vec_capacity loop.initial.moved_references ≤ vec_capacity loop.moved_references;
+  number_room : vec_capacity loop.initial.moved_numbers ≤ vec_capacity loop.moved_numbers;
 }

@@ -3,4 +3,4 @@ use Rattle.std.specs.Prelude.{replicate}
 use Rattle.shen_graph.proofs.graph_text.make_null.Given as goal
 
 abbrev pub invariant-loop-row : goal.invariant-loop-row
-invariant-loop-row l = take l.row-index l.roots ≡ replicate l.row-index (replicate 16 None)
+invariant-loop-row loop = take loop.row-index loop.roots ≡ replicate loop.row-index (replicate 16 None)

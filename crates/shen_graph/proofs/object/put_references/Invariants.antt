@@ -3,8 +3,8 @@ use Rattle.shen_graph.specs.GraphText.{with_references}
 use Rattle.shen_graph.proofs.object.put_references.Given as goal
 
 abbrev pub invariant-loop-reference : goal.invariant-loop-reference
-invariant-loop-reference l = record {
-  rows : length l.text.rows ≡ length l.initial.text.rows;
-  spare : l.text.spare + l.reference-index ≡ l.initial.text.spare;
-  added : l.text ≡ with_references l.initial.text (take l.reference-index l.references);
+invariant-loop-reference loop = record {
+  rows : length loop.text.rows ≡ length loop.initial.text.rows;
+  spare : loop.text.spare + loop.reference-index ≡ loop.initial.text.spare;
+  added : loop.text ≡ with_references loop.initial.text (take loop.reference-index loop.references);
 }

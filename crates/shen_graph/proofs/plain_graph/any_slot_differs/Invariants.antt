@@ -4,4 +4,4 @@ use Rattle.shen_graph.specs.PlainGraph.{differs}
 use Rattle.shen_graph.proofs.plain_graph.any_slot_differs.Given as goal
 
 abbrev pub invariant-loop-slot : goal.invariant-loop-slot
-invariant-loop-slot l = list_any (differs l.name l.place) (take l.slot-index l.slots) ≡ false
+invariant-loop-slot loop = list_any (differs loop.name loop.place) (take loop.slot-index loop.slots) ≡ false

@@ -4,7 +4,7 @@ use Rattle.step_core.specs.Opening.{rooted}
 use Rattle.step_core.proofs.opening.open_words.Given as goal
 
 abbrev pub invariant-loop-mutator : goal.invariant-loop-mutator
-invariant-loop-mutator l = record {
-  words : l.words.items ≡ rooted l.config l.mutator (replicate (table_words l.config) 0);
-  long : length l.words.items ≡ table_words l.config;
+invariant-loop-mutator locals = record {
+  words : locals.words.items ≡ rooted locals.config locals.mutator (replicate (table_words locals.config) 0);
+  long : length locals.words.items ≡ table_words locals.config;
 }

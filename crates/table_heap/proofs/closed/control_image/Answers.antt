@@ -29,8 +29,8 @@ into_image-requires c =
     let number : c.seats-number.result - 1 ≡ control_number c.args.config = omega (arith, c.seats-number.ensures) in
     let inside = here_within items (control_number c.args.config) (ap is_some c.requires.here) in
     let found = c.index_mut.ensures.value ∙ sym (machine_of-index items (c.seats-number.result - 1) c.index_mut.result.now (omega (arith, number, inside))) ∙ ap (machine_of items) number ∙ c.requires.here in
-    let same : c.requires.machine ≡ c.in-Some.control = same_Some c.requires.machine c.in-Some.control (sym found ∙ sym c.take.ensures.value ∙ c.in-Some.is) in
-    record { control = subst (λ (machine : Machine). is_some (control_in (shown machine)) ≡ true) same c.requires.role }
+    let same_control : c.requires.machine ≡ c.in-Some.control = same_Some c.requires.machine c.in-Some.control (sym found ∙ sym c.take.ensures.value ∙ c.in-Some.is) in
+    record { control = subst (λ (machine : Machine). is_some (control_in (shown machine)) ≡ true) same_control c.requires.role }
 
 pub returns : goal.returns
 returns c =
@@ -38,5 +38,5 @@ returns c =
     let number : c.seats-number.result - 1 ≡ control_number c.args.config = omega (arith, c.seats-number.ensures) in
     let inside = here_within items (control_number c.args.config) (ap is_some c.requires.here) in
     let found = c.index_mut.ensures.value ∙ sym (machine_of-index items (c.seats-number.result - 1) c.index_mut.result.now (omega (arith, number, inside))) ∙ ap (machine_of items) number ∙ c.requires.here in
-    let same : c.requires.machine ≡ c.in-Some.control = same_Some c.requires.machine c.in-Some.control (sym found ∙ sym c.take.ensures.value ∙ c.in-Some.is) in
-    c.into_image.ensures.heap ∙ ap config_of (sym same) ∙ c.requires.heap
+    let same_control : c.requires.machine ≡ c.in-Some.control = same_Some c.requires.machine c.in-Some.control (sym found ∙ sym c.take.ensures.value ∙ c.in-Some.is) in
+    c.into_image.ensures.heap ∙ ap config_of (sym same_control) ∙ c.requires.heap

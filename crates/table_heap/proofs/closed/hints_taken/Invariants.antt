@@ -4,4 +4,4 @@ use Rattle.table_heap.proofs.HintTotals.{total}
 use Rattle.table_heap.proofs.closed.hints_taken.Given as goal
 
 abbrev pub invariant-loop-place : goal.invariant-loop-place
-invariant-loop-place l = l.taken ≡ min (total (take l.place-index l.machines)) (2 ^ 64 - 1)
+invariant-loop-place locals = locals.taken ≡ min (total (take locals.place-index locals.machines)) (2 ^ 64 - 1)

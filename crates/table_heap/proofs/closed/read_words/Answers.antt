@@ -8,28 +8,28 @@ use Rattle.table_heap.proofs.Closing.{read_next}
 use Rattle.table_heap.proofs.closed.read_words.Goals as goal
 
 pub loop-at-init : goal.loop-at-init
-loop-at-init c = record { config = refl; long = c.args.image.now.all_words ∙ c.requires.room; read = λ k below. absurd (omega (arith, below)) }
+loop-at-init c = record { config = refl; long = c.args.image.now.all_words ∙ c.requires.room; read = λ index index_below. absurd (omega (arith, index_below)) }
 
 pub set_word-requires : goal.set_word-requires
 set_word-requires c =
-    let all : c.table_words-at-end.result ≡ table_words (config_of c.args.image.now) = c.table_words-at-end.ensures ∙ ap table_words c.config.ensures in
-    subst (λ (config : Config). c.loop-at.at < table_words config) (sym c.loop-at.invariant.config) (omega (arith, c.loop-at-test.true, all))
+    let whole_table : c.table_words-at-end.result ≡ table_words (config_of c.args.image.now) = c.table_words-at-end.ensures ∙ ap table_words c.config.ensures in
+    subst (λ (config : Config). c.loop-at.at < table_words config) (sym c.loop-at.invariant.config) (omega (arith, c.loop-at-test.true, whole_table))
 
 pub loop-at-preserved : goal.loop-at-preserved
 loop-at-preserved c =
-    let l = c.loop-at in
-    let all : c.table_words-at-end.result ≡ table_words (config_of c.args.image.now) = c.table_words-at-end.ensures ∙ ap table_words c.config.ensures in
-    let within : l.at < length (words_of l.image) = omega (arith, c.loop-at-test.true, all, c.requires.room, l.invariant.long) in
+    let loop_turn = c.loop-at in
+    let whole_table : c.table_words-at-end.result ≡ table_words (config_of c.args.image.now) = c.table_words-at-end.ensures ∙ ap table_words c.config.ensures in
+    let within : loop_turn.at < length (words_of loop_turn.image) = omega (arith, c.loop-at-test.true, whole_table, c.requires.room, loop_turn.invariant.long) in
     record {
-      config = c.set_word.ensures.config ∙ l.invariant.config;
-      long = ap length c.set_word.ensures.words ∙ length-set (words_of l.image) l.at c.word.result ∙ l.invariant.long;
-      read = subst (λ (ws : List ℕ). (index : ℕ) → index < l.at + 1 → get_or ws index 0 ≡ get_or (slots_items c.args.rows.now.words) index 0) (sym c.set_word.ensures.words)
-          (read_next (slots_items c.args.rows.now.words) (words_of l.image) l.at c.word.result within c.word.ensures l.invariant.read);
+      config = c.set_word.ensures.config ∙ loop_turn.invariant.config;
+      long = ap length c.set_word.ensures.words ∙ length-set (words_of loop_turn.image) loop_turn.at c.word.result ∙ loop_turn.invariant.long;
+      read = subst (λ (word_list : List ℕ). (index : ℕ) → index < loop_turn.at + 1 → get_or word_list index 0 ≡ get_or (slots_items c.args.rows.now.words) index 0) (sym c.set_word.ensures.words)
+          (read_next (slots_items c.args.rows.now.words) (words_of loop_turn.image) loop_turn.at c.word.result within c.word.ensures loop_turn.invariant.read);
     }
 
 pub returns-clause-words : goal.returns-clause-words
 returns-clause-words c =
-    let l = c.loop-at in
-    let all : c.table_words-at-end.result ≡ table_words (config_of c.args.image.now) = c.table_words-at-end.ensures ∙ ap table_words c.config.ensures in
-    ext_get_or 0 (words_of l.image) (slots_items c.args.rows.now.words) (l.invariant.long ∙ (slots_counts c.args.rows.now.words).0)
-    (λ k below. l.invariant.read k (omega (arith, below, c.loop-at-test.false, all, c.requires.room, l.invariant.long)))
+    let loop_turn = c.loop-at in
+    let whole_table : c.table_words-at-end.result ≡ table_words (config_of c.args.image.now) = c.table_words-at-end.ensures ∙ ap table_words c.config.ensures in
+    ext_get_or 0 (words_of loop_turn.image) (slots_items c.args.rows.now.words) (loop_turn.invariant.long ∙ (slots_counts c.args.rows.now.words).0)
+    (λ index index_below. loop_turn.invariant.read index (omega (arith, index_below, c.loop-at-test.false, whole_table, c.requires.room, loop_turn.invariant.long)))

@@ -5,12 +5,12 @@ use Rattle.shen_graph.specs.Step.{IsNew}
 use Rattle.table_heap.proofs.drive.hand_reply.Goals as goal
 
 pub returns : goal.returns
-returns g c = λ d there.
-    let e = get_or_from_slice_get c.args.drivers.now c.args.place d c.index-drivers-place.result there in
+returns g c = λ driver driver_there.
+    let driver_read = get_or_from_slice_get c.args.drivers.now c.args.place driver c.index-drivers-place.result driver_there in
     record {
       taken = c.took.new.self;
       list = refl;
-      replied_is = c.took.ensures.replied ∙ ap (λ z. g.D.Driver.replied z c.args.reply.now) e;
-      falls = subst (λ z. g.D.Driver.to_come c.took.new.self ≤ g.D.Driver.to_come z) e c.took.ensures.falls;
-      pays = subst (λ z. (command : Command) → g.D.Driver.next_of z ≡ Some command → IsNew command → g.D.Driver.to_come c.took.new.self < g.D.Driver.to_come z) e c.took.ensures.pays;
+      replied_is = c.took.ensures.replied ∙ ap (λ any_driver. g.D.Driver.replied any_driver c.args.reply.now) driver_read;
+      falls = subst (λ any_driver. g.D.Driver.to_come c.took.new.self ≤ g.D.Driver.to_come any_driver) driver_read c.took.ensures.falls;
+      pays = subst (λ any_driver. (command : Command) → g.D.Driver.next_of any_driver ≡ Some command → IsNew command → g.D.Driver.to_come c.took.new.self < g.D.Driver.to_come any_driver) driver_read c.took.ensures.pays;
     }

@@ -3,7 +3,7 @@ use Rattle.table_heap.proofs.Thieves.{none_changed, in_more, config_still, steal
 use Rattle.table_heap.proofs.sharing.share_hints.Goals as goal
 
 pub loop-other-init : goal.loop-other-init
-loop-other-init c = record { more = none_changed c.args.bundles.now.items; steal = λ k b own under other there at. absurd (omega (arith, under)) }
+loop-other-init c = record { more = none_changed c.args.bundles.now.items; steal = λ place stealing_bundle own_bundle bundle_under other_bundle bundle_there place_read. absurd (omega (arith, bundle_under)) }
 
 pub share_with-requires-clause-heap : goal.share_with-requires-clause-heap
 share_with-requires-clause-heap c = (c.requires.heap.0, config_still c.requires.heap.0 c.args.bundles.now.items c.loop-other.bundles.items c.loop-other.invariant.more c.requires.heap.1)

@@ -12,14 +12,14 @@ returns-in_err-thief-clause-more c = read_changed c.args.bundles.now.items c.arg
 pub steal_by-requires : goal.steal_by-requires
 steal_by-requires c =
     let bundles = c.args.bundles.now.items in
-    let first = c.index_mut.result.now in
-    let other = c.index_mut-2.result.now in
+    let first_bundle = c.index_mut.result.now in
+    let other_bundle = c.index_mut-2.result.now in
     let mid = slice_set bundles c.args.bundle c.thief.new.self in
-    let long = length-set bundles c.args.bundle c.thief.new.self in
-    let here = read_place bundles c.args.bundle first c.requires.bundle c.index_mut.ensures.value in
-    let there = read_place mid c.args.other other (omega (arith, long, c.requires.other)) c.index_mut-2.ensures.value in
-    let still = config_still c.requires.heap.0 bundles mid (read_changed bundles c.args.bundle first c.thief.new.self c.requires.bundle c.index_mut.ensures.value c.thief.ensures.more) c.requires.heap.1 in
-    record { heap = c.in_ok-thief.ensures.thief.0 ∙ c.requires.heap.1 c.args.bundle first here ∙ sym (still c.args.other other there) }
+    let same_length = length-set bundles c.args.bundle c.thief.new.self in
+    let first_read = read_place bundles c.args.bundle first_bundle c.requires.bundle c.index_mut.ensures.value in
+    let other_read = read_place mid c.args.other other_bundle (omega (arith, same_length, c.requires.other)) c.index_mut-2.ensures.value in
+    let config_stays = config_still c.requires.heap.0 bundles mid (read_changed bundles c.args.bundle first_bundle c.thief.new.self c.requires.bundle c.index_mut.ensures.value c.thief.ensures.more) c.requires.heap.1 in
+    record { heap = c.in_ok-thief.ensures.thief.0 ∙ c.requires.heap.1 c.args.bundle first_bundle first_read ∙ sym (config_stays c.args.other other_bundle other_read) }
 
 pub returns-in_err-steal_by-clause-more : goal.returns-in_err-steal_by-clause-more
 returns-in_err-steal_by-clause-more c =
@@ -33,12 +33,12 @@ returns-clause-more c =
 
 -- the thief stands behind those that the other bundle had, and steals from this bundle's deque
 pub returns-clause-steals : goal.returns-clause-steals
-returns-clause-steals c = λ b own apart there at.
+returns-clause-steals c = λ stealing_bundle own_bundle bundles_apart bundle_there place_read.
     let bundles = c.args.bundles.now.items in
     let mid = slice_set bundles c.args.bundle c.thief.new.self in
-    let long = length-set bundles c.args.bundle c.thief.new.self in
-    let b_is = changed_place mid c.args.other c.steal_by.new.self b (omega (arith, long, c.requires.other)) there in
-    let own_is = changed_place bundles c.args.bundle c.thief.new.self own c.requires.bundle (other_place mid c.args.other c.steal_by.new.self own c.args.bundle (λ same. apart (sym same)) at) in
-    subst (λ bundle. StealsFrom bundle own) b_is
-    (subst (λ x. StealsFrom c.steal_by.new.self x) own_is
+    let same_length = length-set bundles c.args.bundle c.thief.new.self in
+    let bundle_is = changed_place mid c.args.other c.steal_by.new.self stealing_bundle (omega (arith, same_length, c.requires.other)) bundle_there in
+    let own_is = changed_place bundles c.args.bundle c.thief.new.self own_bundle c.requires.bundle (other_place mid c.args.other c.steal_by.new.self own_bundle c.args.bundle (λ same_bundle. bundles_apart (sym same_bundle)) place_read) in
+    subst (λ bundle. StealsFrom bundle own_bundle) bundle_is
+    (subst (λ source_bundle. StealsFrom c.steal_by.new.self source_bundle) own_is
     (record { place = length c.index_mut-2.result.now.thieves.items; thief = c.in_ok-thief.thief; there = c.in_ok-steal_by.ensures.thief; steals = c.in_ok-thief.ensures.thief.1 }))

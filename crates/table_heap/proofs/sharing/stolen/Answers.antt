@@ -5,20 +5,20 @@ use Rattle.table_heap.specs.Seen.{config_in}
 use Rattle.table_heap.proofs.sharing.stolen.Goals as goal
 
 pub returns-in-Some : goal.returns-in-Some
-returns-in-Some c = λ config all.
-    let l = c.loop-thief in
-    let still = l.invariant config all in
-    let was = All-get_or (λ thief. config_in thief ≡ config) l.thieves l.thief-index c.thief-item.result (subst (λ n. l.thief-index < n) (sym l.auto.thieves) c.loop-thief-test.true) still in (
-      subst (λ k. IsWord k (Heap c.in-Some.address)) was c.in-Some.ensures.heap,
-      All-set (λ thief. config_in thief ≡ config) l.thieves l.thief-index c.steal.new.self (c.steal.ensures.config ∙ was) still,
+returns-in-Some c = λ config all_configs.
+    let loop = c.loop-thief in
+    let still_all = loop.invariant config all_configs in
+    let thief_config = All-get_or (λ thief. config_in thief ≡ config) loop.thieves loop.thief-index c.thief-item.result (subst (λ thief_count. loop.thief-index < thief_count) (sym loop.auto.thieves) c.loop-thief-test.true) still_all in (
+      subst (λ any_config. IsWord any_config (Heap c.in-Some.address)) thief_config c.in-Some.ensures.heap,
+      All-set (λ thief. config_in thief ≡ config) loop.thieves loop.thief-index c.steal.new.self (c.steal.ensures.config ∙ thief_config) still_all,
     )
 
 pub loop-thief-preserved : goal.loop-thief-preserved
-loop-thief-preserved c = λ config all.
-    let l = c.loop-thief in
-    let still = l.invariant config all in
-    let was = All-get_or (λ thief. config_in thief ≡ config) l.thieves l.thief-index c.thief-item.result (subst (λ n. l.thief-index < n) (sym l.auto.thieves) c.loop-thief-test.true) still in
-    All-set (λ thief. config_in thief ≡ config) l.thieves l.thief-index c.steal.new.self (c.steal.ensures.config ∙ was) still
+loop-thief-preserved c = λ config all_configs.
+    let loop = c.loop-thief in
+    let still_all = loop.invariant config all_configs in
+    let thief_config = All-get_or (λ thief. config_in thief ≡ config) loop.thieves loop.thief-index c.thief-item.result (subst (λ thief_count. loop.thief-index < thief_count) (sym loop.auto.thieves) c.loop-thief-test.true) still_all in
+    All-set (λ thief. config_in thief ≡ config) loop.thieves loop.thief-index c.steal.new.self (c.steal.ensures.config ∙ thief_config) still_all
 
 pub returns : goal.returns
-returns c = λ config all. (tt, c.loop-thief.invariant config all)
+returns c = λ config all_configs. (tt, c.loop-thief.invariant config all_configs)

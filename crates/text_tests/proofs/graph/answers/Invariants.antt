@@ -3,7 +3,7 @@ use Rattle.shen_graph.specs.PlainGraph.{graph_of, threads_of}
 use Rattle.text_tests.proofs.graph.answers.Given as goal
 
 abbrev pub invariant-loop-command : goal.invariant-loop-command
-invariant-loop-command g l = record {
-  threads : threads_of l.plain ≡ threads_of l.initial.plain;
-  made : (thread : ℕ) → (graph_of l.plain).count thread ≤ (graph_of l.initial.plain).count thread + l.command-index;
+invariant-loop-command g loop = record {
+  threads : threads_of loop.plain ≡ threads_of loop.initial.plain;
+  made : (thread : ℕ) → (graph_of loop.plain).count thread ≤ (graph_of loop.initial.plain).count thread + loop.command-index;
 }

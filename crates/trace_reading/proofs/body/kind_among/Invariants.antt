@@ -3,4 +3,4 @@ use Rattle.trace_reading.specs.Causes.{kind_named}
 use Rattle.trace_reading.proofs.body.kind_among.Given as goal
 
 abbrev pub invariant-loop-kind : goal.invariant-loop-kind
-invariant-loop-kind l = kind_named (drop l.kind-index l.kinds) l.word ≡ kind_named l.kinds l.word
+invariant-loop-kind loop = kind_named (drop loop.kind-index loop.kinds) loop.word ≡ kind_named loop.kinds loop.word

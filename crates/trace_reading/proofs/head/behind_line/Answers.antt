@@ -5,4 +5,4 @@ pub returns-in-Some : goal.returns-in-Some
 returns-in-Some c = (_, inr c.in-Some.ensures)
 
 pub returns-in-None : goal.returns-in-None
-returns-in-None c = let last = c.in-None.ensures in (last.0, inl last.1)
+returns-in-None c = let line_cut = c.in-None.ensures in (line_cut.0, inl line_cut.1)

@@ -4,8 +4,8 @@ use Rattle.trace_reading.proofs.Lines.{whole_line, cut_line, heap_words, same_he
 use Rattle.trace_reading.proofs.head.heap_cause.Goals as goal
 
 pub returns-in-Some : goal.returns-in-Some
-returns-in-Some c = λ v.
-    c.title_cause.ensures ∙ same_heap _ c.most_reserved.result c.most_reserved.ensures ∙ sym (whole_line (Heap v) c.args.bytes.now _ c.in-Some.field-0-1.now c.in-Some.ensures ∙ heap_words v _)
+returns-in-Some c = λ version.
+    c.title_cause.ensures ∙ same_heap _ c.most_reserved.result c.most_reserved.ensures ∙ sym (whole_line (Heap version) c.args.bytes.now _ c.in-Some.field-0-1.now c.in-Some.ensures ∙ heap_words version _)
 
 pub returns-in-None : goal.returns-in-None
-returns-in-None c = λ version. let last = c.in-None.ensures in sym (cut_line (Heap version) c.args.bytes.now last.0 last.1)
+returns-in-None c = λ version. let line_cut = c.in-None.ensures in sym (cut_line (Heap version) c.args.bytes.now line_cut.0 line_cut.1)

@@ -7,4 +7,4 @@ pub returns-in-Some : goal.returns-in-Some
 returns-in-Some c = λ version regions region_words reserve. c.title_cause.ensures ∙ sym (whole_line (Threads version regions region_words reserve) c.args.bytes.now _ c.in-Some.field-0-1.now c.in-Some.ensures ∙ threads_words version regions region_words reserve _)
 
 pub returns-in-None : goal.returns-in-None
-returns-in-None c = λ version regions region_words reserve. let last = c.in-None.ensures in sym (cut_line (Threads version regions region_words reserve) c.args.bytes.now last.0 last.1)
+returns-in-None c = λ version regions region_words reserve. let line_cut = c.in-None.ensures in sym (cut_line (Threads version regions region_words reserve) c.args.bytes.now line_cut.0 line_cut.1)

@@ -9,6 +9,6 @@ returns-then-count_words-ranges c =
 
 pub returns-else-eq : goal.returns-else-eq
 returns-else-eq c = elim c.else-eq.branch [
-  | else-eq-via-then-eq+else-count_words-ranges w ↦ sym (other_count c.args.title.now c.args.ranges.now _ _ _ c.cut.ensures.parts (λ e. w.if-count_words-ranges.false (w.count_words.ensures ∙ e)))
+  | else-eq-via-then-eq+else-count_words-ranges w ↦ sym (other_count c.args.title.now c.args.ranges.now _ _ _ c.cut.ensures.parts (λ same_count. w.if-count_words-ranges.false (w.count_words.ensures ∙ same_count)))
   | else-eq-via-else-eq w ↦ sym (other_title c.args.title.now c.args.ranges.now _ _ _ c.cut.ensures.parts (sym w.if-eq.ensures))
 ]

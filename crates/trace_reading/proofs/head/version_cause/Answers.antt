@@ -7,4 +7,4 @@ pub returns-in-Some : goal.returns-in-Some
 returns-in-Some c = c.title_cause.ensures ∙ sym (whole_line Version c.args.bytes.now _ c.in-Some.field-0-1.now c.in-Some.ensures ∙ version_words _)
 
 pub returns-in-None : goal.returns-in-None
-returns-in-None c = let last = c.in-None.ensures in sym (cut_line Version c.args.bytes.now last.0 last.1)
+returns-in-None c = let line_cut = c.in-None.ensures in sym (cut_line Version c.args.bytes.now line_cut.0 line_cut.1)

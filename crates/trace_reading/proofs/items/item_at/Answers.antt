@@ -18,4 +18,4 @@ pub returns : goal.returns
 returns c =
     let limit : c.seats.result ≡ seat_count c.args.config.now.mutators c.args.config.now.helpers = c.seats.ensures in
     let read = number_read _ c.args.bytes.now c.in_ok-machine.machine c.in_ok-machine.rest.now (omega arith) (rw (← limit) c.in_ok-machine.ensures) in
-    machine_found c.args.config.now c.args.bytes.now c.in_ok-machine.rest.now c.in_ok-machine.machine (λ r. r.now) c.aim_at.result read c.aim_at.ensures
+    machine_found c.args.config.now c.args.bytes.now c.in_ok-machine.rest.now c.in_ok-machine.machine (λ borrow. borrow.now) c.aim_at.result read c.aim_at.ensures

@@ -7,12 +7,12 @@ use Rattle.trace_reading.proofs.read.empty_scripts.Goals as goal
 
 pub loop-preserved : goal.loop-preserved
 loop-preserved c =
-    let none : List Command = [] in
+    let empty_script : List Command = [] in
     let pushed : c.push.new.self.items ≡ c.loop.scripts.items ++ c.in-Ok.script ∷ [] = rw c.if-is_err.ensures.negation at c.push.ensures.items in
-    pushed ∙ ap (λ (script : List Command). c.loop.scripts.items ++ script ∷ []) c.in-Ok.ensures ∙ ap (λ (scripts : List (List Command)). scripts ++ none ∷ []) c.loop.invariant ∙ replicate_more c.loop.counter none
+    pushed ∙ ap (λ (script : List Command). c.loop.scripts.items ++ script ∷ []) c.in-Ok.ensures ∙ ap (λ (scripts : List (List Command)). scripts ++ empty_script ∷ []) c.loop.invariant ∙ replicate_more c.loop.counter empty_script
 
 pub returns-clause-ok : goal.returns-clause-ok
 returns-clause-ok c =
-    let none : List Command = [] in
-    let all : c.loop.counter ≡ c.args.threads = omega arith in
-    c.loop.invariant ∙ ap (λ (n : ℕ). replicate n none) all ∙ scripts_of_none c.args.threads
+    let empty_script : List Command = [] in
+    let all_counted : c.loop.counter ≡ c.args.threads = omega arith in
+    c.loop.invariant ∙ ap (λ (count : ℕ). replicate count empty_script) all_counted ∙ scripts_of_none c.args.threads

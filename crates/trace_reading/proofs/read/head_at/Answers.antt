@@ -5,8 +5,8 @@ use Rattle.trace_reading.proofs.read.head_at.Goals as goal
 pub overflow_cast-result : goal.overflow_cast-result
 overflow_cast-result c =
     let numbers = c.in_ok-numbers.numbers in
-    let known = (sizes_take c.args.bytes.now (these_numbers numbers.version (take 3 numbers.heap) (take 2 numbers.threads), c.in_ok-numbers.rest.now) (sym c.in_ok-numbers.ensures)).1 in
-    omega (arith, known.1)
+    let sizes_known = (sizes_take c.args.bytes.now (these_numbers numbers.version (take 3 numbers.heap) (take 2 numbers.threads), c.in_ok-numbers.rest.now) (sym c.in_ok-numbers.ensures)).1 in
+    omega (arith, sizes_known.1)
 
 pub returns-in_err-numbers-clause-none : goal.returns-in_err-numbers-clause-none
 returns-in_err-numbers-clause-none c = rw c.from_residual.ensures (no_head c.args.bytes.now c.in_err-numbers.ensures)

@@ -15,19 +15,19 @@ take_line-requires c =
 
 pub overflow_add-line : goal.overflow_add-line
 overflow_add-line c =
-    let fit = lines_fit c.lines.invariant.0.lines c.args.bytes.now c.lines.rest.now c.lines.invariant.0.spelled in
+    let lines_short = lines_fit c.lines.invariant.0.lines c.args.bytes.now c.lines.rest.now c.lines.invariant.0.spelled in
     let took = c.in-Ok.ensures.ok in
-    let some = few_lines (took.0 ∷ []) in
-    let whole = ap length (append-nil (line took.0)) in
-    let taken = ap length took.2 in
+    let line_some = few_lines (took.0 ∷ []) in
+    let line_length = ap length (append-nil (line took.0)) in
+    let rest_length = ap length took.2 in
     let sizes = length-append (line took.0) c.in-Ok.behind.now in
-    omega (arith, fit, c.lines.invariant.1, c.requires.few, some, whole, taken, sizes)
+    omega (arith, lines_short, c.lines.invariant.1, c.requires.few, line_some, line_length, rest_length, sizes)
 
 pub lines-preserved : goal.lines-preserved
 lines-preserved c =
     let took = c.in-Ok.ensures.ok in
-    let taken = c.lines.invariant.0 in
-    let fits = subst (λ (threads : ℕ). IsLine c.args.version threads took.0) c.mutators-threads.ensures took.1 in (
-      taken_more c.args.version c.args.config.now.mutators c.args.bytes.now c.lines.rest.now c.in-Ok.behind.now c.lines.scripts.items c.take_line.new.scripts.items took.0 taken fits took.2 took.3,
-      omega (arith, c.lines.invariant.1, taken_count c.args.version c.args.config.now.mutators c.args.bytes.now c.lines.rest.now c.in-Ok.behind.now c.lines.scripts.items c.take_line.new.scripts.items took.0 taken fits took.2 took.3),
+    let lines_taken = c.lines.invariant.0 in
+    let line_fits = subst (λ (threads : ℕ). IsLine c.args.version threads took.0) c.mutators-threads.ensures took.1 in (
+      taken_more c.args.version c.args.config.now.mutators c.args.bytes.now c.lines.rest.now c.in-Ok.behind.now c.lines.scripts.items c.take_line.new.scripts.items took.0 lines_taken line_fits took.2 took.3,
+      omega (arith, c.lines.invariant.1, taken_count c.args.version c.args.config.now.mutators c.args.bytes.now c.lines.rest.now c.in-Ok.behind.now c.lines.scripts.items c.take_line.new.scripts.items took.0 lines_taken line_fits took.2 took.3),
     )

@@ -6,7 +6,7 @@ pub returns-clause-either : goal.returns-clause-either
 returns-clause-either c = all.either
 
 pub returns-clause-never_both : goal.returns-clause-never_both
-returns-clause-never_both c = λ bytes version config scripts items n why reads refused. exact.never_both bytes version config scripts items n why reads refused.0
+returns-clause-never_both c = λ bytes version config scripts items line why reads refused. exact.never_both bytes version config scripts items line why reads refused.0
 
 pub returns-clause-once : goal.returns-clause-once
-returns-clause-once c = λ bytes n m why other r s. exact.refused_once bytes n m why other r.0 s.0
+returns-clause-once c = λ bytes line other_line why other_why first_refused second_refused. exact.refused_once bytes line other_line why other_why first_refused.0 second_refused.0

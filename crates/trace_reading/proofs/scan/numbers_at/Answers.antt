@@ -6,11 +6,11 @@ use Rattle.trace_reading.proofs.scan.numbers_at.Goals as goal
 
 pub loop-i-preserved : goal.loop-i-preserved
 loop-i-preserved c =
-    let i = c.loop-i.i in
+    let index = c.loop-i.i in
     let number = c.in_ok-number.number in
-    let front = take_more_set c.loop-i.numbers i number (omega arith) in (
+    let front = take_more_set c.loop-i.numbers index number (omega arith) in (
       omega (arith, length-set {A = ℕ}),
-      rw front (number_goes_on (take i c.loop-i.numbers) c.args.limits.now i c.loop-i.rest.now number c.in_ok-number.after.now _ c.loop-i-test.true (sym c.in_ok-number.ensures) c.loop-i.invariant.1),
+      rw front (number_goes_on (take index c.loop-i.numbers) c.args.limits.now index c.loop-i.rest.now number c.in_ok-number.after.now _ c.loop-i-test.true (sym c.in_ok-number.ensures) c.loop-i.invariant.1),
     )
 
 pub returns-in_err-number : goal.returns-in_err-number
@@ -19,6 +19,6 @@ returns-in_err-number c =
 
 pub returns : goal.returns
 returns c =
-    let whole = numbers_end (take c.loop-i.i c.loop-i.numbers) c.args.limits.now c.loop-i.i c.loop-i.rest.now _ c.loop-i-test.false c.loop-i.invariant.1 in
-    let same : c.loop-i.i ≡ length c.args.limits.now = omega arith in
-    sym (subst (λ (k : ℕ). numbers_at c.args.limits.now c.args.bytes.now ≡ Some (take k c.loop-i.numbers, c.loop-i.rest.now)) same whole)
+    let whole_read = numbers_end (take c.loop-i.i c.loop-i.numbers) c.args.limits.now c.loop-i.i c.loop-i.rest.now _ c.loop-i-test.false c.loop-i.invariant.1 in
+    let all_read : c.loop-i.i ≡ length c.args.limits.now = omega arith in
+    sym (subst (λ (count : ℕ). numbers_at c.args.limits.now c.args.bytes.now ≡ Some (take count c.loop-i.numbers, c.loop-i.rest.now)) all_read whole_read)

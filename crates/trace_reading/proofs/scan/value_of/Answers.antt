@@ -10,13 +10,13 @@ with_digit-requires c = digit_at c.args.digits.now c.loop-digit.digit-index c.re
 
 pub returns-in_err-value : goal.returns-in_err-value
 returns-in_err-value c =
-    let i = c.loop-digit.digit-index in
+    let index = c.loop-digit.digit-index in
     let digits = c.args.digits.now in
-    let more = value_more digits i c.requires c.loop-digit-test.true in
-    let le : digits_value 10 (take (i + 1) digits) ≤ digits_value 10 digits = digits_value-take-le 10 digits (i + 1) (omega arith) in
-    rw c.from_residual.ensures (omega (arith, more, le, c.in_err-value.ensures, c.loop-digit.invariant))
+    let value_grows = value_more digits index c.requires c.loop-digit-test.true in
+    let part_smaller : digits_value 10 (take (index + 1) digits) ≤ digits_value 10 digits = digits_value-take-le 10 digits (index + 1) (omega arith) in
+    rw c.from_residual.ensures (omega (arith, value_grows, part_smaller, c.in_err-value.ensures, c.loop-digit.invariant))
 
 pub loop-digit-preserved : goal.loop-digit-preserved
 loop-digit-preserved c =
-    let more = value_more c.args.digits.now c.loop-digit.digit-index c.requires c.loop-digit-test.true in
-    omega (arith, more, c.in_ok-value.ensures, c.loop-digit.invariant)
+    let value_grows = value_more c.args.digits.now c.loop-digit.digit-index c.requires c.loop-digit-test.true in
+    omega (arith, value_grows, c.in_ok-value.ensures, c.loop-digit.invariant)

@@ -3,4 +3,4 @@ use Rattle.std.specs.Str.Parse.{digits_value}
 use Rattle.trace_reading.proofs.scan.value_of.Given as goal
 
 abbrev pub invariant-loop-digit : goal.invariant-loop-digit
-invariant-loop-digit l = l.value ≡ digits_value 10 (take l.digit-index l.digits)
+invariant-loop-digit loop = loop.value ≡ digits_value 10 (take loop.digit-index loop.digits)

@@ -8,9 +8,9 @@ use Rattle.trace_reading.proofs.ScheduleLines.{items_are_pieces, behind_end, lin
 use Rattle.trace_reading.proofs.schedule_lines.take_items.Goals as goal
 
 pub returns-in_err-rest-clause-refused : goal.returns-in_err-rest-clause-refused
-returns-in_err-rest-clause-refused c = λ h.
-    let p = err_from_is_err_and c.from_residual.result c.from_residual.ensures.1 in
-    no_items c.args.config.now c.args.bytes.now c.items.rest.now c.items.invariant.0 c.items.invariant.1 (λ at_end. false≢true (c.items-test.ensures.1 at_end)) (c.in_err-rest.ensures.refused (let q = p.1 in let r = p.2 in cc))
+returns-in_err-rest-clause-refused c = λ was_refused.
+    let error_found = err_from_is_err_and c.from_residual.result c.from_residual.ensures.1 in
+    no_items c.args.config.now c.args.bytes.now c.items.rest.now c.items.invariant.0 c.items.invariant.1 (λ at_end. false≢true (c.items-test.ensures.1 at_end)) (c.in_err-rest.ensures.refused (let error_is = error_found.1 in let fault_is = error_found.2 in cc))
 
 pub items-preserved : goal.items-preserved
 items-preserved c =

@@ -6,7 +6,7 @@ use Rattle.trace_reading.proofs.Pieces.{HasBegun}
 use Rattle.trace_reading.proofs.schedule_lines.take_items.Given as goal
 
 abbrev pub invariant-items : goal.invariant-items
-invariant-items l = (items : List Item) × HasBegun spaced_item (IsItem l.config) IsLineEnd l.bytes l.rest items × (l.schedule ≡ l.fn.schedule ++ items)
+invariant-items loop = (items : List Item) × HasBegun spaced_item (IsItem loop.config) IsLineEnd loop.bytes loop.rest items × (loop.schedule ≡ loop.fn.schedule ++ items)
 
 abbrev pub decreases-items : goal.decreases-items
-decreases-items l = length l.rest
+decreases-items loop = length loop.rest

@@ -8,9 +8,9 @@ use Rattle.trace_reading.proofs.schedule_lines.take_schedule.Goals as goal
 
 pub overflow_add-line : goal.overflow_add-line
 overflow_add-line c =
-    let fit = turns_fit c.turns.invariant.0 c.args.bytes.now c.turns.rest.now c.turns.invariant.1.spelled in
-    let some = c.turns-test.ensures in
-    omega (arith, fit, c.turns.invariant.3, c.requires.few, not_none c.turns.rest.now (sym some))
+    let turns_short = turns_fit c.turns.invariant.0 c.args.bytes.now c.turns.rest.now c.turns.invariant.1.spelled in
+    let some_turns = c.turns-test.ensures in
+    omega (arith, turns_short, c.turns.invariant.3, c.requires.few, not_none c.turns.rest.now (sym some_turns))
 
 pub turns-preserved : goal.turns-preserved
 turns-preserved c =

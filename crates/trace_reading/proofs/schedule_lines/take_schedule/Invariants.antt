@@ -7,8 +7,8 @@ use Rattle.trace_reading.proofs.ScheduleLines.{IsEmpty}
 use Rattle.trace_reading.proofs.schedule_lines.take_schedule.Given as goal
 
 abbrev pub invariant-turns : goal.invariant-turns
-invariant-turns l =
-    (turns : List (List Item)) × HasBegun schedule_line (IsScheduleLine l.config) IsEmpty l.bytes l.rest turns × (l.schedule ≡ l.fn.schedule ++ items_of turns) × (l.line ≡ l.first + length turns)
+invariant-turns loop =
+    (turns : List (List Item)) × HasBegun schedule_line (IsScheduleLine loop.config) IsEmpty loop.bytes loop.rest turns × (loop.schedule ≡ loop.fn.schedule ++ items_of turns) × (loop.line ≡ loop.first + length turns)
 
 abbrev pub decreases-turns : goal.decreases-turns
-decreases-turns l = length l.rest
+decreases-turns loop = length loop.rest

@@ -28,18 +28,18 @@ returns-in-Ok-check g c = λ words asked.
       before = outlet (g.K.Sink.written c.args.sink.now) (g.K.Sink.faults c.args.sink.now) (g.K.Sink.calls c.args.sink.now);
       after = outlet (g.K.Sink.written c.say.new.sink) (g.K.Sink.faults c.say.new.sink) (g.K.Sink.calls c.say.new.sink);
     } in
-    let is : IsVerdict pair.trace.version pair.trace.config pair.trace.scripts pair.history.list pair.body verdict = subst (λ (body : List ℕ). IsVerdict pair.trace.version pair.trace.config pair.trace.scripts pair.history.list body verdict) c.bytes.ensures c.in-Ok-check.ensures in
+    let verdict_is : IsVerdict pair.trace.version pair.trace.config pair.trace.scripts pair.history.list pair.body verdict = subst (λ (body : List ℕ). IsVerdict pair.trace.version pair.trace.config pair.trace.scripts pair.history.list body verdict) c.bytes.ensures c.in-Ok-check.ensures in
     said words input output (line_text (verdict_line verdict)) Ok c.say.result (
       Check,
       asked,
       record {
         bytes = read.0;
         came = read.1;
-        is = record { version = pair.trace.version; config = pair.trace.config; scripts = pair.trace.scripts; items = pair.trace.schedule; body = pair.body; entries = pair.history.list; pair = read.2; verdict = verdict; is = is; text = refl };
+        is = record { version = pair.trace.version; config = pair.trace.config; scripts = pair.trace.scripts; items = pair.trace.schedule; body = pair.body; entries = pair.history.list; pair = read.2; verdict = verdict; is = verdict_is; text = refl };
       },
     )
-    (subst (λ (l : Line). EndsWith (line_text l) Ok c.say.result output.before output.after) c.verdict_line.ensures
-    (subst (λ s. EndsWith (line_text c.verdict_line.result) Ok c.say.result (outlet (g.K.Sink.written s) (g.K.Sink.faults s) (g.K.Sink.calls s)) output.after) c.in-Ok.ensures.unused c.say.ensures))
+    (subst (λ (given_line : Line). EndsWith (line_text given_line) Ok c.say.result output.before output.after) c.verdict_line.ensures
+    (subst (λ sink. EndsWith (line_text c.verdict_line.result) Ok c.say.result (outlet (g.K.Sink.written sink) (g.K.Sink.faults sink) (g.K.Sink.calls sink)) output.after) c.in-Ok.ensures.unused c.say.ensures))
 
 pub returns : goal.returns
 returns g c = λ words asked.
@@ -49,4 +49,4 @@ returns g c = λ words asked.
       after = outlet (g.K.Sink.written c.say-in-Err-check.new.sink) (g.K.Sink.faults c.say-in-Err-check.new.sink) (g.K.Sink.calls c.say-in-Err-check.new.sink);
     } in
     said words input output (line_text line.NoMemory) NoMemory c.say-in-Err-check.result ((Check, asked), refl)
-    (subst (λ s. EndsWith (line_text line.NoMemory) NoMemory c.say-in-Err-check.result (outlet (g.K.Sink.written s) (g.K.Sink.faults s) (g.K.Sink.calls s)) output.after) c.in-Ok.ensures.unused c.say-in-Err-check.ensures)
+    (subst (λ sink. EndsWith (line_text line.NoMemory) NoMemory c.say-in-Err-check.result (outlet (g.K.Sink.written sink) (g.K.Sink.faults sink) (g.K.Sink.calls sink)) output.after) c.in-Ok.ensures.unused c.say-in-Err-check.ensures)

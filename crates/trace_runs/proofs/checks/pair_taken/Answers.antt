@@ -14,7 +14,7 @@ returns-in-Err-clause-refused g c = λ words asked.
     } in
     fault_said words input output Check c.in-Err.fault c.refuse.result asked tt
     (told_by ReadPair input c.in-Err.fault
-    (λ n why e. let bad = c.in-Err.ensures.bad_line n why (cc) in record { bytes = bad.0; came = bad.1; is = bad.2 })
-    (λ n e. (c.in-Err.ensures.too_long n (cc)).1)
-    (λ e. c.in-Err.ensures.read_fault (cc)))
+    (λ line_number why same_fault. let bad = c.in-Err.ensures.bad_line line_number why (cc) in record { bytes = bad.0; came = bad.1; is = bad.2 })
+    (λ line_number same_fault. (c.in-Err.ensures.too_long line_number (cc)).1)
+    (λ same_fault. c.in-Err.ensures.read_fault (cc)))
     c.refuse.ensures

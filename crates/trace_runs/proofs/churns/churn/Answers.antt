@@ -9,8 +9,8 @@ use Rattle.trace_runs.proofs.churns.churn.Goals as goal
 
 pub returns-in-Ok : goal.returns-in-Ok
 returns-in-Ok g c = λ words input asked.
-    let told : IsChurned c.args.workload.seed c.args.workload.count (line_text (line.Churn c.in-Ok.summary)) = record { summary = c.in-Ok.summary; turns = c.in-Ok.ensures; text = refl } in
-    said words input _ (line_text (line.Churn c.in-Ok.summary)) Ok c.say.result (Churn c.args.workload, asked, told) c.say.ensures
+    let churn_told : IsChurned c.args.workload.seed c.args.workload.count (line_text (line.Churn c.in-Ok.summary)) = record { summary = c.in-Ok.summary; turns = c.in-Ok.ensures; text = refl } in
+    said words input _ (line_text (line.Churn c.in-Ok.summary)) Ok c.say.result (Churn c.args.workload, asked, churn_told) c.say.ensures
 
 pub returns-in-Err : goal.returns-in-Err
 returns-in-Err g c = λ words input asked.

@@ -23,10 +23,10 @@ give-requires g c = rw c.in-Ok-Answered.field-0-is at c.in-Ok-Answered.ensures.s
 pub returns-in-Ok-Answered : goal.returns-in-Ok-Answered
 returns-in-Ok-Answered g c = λ words asked.
     let read = c.in-Ok.ensures.ok in
-    let r = c.in-Ok.read in
+    let read_dump = c.in-Ok.read in
     let answer = c.in-Ok-Answered.answer in
-    let fits : Fits r.dump.config r.dump.graph = rw c.in-Ok-Answered.field-0-is at c.in-Ok-Answered.ensures.fits in
-    let resumed : IsResumed r.dump.config r.dump.counts r.dump.graph r.trace.scripts r.trace.schedule c.args.steps (spelled_answer answer) = rw c.in-Ok-Answered.field-0-is at c.in-Ok-Answered.ensures.answered in
+    let fits : Fits read_dump.dump.config read_dump.dump.graph = rw c.in-Ok-Answered.field-0-is at c.in-Ok-Answered.ensures.fits in
+    let resumed : IsResumed read_dump.dump.config read_dump.dump.counts read_dump.dump.graph read_dump.trace.scripts read_dump.trace.schedule c.args.steps (spelled_answer answer) = rw c.in-Ok-Answered.field-0-is at c.in-Ok-Answered.ensures.answered in
     let input : Input = record { before = g.S.Source.left c.args.source.now; after = g.S.Source.left c.dump_taken.new.source; faults_before = g.S.Source.faults c.args.source.now; faults_after = g.S.Source.faults c.dump_taken.new.source } in
     let output : Output = record {
       before = outlet (g.K.Sink.written c.args.sink.now) (g.K.Sink.faults c.args.sink.now) (g.K.Sink.calls c.args.sink.now);
@@ -36,16 +36,16 @@ returns-in-Ok-Answered g c = λ words asked.
     said words input output text Ok c.give.result (
       Resume c.args.steps,
       asked,
-      record { bytes = read.0; came = read.1; is = answered_from read.0 r.dump.config r.dump.counts r.dump.graph r.trace.scripts r.trace.schedule read.2 c.args.steps (spelled_answer answer) fits resumed },
+      record { bytes = read.0; came = read.1; is = answered_from read.0 read_dump.dump.config read_dump.dump.counts read_dump.dump.graph read_dump.trace.scripts read_dump.trace.schedule read.2 c.args.steps (spelled_answer answer) fits resumed },
     )
-    (subst (λ s. EndsWith text Ok c.give.result (outlet (g.K.Sink.written s) (g.K.Sink.faults s) (g.K.Sink.calls s)) output.after) c.in-Ok.ensures.unused c.give.ensures)
+    (subst (λ sink. EndsWith text Ok c.give.result (outlet (g.K.Sink.written sink) (g.K.Sink.faults sink) (g.K.Sink.calls sink)) output.after) c.in-Ok.ensures.unused c.give.ensures)
 
 pub returns-in-Ok-Unfinished : goal.returns-in-Ok-Unfinished
 returns-in-Ok-Unfinished g c = λ words asked.
     let read = c.in-Ok.ensures.ok in
-    let r = c.in-Ok.read in
-    let fits = c.in-Ok-Unfinished.ensures.unfinished_fits (let e = c.in-Ok-Unfinished.field-0-is in cc) in
-    let cut = c.in-Ok-Unfinished.ensures.unfinished (let e = c.in-Ok-Unfinished.field-0-is in cc) in
+    let read_dump = c.in-Ok.read in
+    let fits = c.in-Ok-Unfinished.ensures.unfinished_fits (let error_is = c.in-Ok-Unfinished.field-0-is in cc) in
+    let cut = c.in-Ok-Unfinished.ensures.unfinished (let error_is = c.in-Ok-Unfinished.field-0-is in cc) in
     let input : Input = record { before = g.S.Source.left c.args.source.now; after = g.S.Source.left c.dump_taken.new.source; faults_before = g.S.Source.faults c.args.source.now; faults_after = g.S.Source.faults c.dump_taken.new.source } in
     let output : Output = record {
       before = outlet (g.K.Sink.written c.args.sink.now) (g.K.Sink.faults c.args.sink.now) (g.K.Sink.calls c.args.sink.now);
@@ -57,17 +57,17 @@ returns-in-Ok-Unfinished g c = λ words asked.
       record {
         steps = c.args.steps;
         limit = refl;
-        cut = record { bytes = read.0; came = read.1; is = cut_from read.0 r.dump.config r.dump.counts r.dump.graph r.trace.scripts r.trace.schedule read.2 c.args.steps fits cut };
+        cut = record { bytes = read.0; came = read.1; is = cut_from read.0 read_dump.dump.config read_dump.dump.counts read_dump.dump.graph read_dump.trace.scripts read_dump.trace.schedule read.2 c.args.steps fits cut };
         text = refl;
       },
     )
-    (subst (λ s. EndsWith (line_text (line.Unfinished c.args.steps)) Unfinished c.say.result (outlet (g.K.Sink.written s) (g.K.Sink.faults s) (g.K.Sink.calls s)) output.after) c.in-Ok.ensures.unused c.say.ensures)
+    (subst (λ sink. EndsWith (line_text (line.Unfinished c.args.steps)) Unfinished c.say.result (outlet (g.K.Sink.written sink) (g.K.Sink.faults sink) (g.K.Sink.calls sink)) output.after) c.in-Ok.ensures.unused c.say.ensures)
 
 pub returns-in-Ok-TooSmall : goal.returns-in-Ok-TooSmall
 returns-in-Ok-TooSmall g c = λ words asked.
     let read = c.in-Ok.ensures.ok in
-    let r = c.in-Ok.read in
-    let large = c.in-Ok-TooSmall.ensures.too_small (let e = c.in-Ok-TooSmall.field-0-is in cc) in
+    let read_dump = c.in-Ok.read in
+    let large = c.in-Ok-TooSmall.ensures.too_small (let error_is = c.in-Ok-TooSmall.field-0-is in cc) in
     let input : Input = record { before = g.S.Source.left c.args.source.now; after = g.S.Source.left c.dump_taken.new.source; faults_before = g.S.Source.faults c.args.source.now; faults_after = g.S.Source.faults c.dump_taken.new.source } in
     let output : Output = record {
       before = outlet (g.K.Sink.written c.args.sink.now) (g.K.Sink.faults c.args.sink.now) (g.K.Sink.calls c.args.sink.now);
@@ -76,9 +76,9 @@ returns-in-Ok-TooSmall g c = λ words asked.
     said words input output (line_text line.HeapTooSmall) BadTrace c.say-in-Ok-TooSmall.result (
       Resume c.args.steps,
       asked,
-      (tt, inr (inr (record { read = record { bytes = read.0; came = read.1; is = too_large read.0 r.dump.config r.dump.counts r.dump.graph r.trace.scripts r.trace.schedule read.2 large }; text = refl }))),
+      (tt, inr (inr (record { read = record { bytes = read.0; came = read.1; is = too_large read.0 read_dump.dump.config read_dump.dump.counts read_dump.dump.graph read_dump.trace.scripts read_dump.trace.schedule read.2 large }; text = refl }))),
     )
-    (subst (λ s. EndsWith (line_text line.HeapTooSmall) BadTrace c.say-in-Ok-TooSmall.result (outlet (g.K.Sink.written s) (g.K.Sink.faults s) (g.K.Sink.calls s)) output.after) c.in-Ok.ensures.unused c.say-in-Ok-TooSmall.ensures)
+    (subst (λ sink. EndsWith (line_text line.HeapTooSmall) BadTrace c.say-in-Ok-TooSmall.result (outlet (g.K.Sink.written sink) (g.K.Sink.faults sink) (g.K.Sink.calls sink)) output.after) c.in-Ok.ensures.unused c.say-in-Ok-TooSmall.ensures)
 
 pub returns-in-Err-answer_from : goal.returns-in-Err-answer_from
 returns-in-Err-answer_from g c = λ words asked.
@@ -88,7 +88,7 @@ returns-in-Err-answer_from g c = λ words asked.
       after = outlet (g.K.Sink.written c.say-in-Err-answer_from.new.sink) (g.K.Sink.faults c.say-in-Err-answer_from.new.sink) (g.K.Sink.calls c.say-in-Err-answer_from.new.sink);
     } in
     said words input output (line_text line.NoMemory) NoMemory c.say-in-Err-answer_from.result ((Resume c.args.steps, asked), refl)
-    (subst (λ s. EndsWith (line_text line.NoMemory) NoMemory c.say-in-Err-answer_from.result (outlet (g.K.Sink.written s) (g.K.Sink.faults s) (g.K.Sink.calls s)) output.after) c.in-Ok.ensures.unused c.say-in-Err-answer_from.ensures)
+    (subst (λ sink. EndsWith (line_text line.NoMemory) NoMemory c.say-in-Err-answer_from.result (outlet (g.K.Sink.written sink) (g.K.Sink.faults sink) (g.K.Sink.calls sink)) output.after) c.in-Ok.ensures.unused c.say-in-Err-answer_from.ensures)
 
 pub returns-in-Err : goal.returns-in-Err
 returns-in-Err g c = λ words asked. c.in-Err.ensures.refused words c.args.steps asked

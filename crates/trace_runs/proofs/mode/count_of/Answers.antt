@@ -11,7 +11,7 @@ pub returns-in-len2 : goal.returns-in-len2
 returns-in-len2 c =
     queue_named (map string_bytes c.args.words.now) (string_bytes c.count-item.result) c.number_in.result
     (word_and_one string_bytes c.args.words.now c.word-item.result c.count-item.result (codes "queue") c.in-len2.len_at_least c.in-len2.len_below
-    c.word-item.is c.count-item.is (c.if-eq.ensures ∙ ap (λ (t : List ℕ). pointwise eqb t (codes "queue")) c.as_str.ensures.value))
+    c.word-item.is c.count-item.is (c.if-eq.ensures ∙ ap (λ (text : List ℕ). pointwise eqb text (codes "queue")) c.as_str.ensures.value))
     (rw (← c.as_bytes.ensures.value) c.number_in.ensures)
 
 pub bounds-words-0 : goal.bounds-words-0
@@ -26,7 +26,7 @@ returns-in_default c = λ asked. absurd (omega (arith, c.in_default.len_below, l
 pub returns-in_default-2 : goal.returns-in_default-2
 returns-in_default-2 c = λ asked.
     false≢true (sym c.if-eq.false ∙ (first_word string_bytes c.args.words.now c.word-item.result (codes "queue") c.eq.result (omega (arith, c.in-len2.len_at_least)) c.word-item.is
-    (c.eq.ensures ∙ ap (λ (t : List ℕ). pointwise eqb t (codes "queue")) c.as_str.ensures.value)).1 (queue_begins _ asked.0 asked.1))
+    (c.eq.ensures ∙ ap (λ (text : List ℕ). pointwise eqb text (codes "queue")) c.as_str.ensures.value)).1 (queue_begins _ asked.0 asked.1))
 
 pub returns-in_default-3 : goal.returns-in_default-3
 returns-in_default-3 c = λ asked. absurd (omega (arith, c.in_default.len_at_least, length-map c.args.words.now string_bytes, ap length asked.1.0))

@@ -9,4 +9,4 @@ pub returns-in-len1 : goal.returns-in-len1
 returns-in-len1 c =
     decided _ _
     (one_word string_bytes c.args.words.now c.word-item.result (codes "check") c.eq.result c.in-len1.len_at_least c.in-len1.len_below c.word-item.is
-    (c.eq.ensures ∙ ap (λ (t : List ℕ). pointwise eqb t (codes "check")) c.as_str.ensures.value))
+    (c.eq.ensures ∙ ap (λ (text : List ℕ). pointwise eqb text (codes "check")) c.as_str.ensures.value))

@@ -11,7 +11,7 @@ pub returns-in_ok-count-in-len3 : goal.returns-in_ok-count-in-len3
 returns-in_ok-count-in-len3 c =
     is_churn (map string_bytes c.args.words.now) (string_bytes c.seed-item.result) (string_bytes c.count-item.result) c.in_ok-seed-in-len3.seed c.in_ok-count-in-len3.count
     (word_and_two string_bytes c.args.words.now c.word-item.result c.seed-item.result c.count-item.result (codes "churn") c.in-len3.len_at_least c.in-len3.len_below
-    c.word-item.is c.seed-item.is c.count-item.is (c.if-eq.ensures ∙ ap (λ (t : List ℕ). pointwise eqb t (codes "churn")) c.as_str.ensures.value))
+    c.word-item.is c.seed-item.is c.count-item.is (c.if-eq.ensures ∙ ap (λ (text : List ℕ). pointwise eqb text (codes "churn")) c.as_str.ensures.value))
     (rw (← c.as_str-in-len3.ensures.value) c.in_ok-seed-in-len3.ensures)
     (rw (← c.as_bytes.ensures.value) c.in_ok-count-in-len3.ensures)
 
@@ -30,7 +30,7 @@ returns-in_default c = λ asked. absurd (omega (arith, c.in_default.len_below, l
 pub returns-in_default-2 : goal.returns-in_default-2
 returns-in_default-2 c = λ asked.
     false≢true (sym c.if-eq.false ∙ (first_word string_bytes c.args.words.now c.word-item.result (codes "churn") c.eq.result (omega (arith, c.in-len3.len_at_least)) c.word-item.is
-    (c.eq.ensures ∙ ap (λ (t : List ℕ). pointwise eqb t (codes "churn")) c.as_str.ensures.value)).1 (churn_begins _ asked.0 asked.1.0 asked.1.1))
+    (c.eq.ensures ∙ ap (λ (text : List ℕ). pointwise eqb text (codes "churn")) c.as_str.ensures.value)).1 (churn_begins _ asked.0 asked.1.0 asked.1.1))
 
 pub returns-in_default-3 : goal.returns-in_default-3
 returns-in_default-3 c = λ asked. absurd (omega (arith, c.in_default.len_at_least, length-map c.args.words.now string_bytes, ap length asked.1.1.0))

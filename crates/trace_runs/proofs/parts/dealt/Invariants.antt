@@ -10,10 +10,10 @@ use Rattle.trace_runs.proofs.parts.dealt.Given as goal
 
 -- the bundles that are left are the last ones, and so is the work
 abbrev pub invariant-loop-bundle : goal.invariant-loop-bundle
-invariant-loop-bundle l = record {
-  workers_are : l.workers ≡ length l.fn.bundles.items;
-  count : length l.parts.items + into_iter_len l.bundle-iterator ≡ l.workers;
-  left : (index : ℕ) (bundle : Bundle) → slice_get (into_iter_items l.bundle-iterator) index ≡ Some bundle → slice_get l.fn.bundles.items (length l.parts.items + index) ≡ Some bundle;
-  work_left : (scripts : Scripts) → CanBeDealt l.heap scripts l.fn.work l.fn.bundles.items → l.work ≡ picked (λ t. not (nat_lt (t % l.workers) (length l.parts.items))) (opened scripts);
-  ready : (scripts : Scripts) → CanBeDealt l.heap scripts l.fn.work l.fn.bundles.items → AreReady l.heap (by_scripts scripts) l.workers l.parts.items;
+invariant-loop-bundle loop = record {
+  workers_are : loop.workers ≡ length loop.fn.bundles.items;
+  count : length loop.parts.items + into_iter_len loop.bundle-iterator ≡ loop.workers;
+  left : (index : ℕ) (bundle : Bundle) → slice_get (into_iter_items loop.bundle-iterator) index ≡ Some bundle → slice_get loop.fn.bundles.items (length loop.parts.items + index) ≡ Some bundle;
+  work_left : (scripts : Scripts) → CanBeDealt loop.heap scripts loop.fn.work loop.fn.bundles.items → loop.work ≡ picked (λ number. not (nat_lt (number % loop.workers) (length loop.parts.items))) (opened scripts);
+  ready : (scripts : Scripts) → CanBeDealt loop.heap scripts loop.fn.work loop.fn.bundles.items → AreReady loop.heap (by_scripts scripts) loop.workers loop.parts.items;
 }

@@ -10,8 +10,8 @@ use Rattle.trace_runs.proofs.queues.crewed.Given as goal
 
 -- the bundles that are left are the last ones
 abbrev pub invariant-loop-bundle : goal.invariant-loop-bundle
-invariant-loop-bundle l = record {
-  count : length l.parts.items + into_iter_len l.bundle-iterator ≡ length l.fn.bundles.items;
-  left : (index : ℕ) (bundle : Bundle) → slice_get (into_iter_items l.bundle-iterator) index ≡ Some bundle → slice_get l.fn.bundles.items (length l.parts.items + index) ≡ Some bundle;
-  ready : (heap : Heap) → CanBeCrewed heap l.fn.bundles.items → AreReady heap (users (queue_users l.fn.count)) (length l.fn.bundles.items) l.parts.items;
+invariant-loop-bundle loop = record {
+  count : length loop.parts.items + into_iter_len loop.bundle-iterator ≡ length loop.fn.bundles.items;
+  left : (index : ℕ) (bundle : Bundle) → slice_get (into_iter_items loop.bundle-iterator) index ≡ Some bundle → slice_get loop.fn.bundles.items (length loop.parts.items + index) ≡ Some bundle;
+  ready : (heap : Heap) → CanBeCrewed heap loop.fn.bundles.items → AreReady heap (users (queue_users loop.fn.count)) (length loop.fn.bundles.items) loop.parts.items;
 }

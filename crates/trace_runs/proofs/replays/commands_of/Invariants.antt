@@ -3,4 +3,4 @@ use Rattle.std.specs.Prelude.{sum_by}
 use Rattle.trace_runs.proofs.replays.commands_of.Given as goal
 
 abbrev pub invariant-loop-script : goal.invariant-loop-script
-invariant-loop-script l = l.commands + sum_by length (drop l.script-index l.script-items) ≡ sum_by length l.script-items
+invariant-loop-script loop = loop.commands + sum_by length (drop loop.script-index loop.script-items) ≡ sum_by length loop.script-items

@@ -10,8 +10,8 @@ use Rattle.trace_runs.proofs.replays.run.Goals as goal
 pub of-requires : goal.of-requires
 of-requires c =
     let count = count_scripts c.requires.0 c.args.trace.version c.args.trace.config c.args.trace.scripts c.args.trace.schedule c.requires.1 in
-    let same = ap (λ (scripts : List (List Command)). length scripts) c.into_vec.ensures in
-    omega (arith, count, same)
+    let same_length = ap (λ (scripts : List (List Command)). length scripts) c.into_vec.ensures in
+    omega (arith, count, same_length)
 
 pub run-requires-clause-run : goal.run-requires-clause-run
 run-requires-clause-run c =

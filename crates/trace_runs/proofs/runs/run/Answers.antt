@@ -18,7 +18,7 @@ returns-in-Err-run_answer g c = λ words asked.
       after = outlet (g.K.Sink.written c.say.new.sink) (g.K.Sink.faults c.say.new.sink) (g.K.Sink.calls c.say.new.sink);
     } in
     said words input output (line_text line.NoMemory) NoMemory c.say.result ((Run c.args.workers, asked), refl)
-    (subst (λ s. EndsWith (line_text line.NoMemory) NoMemory c.say.result (outlet (g.K.Sink.written s) (g.K.Sink.faults s) (g.K.Sink.calls s)) output.after) c.in-Ok.ensures.unused c.say.ensures)
+    (subst (λ sink. EndsWith (line_text line.NoMemory) NoMemory c.say.result (outlet (g.K.Sink.written sink) (g.K.Sink.faults sink) (g.K.Sink.calls sink)) output.after) c.in-Ok.ensures.unused c.say.ensures)
 
 pub returns-in-Ok-run_answer : goal.returns-in-Ok-run_answer
 returns-in-Ok-run_answer g c = λ words asked.
@@ -29,7 +29,7 @@ returns-in-Ok-run_answer g c = λ words asked.
       after = outlet (g.K.Sink.written c.give.new.sink) (g.K.Sink.faults c.give.new.sink) (g.K.Sink.calls c.give.new.sink);
     } in
     said words input output (spelled_answer c.in-Ok-run_answer.answer) Ok c.give.result (Run c.args.workers, asked, record { bytes = read.0; came = read.1; is = c.in-Ok-run_answer.ensures.ok read.0 read.2 })
-    (subst (λ s. EndsWith (spelled_answer c.in-Ok-run_answer.answer) Ok c.give.result (outlet (g.K.Sink.written s) (g.K.Sink.faults s) (g.K.Sink.calls s)) output.after) c.in-Ok.ensures.unused c.give.ensures)
+    (subst (λ sink. EndsWith (spelled_answer c.in-Ok-run_answer.answer) Ok c.give.result (outlet (g.K.Sink.written sink) (g.K.Sink.faults sink) (g.K.Sink.calls sink)) output.after) c.in-Ok.ensures.unused c.give.ensures)
 
 pub returns-in-Err : goal.returns-in-Err
 returns-in-Err g c = λ words asked. c.in-Err.ensures.refused words (Run c.args.workers, asked, refl)

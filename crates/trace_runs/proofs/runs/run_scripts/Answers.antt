@@ -22,10 +22,10 @@ run_parts-requires-clause-ready g c κs within =
     let heap = c.in_ok-heap.heap in
     let bundles = c.in_ok-heap.bundles.items in
     let parts = c.in_ok-parts.parts.items in
-    let can = can_be_dealt heap c.args.config scripts c.in-Ok.work bundles c.min-bundles.result c.in_ok-heap.ensures.config c.in_ok-heap.ensures.count c.in_ok-heap.ensures.bundles c.in-Ok.ensures c.requires.count c.requires.runnable in
-    let ready : AreReady heap (by_scripts scripts) (length parts) parts = subst (λ n. AreReady heap (by_scripts scripts) n parts) (sym c.in_ok-parts.ensures.count) (c.in_ok-parts.ensures.ready scripts can) in
-    let some : (assigned : Assigned) × AreReady heap assigned (length parts) parts = (by_scripts scripts, ready) in
-    some
+    let can_deal = can_be_dealt heap c.args.config scripts c.in-Ok.work bundles c.min-bundles.result c.in_ok-heap.ensures.config c.in_ok-heap.ensures.count c.in_ok-heap.ensures.bundles c.in-Ok.ensures c.requires.count c.requires.runnable in
+    let ready : AreReady heap (by_scripts scripts) (length parts) parts = subst (λ part_count. AreReady heap (by_scripts scripts) part_count parts) (sym c.in_ok-parts.ensures.count) (c.in_ok-parts.ensures.ready scripts can_deal) in
+    let some_assigned : (assigned : Assigned) × AreReady heap assigned (length parts) parts = (by_scripts scripts, ready) in
+    some_assigned
 
 pub close-closed-requires-clause-heap : goal.close-closed-requires-clause-heap
 close-closed-requires-clause-heap g c =
@@ -33,13 +33,13 @@ close-closed-requires-clause-heap g c =
     let heap = c.in_ok-heap.heap in
     let bundles = c.in_ok-heap.bundles.items in
     let parts = c.in_ok-parts.parts.items in
-    let can = can_be_dealt heap c.args.config scripts c.in-Ok.work bundles c.min-bundles.result c.in_ok-heap.ensures.config c.in_ok-heap.ensures.count c.in_ok-heap.ensures.bundles c.in-Ok.ensures c.requires.count c.requires.runnable in
-    let ready : AreReady heap (by_scripts scripts) (length parts) parts = subst (λ n. AreReady heap (by_scripts scripts) n parts) (sym c.in_ok-parts.ensures.count) (c.in_ok-parts.ensures.ready scripts can) in
-    let all : Part = c.in_ok-bundle.field-0 in
-    let done : IsDone heap (by_scripts scripts) (length parts) 0 (length parts) all = c.in_ok-bundle.ensures (by_scripts scripts) ready in
-    let least : 1 ≤ c.min-bundles.result = search rules in
-    let some : 0 < length parts = omega (arith, c.in_ok-parts.ensures.count, c.in_ok-heap.ensures.count, least) in
-    done.has.of
+    let can_deal = can_be_dealt heap c.args.config scripts c.in-Ok.work bundles c.min-bundles.result c.in_ok-heap.ensures.config c.in_ok-heap.ensures.count c.in_ok-heap.ensures.bundles c.in-Ok.ensures c.requires.count c.requires.runnable in
+    let ready : AreReady heap (by_scripts scripts) (length parts) parts = subst (λ part_count. AreReady heap (by_scripts scripts) part_count parts) (sym c.in_ok-parts.ensures.count) (c.in_ok-parts.ensures.ready scripts can_deal) in
+    let whole_part : Part = c.in_ok-bundle.field-0 in
+    let is_done : IsDone heap (by_scripts scripts) (length parts) 0 (length parts) whole_part = c.in_ok-bundle.ensures (by_scripts scripts) ready in
+    let some_bundle : 1 ≤ c.min-bundles.result = search rules in
+    let some_parts : 0 < length parts = omega (arith, c.in_ok-parts.ensures.count, c.in_ok-heap.ensures.count, some_bundle) in
+    is_done.has.of
 
 pub close-closed-requires-clause-all : goal.close-closed-requires-clause-all
 close-closed-requires-clause-all g c =
@@ -47,13 +47,13 @@ close-closed-requires-clause-all g c =
     let heap = c.in_ok-heap.heap in
     let bundles = c.in_ok-heap.bundles.items in
     let parts = c.in_ok-parts.parts.items in
-    let can = can_be_dealt heap c.args.config scripts c.in-Ok.work bundles c.min-bundles.result c.in_ok-heap.ensures.config c.in_ok-heap.ensures.count c.in_ok-heap.ensures.bundles c.in-Ok.ensures c.requires.count c.requires.runnable in
-    let ready : AreReady heap (by_scripts scripts) (length parts) parts = subst (λ n. AreReady heap (by_scripts scripts) n parts) (sym c.in_ok-parts.ensures.count) (c.in_ok-parts.ensures.ready scripts can) in
-    let all : Part = c.in_ok-bundle.field-0 in
-    let done : IsDone heap (by_scripts scripts) (length parts) 0 (length parts) all = c.in_ok-bundle.ensures (by_scripts scripts) ready in
-    let least : 1 ≤ c.min-bundles.result = search rules in
-    let some : 0 < length parts = omega (arith, c.in_ok-parts.ensures.count, c.in_ok-heap.ensures.count, least) in
-    has_all heap (by_scripts scripts) (length parts) all some done
+    let can_deal = can_be_dealt heap c.args.config scripts c.in-Ok.work bundles c.min-bundles.result c.in_ok-heap.ensures.config c.in_ok-heap.ensures.count c.in_ok-heap.ensures.bundles c.in-Ok.ensures c.requires.count c.requires.runnable in
+    let ready : AreReady heap (by_scripts scripts) (length parts) parts = subst (λ part_count. AreReady heap (by_scripts scripts) part_count parts) (sym c.in_ok-parts.ensures.count) (c.in_ok-parts.ensures.ready scripts can_deal) in
+    let whole_part : Part = c.in_ok-bundle.field-0 in
+    let is_done : IsDone heap (by_scripts scripts) (length parts) 0 (length parts) whole_part = c.in_ok-bundle.ensures (by_scripts scripts) ready in
+    let some_bundle : 1 ≤ c.min-bundles.result = search rules in
+    let some_parts : 0 < length parts = omega (arith, c.in_ok-parts.ensures.count, c.in_ok-heap.ensures.count, some_bundle) in
+    has_all heap (by_scripts scripts) (length parts) whole_part some_parts is_done
 
 pub close-closed-requires-clause-control : goal.close-closed-requires-clause-control
 close-closed-requires-clause-control g c =
@@ -61,13 +61,13 @@ close-closed-requires-clause-control g c =
     let heap = c.in_ok-heap.heap in
     let bundles = c.in_ok-heap.bundles.items in
     let parts = c.in_ok-parts.parts.items in
-    let can = can_be_dealt heap c.args.config scripts c.in-Ok.work bundles c.min-bundles.result c.in_ok-heap.ensures.config c.in_ok-heap.ensures.count c.in_ok-heap.ensures.bundles c.in-Ok.ensures c.requires.count c.requires.runnable in
-    let ready : AreReady heap (by_scripts scripts) (length parts) parts = subst (λ n. AreReady heap (by_scripts scripts) n parts) (sym c.in_ok-parts.ensures.count) (c.in_ok-parts.ensures.ready scripts can) in
-    let all : Part = c.in_ok-bundle.field-0 in
-    let done : IsDone heap (by_scripts scripts) (length parts) 0 (length parts) all = c.in_ok-bundle.ensures (by_scripts scripts) ready in
-    let least : 1 ≤ c.min-bundles.result = search rules in
-    let some : 0 < length parts = omega (arith, c.in_ok-parts.ensures.count, c.in_ok-heap.ensures.count, least) in
-    control_idle heap (by_scripts scripts) (length parts) all some done
+    let can_deal = can_be_dealt heap c.args.config scripts c.in-Ok.work bundles c.min-bundles.result c.in_ok-heap.ensures.config c.in_ok-heap.ensures.count c.in_ok-heap.ensures.bundles c.in-Ok.ensures c.requires.count c.requires.runnable in
+    let ready : AreReady heap (by_scripts scripts) (length parts) parts = subst (λ part_count. AreReady heap (by_scripts scripts) part_count parts) (sym c.in_ok-parts.ensures.count) (c.in_ok-parts.ensures.ready scripts can_deal) in
+    let whole_part : Part = c.in_ok-bundle.field-0 in
+    let is_done : IsDone heap (by_scripts scripts) (length parts) 0 (length parts) whole_part = c.in_ok-bundle.ensures (by_scripts scripts) ready in
+    let some_bundle : 1 ≤ c.min-bundles.result = search rules in
+    let some_parts : 0 < length parts = omega (arith, c.in_ok-parts.ensures.count, c.in_ok-heap.ensures.count, some_bundle) in
+    control_idle heap (by_scripts scripts) (length parts) whole_part some_parts is_done
 
 pub unreachable-requires : goal.unreachable-requires
 unreachable-requires g c =
@@ -75,13 +75,13 @@ unreachable-requires g c =
     let heap = c.in_ok-heap.heap in
     let bundles = c.in_ok-heap.bundles.items in
     let parts = c.in_ok-parts.parts.items in
-    let can = can_be_dealt heap c.args.config scripts c.in-Ok.work bundles c.min-bundles.result c.in_ok-heap.ensures.config c.in_ok-heap.ensures.count c.in_ok-heap.ensures.bundles c.in-Ok.ensures c.requires.count c.requires.runnable in
-    let ready : AreReady heap (by_scripts scripts) (length parts) parts = subst (λ n. AreReady heap (by_scripts scripts) n parts) (sym c.in_ok-parts.ensures.count) (c.in_ok-parts.ensures.ready scripts can) in
-    let all : Part = c.in_ok-bundle.field-0 in
-    let done : IsDone heap (by_scripts scripts) (length parts) 0 (length parts) all = c.in_ok-bundle.ensures (by_scripts scripts) ready in
-    let least : 1 ≤ c.min-bundles.result = search rules in
-    let some : 0 < length parts = omega (arith, c.in_ok-parts.ensures.count, c.in_ok-heap.ensures.count, least) in
-    subst (λ l. LoadIsDone (config_of heap) (by_scripts scripts) (length parts) 0 (length parts) (view_of all.bundle) l) c.in-Driven.is done.load
+    let can_deal = can_be_dealt heap c.args.config scripts c.in-Ok.work bundles c.min-bundles.result c.in_ok-heap.ensures.config c.in_ok-heap.ensures.count c.in_ok-heap.ensures.bundles c.in-Ok.ensures c.requires.count c.requires.runnable in
+    let ready : AreReady heap (by_scripts scripts) (length parts) parts = subst (λ part_count. AreReady heap (by_scripts scripts) part_count parts) (sym c.in_ok-parts.ensures.count) (c.in_ok-parts.ensures.ready scripts can_deal) in
+    let whole_part : Part = c.in_ok-bundle.field-0 in
+    let is_done : IsDone heap (by_scripts scripts) (length parts) 0 (length parts) whole_part = c.in_ok-bundle.ensures (by_scripts scripts) ready in
+    let some_bundle : 1 ≤ c.min-bundles.result = search rules in
+    let some_parts : 0 < length parts = omega (arith, c.in_ok-parts.ensures.count, c.in_ok-heap.ensures.count, some_bundle) in
+    subst (λ load. LoadIsDone (config_of heap) (by_scripts scripts) (length parts) 0 (length parts) (view_of whole_part.bundle) load) c.in-Driven.is is_done.load
 
 pub returns : goal.returns
 returns g c =
@@ -89,15 +89,15 @@ returns g c =
     let heap = c.in_ok-heap.heap in
     let bundles = c.in_ok-heap.bundles.items in
     let parts = c.in_ok-parts.parts.items in
-    let can = can_be_dealt heap c.args.config scripts c.in-Ok.work bundles c.min-bundles.result c.in_ok-heap.ensures.config c.in_ok-heap.ensures.count c.in_ok-heap.ensures.bundles c.in-Ok.ensures c.requires.count c.requires.runnable in
-    let ready : AreReady heap (by_scripts scripts) (length parts) parts = subst (λ n. AreReady heap (by_scripts scripts) n parts) (sym c.in_ok-parts.ensures.count) (c.in_ok-parts.ensures.ready scripts can) in
-    let all : Part = c.in_ok-bundle.field-0 in
-    let done : IsDone heap (by_scripts scripts) (length parts) 0 (length parts) all = c.in_ok-bundle.ensures (by_scripts scripts) ready in
-    let least : 1 ≤ c.min-bundles.result = search rules in
-    let some : 0 < length parts = omega (arith, c.in_ok-parts.ensures.count, c.in_ok-heap.ensures.count, least) in
+    let can_deal = can_be_dealt heap c.args.config scripts c.in-Ok.work bundles c.min-bundles.result c.in_ok-heap.ensures.config c.in_ok-heap.ensures.count c.in_ok-heap.ensures.bundles c.in-Ok.ensures c.requires.count c.requires.runnable in
+    let ready : AreReady heap (by_scripts scripts) (length parts) parts = subst (λ part_count. AreReady heap (by_scripts scripts) part_count parts) (sym c.in_ok-parts.ensures.count) (c.in_ok-parts.ensures.ready scripts can_deal) in
+    let whole_part : Part = c.in_ok-bundle.field-0 in
+    let is_done : IsDone heap (by_scripts scripts) (length parts) 0 (length parts) whole_part = c.in_ok-bundle.ensures (by_scripts scripts) ready in
+    let some_bundle : 1 ≤ c.min-bundles.result = search rules in
+    let some_parts : 0 < length parts = omega (arith, c.in_ok-parts.ensures.count, c.in_ok-heap.ensures.count, some_bundle) in
     let work : Jobs = c.in-Scripted.work in
-    let did : LoadIsDone (config_of heap) (by_scripts scripts) (length parts) 0 (length parts) (view_of all.bundle) (Scripted work) =
-    subst (λ l. LoadIsDone (config_of heap) (by_scripts scripts) (length parts) 0 (length parts) (view_of all.bundle) l) c.in-Scripted.is done.load in
+    let did : LoadIsDone (config_of heap) (by_scripts scripts) (length parts) 0 (length parts) (view_of whole_part.bundle) (Scripted work) =
+    subst (λ load. LoadIsDone (config_of heap) (by_scripts scripts) (length parts) 0 (length parts) (view_of whole_part.bundle) load) c.in-Scripted.is is_done.load in
     subst (λ (config : Config). HasCome config scripts work c.close-closed.result) c.in_ok-heap.ensures.config
-    (come heap (by_scripts scripts) (length parts) all some done c.close-closed.result c.close-closed.ensures.machines scripts work did c.close-closed.ensures.config
+    (come heap (by_scripts scripts) (length parts) whole_part some_parts is_done c.close-closed.result c.close-closed.ensures.machines scripts work did c.close-closed.ensures.config
     (reached_from_opening heap c.args.config (stage_of c.close-closed.result) c.in_ok-heap.ensures.config c.in_ok-heap.ensures.opening c.close-closed.ensures.reached))

@@ -2,4 +2,4 @@ use Rattle.std.proofs.Common.{◌≡◌, ◌≤◌, length}
 use Rattle.trace_runs.proofs.threads.flags.Given as goal
 
 abbrev pub invariant-loop-made : goal.invariant-loop-made
-invariant-loop-made l = (length l.flags.items ≡ l.made) × (l.made ≤ l.count)
+invariant-loop-made loop = (length loop.flags.items ≡ loop.made) × (loop.made ≤ loop.count)

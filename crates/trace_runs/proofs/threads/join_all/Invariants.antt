@@ -5,12 +5,12 @@ use Rattle.trace_runs.proofs.threads.join_all.Given as goal
 
 -- the threads of the last bundles are left, and the others were joined
 abbrev pub invariant-loop-thread : goal.invariant-loop-thread
-invariant-loop-thread g l = record {
-  fewer : length l.threads.items ≤ length l.fn.threads.items;
-  left : (assigned : Assigned) (workers : ℕ) → AreThreads l.heap assigned workers l.fn.threads.items → AreThreads l.heap assigned workers l.threads.items;
-  done : (assigned : Assigned) (first : ℕ) → IsDone l.heap assigned (first + length l.fn.threads.items) 0 first l.fn.own → AreThreads l.heap assigned (first + length l.fn.threads.items) l.fn.threads.items
-      → IsDone l.heap assigned (first + length l.fn.threads.items) 0 (first + length l.fn.threads.items - length l.threads.items) l.own;
+invariant-loop-thread g loop = record {
+  fewer : length loop.threads.items ≤ length loop.fn.threads.items;
+  left : (assigned : Assigned) (workers : ℕ) → AreThreads loop.heap assigned workers loop.fn.threads.items → AreThreads loop.heap assigned workers loop.threads.items;
+  done : (assigned : Assigned) (first : ℕ) → IsDone loop.heap assigned (first + length loop.fn.threads.items) 0 first loop.fn.own → AreThreads loop.heap assigned (first + length loop.fn.threads.items) loop.fn.threads.items
+      → IsDone loop.heap assigned (first + length loop.fn.threads.items) 0 (first + length loop.fn.threads.items - length loop.threads.items) loop.own;
 }
 
 abbrev pub decreases-loop-thread : goal.decreases-loop-thread
-decreases-loop-thread g l = vec_len l.threads
+decreases-loop-thread g loop = vec_len loop.threads

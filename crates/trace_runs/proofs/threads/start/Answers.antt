@@ -9,12 +9,12 @@ use Rattle.trace_runs.proofs.Loops.{ran_already}
 use Rattle.trace_runs.proofs.threads.start.Goals as goal
 
 pub returns-then-ran-clause-ok : goal.returns-then-ran-clause-ok
-returns-then-ran-clause-ok g c = λ assigned workers k ready.
-    let kept : IsGivenBack c.args.part c.spawn_with-part.result = search rules in
-    ran_already c.args.heap.now assigned workers k (k + 1) c.args.part c.spawn_with-part.result (omega arith) ready kept c.if-ran.true
+returns-then-ran-clause-ok g c = λ assigned workers part_number ready.
+    let kept_back : IsGivenBack c.args.part c.spawn_with-part.result = search rules in
+    ran_already c.args.heap.now assigned workers part_number (part_number + 1) c.args.part c.spawn_with-part.result (omega arith) ready kept_back c.if-ran.true
 
 pub spawn_with-started-requires-clause-keeps : goal.spawn_with-started-requires-clause-keeps
-spawn_with-started-requires-clause-keeps g c κs within = λ back kept. subst (λ (given : Part). IsGivenBack given back) (sym c.of.ensures) kept
+spawn_with-started-requires-clause-keeps g c κs within = λ given_back kept_back. subst (λ (any_part : Part). IsGivenBack any_part given_back) (sym c.of.ensures) kept_back
 
 pub spawn_with-started-requires-send-F : goal.spawn_with-started-requires-send-F
 spawn_with-started-requires-send-F g c κs within =

@@ -6,35 +6,35 @@ use Rattle.trace_runs.proofs.threads.start_all.Goals as goal
 
 pub start-requires-after_bounds : goal.start-requires-after_bounds
 start-requires-after_bounds g c κs within =
-    let r = c.requires.ready in
-    let w = length c.args.parts.now.items in
-    let ready = last_ready c.args.heap.now r.0 w c.loop-parts.parts.items c.pop.new.self.items c.in-Some.part c.in-Some.ensures.items (c.loop-parts.invariant.split r.0 r.1).here in
-    let can : PartCanRun c.args.heap.now c.in-Some.part = record { of = ready.has.of; start = ready.start } in
-    can
+    let ready_facts = c.requires.ready in
+    let part_count = length c.args.parts.now.items in
+    let ready = last_ready c.args.heap.now ready_facts.0 part_count c.loop-parts.parts.items c.pop.new.self.items c.in-Some.part c.in-Some.ensures.items (c.loop-parts.invariant.split ready_facts.0 ready_facts.1).here in
+    let can_run : PartCanRun c.args.heap.now c.in-Some.part = record { of = ready.has.of; start = ready.start } in
+    can_run
 
 pub loop-parts-preserved : goal.loop-parts-preserved
 loop-parts-preserved g c =
     let heap = c.args.heap.now in
-    let w = length c.args.parts.now.items in
-    let was = c.loop-parts.invariant in
+    let part_count = length c.args.parts.now.items in
+    let so_far = c.loop-parts.invariant in
     let old = c.loop-parts.parts.items in
     let new = c.pop.new.self.items in
     let part = c.in-Some.part in
-    let is = c.in-Some.ensures.items in
+    let items_are = c.in-Some.ensures.items in
     let threads = c.loop-parts.threads.items in
-    let more = c.push.new.self.items in
+    let more_threads = c.push.new.self.items in
     let grown = c.in-Ok-push.ensures.items in
-    let two : 1 < length old = search rules in
-    let one : length old ≡ length new + 1 = ap length is ∙ length_with new part in
-    let count : length more ≡ length threads + 1 = ap length grown ∙ length_with threads c.in-Ok.thread in
+    let two_left : 1 < length old = search rules in
+    let one_less : length old ≡ length new + 1 = ap length items_are ∙ length_with new part in
+    let count : length more_threads ≡ length threads + 1 = ap length grown ∙ length_with threads c.in-Ok.thread in
     record {
-      some = omega (arith, two, one);
-      count = omega (arith, was.count, one, count);
+      some = omega (arith, two_left, one_less);
+      count = omega (arith, so_far.count, one_less, count);
       room = search rules;
       split = λ assigned ready.
-          let split = was.split assigned ready in
-          next_split heap assigned w old new part threads more c.in-Ok.thread two is grown
-          (c.in-Ok.ensures.ok assigned w (length new) (last_ready heap assigned w old new part is split.here)) split;
+          let split = so_far.split assigned ready in
+          next_split heap assigned part_count old new part threads more_threads c.in-Ok.thread two_left items_are grown
+          (c.in-Ok.ensures.ok assigned part_count (length new) (last_ready heap assigned part_count old new part items_are split.here)) split;
     }
 
 pub returns-in-Err : goal.returns-in-Err

@@ -6,12 +6,12 @@ use Rattle.trace_runs.proofs.threads.start_all.Given as goal
 
 -- the first parts are here, and threads have the others
 abbrev pub invariant-loop-parts : goal.invariant-loop-parts
-invariant-loop-parts g l = record {
-  some : 0 < length l.parts.items;
-  count : length l.parts.items + length l.threads.items ≡ length l.initial.parts.items;
-  room : length l.initial.parts.items ≤ vec_capacity l.threads;
-  split : (assigned : Assigned) → AreReady l.heap assigned (length l.initial.parts.items) l.initial.parts.items → AreSplit l.heap assigned (length l.initial.parts.items) l.parts.items l.threads.items;
+invariant-loop-parts g loop = record {
+  some : 0 < length loop.parts.items;
+  count : length loop.parts.items + length loop.threads.items ≡ length loop.initial.parts.items;
+  room : length loop.initial.parts.items ≤ vec_capacity loop.threads;
+  split : (assigned : Assigned) → AreReady loop.heap assigned (length loop.initial.parts.items) loop.initial.parts.items → AreSplit loop.heap assigned (length loop.initial.parts.items) loop.parts.items loop.threads.items;
 }
 
 abbrev pub decreases-loop-parts : goal.decreases-loop-parts
-decreases-loop-parts g l = vec_len l.parts
+decreases-loop-parts g loop = vec_len loop.parts

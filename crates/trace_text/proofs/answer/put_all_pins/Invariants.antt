@@ -5,4 +5,4 @@ use Rattle.shen_base.specs.Sending.{Puts, stage}
 use Rattle.trace_text.proofs.answer.put_all_pins.Given as goal
 
 abbrev pub invariant-loop-mutator : goal.invariant-loop-mutator
-invariant-loop-mutator g l = Puts (stage (g.K.Sink.written l.initial.sink) (g.K.Sink.faults l.initial.sink) (g.K.Sink.calls l.initial.sink) l.initial.block) (stage (g.K.Sink.written l.sink) (g.K.Sink.faults l.sink) (g.K.Sink.calls l.sink) l.block) (flat_map (λ t. pins_line t (pin_of l.graph t)) (thread_numbers l.mutator))
+invariant-loop-mutator g loop = Puts (stage (g.K.Sink.written loop.initial.sink) (g.K.Sink.faults loop.initial.sink) (g.K.Sink.calls loop.initial.sink) loop.initial.block) (stage (g.K.Sink.written loop.sink) (g.K.Sink.faults loop.sink) (g.K.Sink.calls loop.sink) loop.block) (flat_map (λ thread. pins_line thread (pin_of loop.graph thread)) (thread_numbers loop.mutator))

@@ -8,8 +8,8 @@ use Rattle.trace_text.proofs.answer.put_numbers.Goals as goal
 
 pub loop-index-preserved : goal.loop-index-preserved
 loop-index-preserved g c =
-    puts_next (λ n. space ∷ decimal n) (row_of c.args.graph.now c.args.row).nums c.loop-index.index c.number_at.result 0
+    puts_next (λ number. space ∷ decimal number) (row_of c.args.graph.now c.args.row).nums c.loop-index.index c.number_at.result 0
     (omega arith) c.number_at.ensures c.loop-index.invariant (puts_both c.put.ensures.put c.put_number.ensures.put)
 
 pub returns : goal.returns
-returns g c = puts_all (λ n. space ∷ decimal n) (row_of c.args.graph.now c.args.row).nums c.loop-index.index (omega arith) c.loop-index.invariant
+returns g c = puts_all (λ number. space ∷ decimal number) (row_of c.args.graph.now c.args.row).nums c.loop-index.index (omega arith) c.loop-index.invariant

@@ -8,8 +8,8 @@ use Rattle.trace_text.proofs.answer.put_pin_words.Goals as goal
 
 pub loop-slot-preserved : goal.loop-slot-preserved
 loop-slot-preserved g c =
-    puts_next_number (λ i. space ∷ reference_word (pin_of c.args.graph.now c.args.thread i)) 0 c.loop-slot.slot c.loop-slot.slot
-    (omega arith) c.loop-slot.invariant (puts_same (ap (λ r. space ∷ reference_word r) c.pin_at.ensures) c.put_reference.ensures)
+    puts_next_number (λ slot. space ∷ reference_word (pin_of c.args.graph.now c.args.thread slot)) 0 c.loop-slot.slot c.loop-slot.slot
+    (omega arith) c.loop-slot.invariant (puts_same (ap (λ reference. space ∷ reference_word reference) c.pin_at.ensures) c.put_reference.ensures)
 
 pub returns : goal.returns
 returns g c = puts_same (pin_words_are (pin_of c.args.graph.now c.args.thread) c.loop-slot.slot (omega arith)) c.loop-slot.invariant

@@ -7,8 +7,8 @@ use Rattle.trace_text.proofs.answer.put_references.Goals as goal
 
 pub loop-index-preserved : goal.loop-index-preserved
 loop-index-preserved g c =
-    puts_next (λ r. space ∷ reference_word r) (row_of c.args.graph.now c.args.row).refs c.loop-index.index c.reference_at.result None
+    puts_next (λ reference. space ∷ reference_word reference) (row_of c.args.graph.now c.args.row).refs c.loop-index.index c.reference_at.result None
     (omega arith) c.reference_at.ensures c.loop-index.invariant c.put_reference.ensures
 
 pub returns : goal.returns
-returns g c = puts_all (λ r. space ∷ reference_word r) (row_of c.args.graph.now c.args.row).refs c.loop-index.index (omega arith) c.loop-index.invariant
+returns g c = puts_all (λ reference. space ∷ reference_word reference) (row_of c.args.graph.now c.args.row).refs c.loop-index.index (omega arith) c.loop-index.invariant

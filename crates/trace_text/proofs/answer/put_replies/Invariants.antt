@@ -6,7 +6,7 @@ use Rattle.shen_base.specs.Sending.{Puts, stage}
 use Rattle.trace_text.proofs.answer.put_replies.Given as goal
 
 abbrev pub invariant-loop-mutator : goal.invariant-loop-mutator
-invariant-loop-mutator g l = record {
-  put : Puts (stage (g.K.Sink.written l.initial.sink) (g.K.Sink.faults l.initial.sink) (g.K.Sink.calls l.initial.sink) l.initial.block) (stage (g.K.Sink.written l.sink) (g.K.Sink.faults l.sink) (g.K.Sink.calls l.sink) l.block) (flat_map (λ t. flat_map (reply_line t) (replies_of l.work (t - 1))) (thread_numbers l.mutator));
-  few : l.mutator ≤ 8;
+invariant-loop-mutator g loop = record {
+  put : Puts (stage (g.K.Sink.written loop.initial.sink) (g.K.Sink.faults loop.initial.sink) (g.K.Sink.calls loop.initial.sink) loop.initial.block) (stage (g.K.Sink.written loop.sink) (g.K.Sink.faults loop.sink) (g.K.Sink.calls loop.sink) loop.block) (flat_map (λ thread. flat_map (reply_line thread) (replies_of loop.work (thread - 1))) (thread_numbers loop.mutator));
+  few : loop.mutator ≤ 8;
 }

@@ -8,8 +8,8 @@ use Rattle.trace_text.proofs.answer.put_root_words.Goals as goal
 
 pub loop-index-preserved : goal.loop-index-preserved
 loop-index-preserved g c =
-    puts_next_number (λ i. space ∷ reference_word (root_of c.args.graph.now c.args.thread i)) 0 c.loop-index.index c.loop-index.index
-    (omega arith) c.loop-index.invariant (puts_same (ap (λ r. space ∷ reference_word r) c.root_at.ensures) c.put_reference.ensures)
+    puts_next_number (λ index. space ∷ reference_word (root_of c.args.graph.now c.args.thread index)) 0 c.loop-index.index c.loop-index.index
+    (omega arith) c.loop-index.invariant (puts_same (ap (λ reference. space ∷ reference_word reference) c.root_at.ensures) c.put_reference.ensures)
 
 pub returns : goal.returns
 returns g c = puts_same (root_words_are (root_of c.args.graph.now c.args.thread) c.loop-index.index (omega arith)) c.loop-index.invariant

@@ -7,4 +7,4 @@ use Rattle.shen_base.specs.Sending.{Puts, stage}
 use Rattle.trace_text.proofs.answer.put_root_words.Given as goal
 
 abbrev pub invariant-loop-index : goal.invariant-loop-index
-invariant-loop-index g l = Puts (stage (g.K.Sink.written l.initial.sink) (g.K.Sink.faults l.initial.sink) (g.K.Sink.calls l.initial.sink) l.initial.block) (stage (g.K.Sink.written l.sink) (g.K.Sink.faults l.sink) (g.K.Sink.calls l.sink) l.block) (flat_map (λ i. space ∷ reference_word (root_of l.graph l.thread i)) (range_with_len 0 l.index))
+invariant-loop-index g loop = Puts (stage (g.K.Sink.written loop.initial.sink) (g.K.Sink.faults loop.initial.sink) (g.K.Sink.calls loop.initial.sink) loop.initial.block) (stage (g.K.Sink.written loop.sink) (g.K.Sink.faults loop.sink) (g.K.Sink.calls loop.sink) loop.block) (flat_map (λ index. space ∷ reference_word (root_of loop.graph loop.thread index)) (range_with_len 0 loop.index))

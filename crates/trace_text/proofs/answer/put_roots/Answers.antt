@@ -6,10 +6,10 @@ use Rattle.trace_text.proofs.answer.put_roots.Goals as goal
 
 pub loop-mutator-preserved : goal.loop-mutator-preserved
 loop-mutator-preserved g c =
-    puts_next_number (λ t. roots_line t (root_of c.args.graph.now t)) 1 c.loop-mutator.mutator (c.loop-mutator.mutator + 1)
+    puts_next_number (λ thread. roots_line thread (root_of c.args.graph.now thread)) 1 c.loop-mutator.mutator (c.loop-mutator.mutator + 1)
     (omega arith) c.loop-mutator.invariant c.put_roots_of.ensures
 
 pub returns : goal.returns
 returns g c =
-    puts_each_number (λ t. roots_line t (root_of c.args.graph.now t)) 1 c.loop-mutator.mutator (length c.args.graph.now.roots)
+    puts_each_number (λ thread. roots_line thread (root_of c.args.graph.now thread)) 1 c.loop-mutator.mutator (length c.args.graph.now.roots)
     (omega arith) c.loop-mutator.invariant

@@ -9,5 +9,5 @@ use Rattle.trace_text.proofs.answer.write_answer.Goals as goal
 pub returns : goal.returns
 returns g c =
     let answer = c.args.answer.now in
-    let replies = puts_each_number (λ t. flat_map (reply_line t) (replies_of answer.replies (t - 1))) 1 c.mutators.result (length answer.graph.roots) c.mutators.ensures.threads c.put_replies.ensures.put in
+    let replies = puts_each_number (λ thread. flat_map (reply_line thread) (replies_of answer.replies (thread - 1))) 1 c.mutators.result (length answer.graph.roots) c.mutators.ensures.threads c.put_replies.ensures.put in
     c.finish.ensures.ended _ _ (taken_by_new c.new-block.ensures (puts_both replies (puts_both c.put.ensures.put (puts_both c.put_objects.ensures (puts_both c.put_roots.ensures c.put_pins.ensures)))))

@@ -16,12 +16,12 @@ entries-smaller c =
 pub entries-preserved : goal.entries-preserved
 entries-preserved c =
     let small : c.args.threads < 2 ^ 64 = omega (arith, c.ranges.threads.fits) in
-    let e = seen c.in-Some.entry in
-    let took = entry_takes c.args.version c.args.threads c.entries.rest.now (e, c.in-Some.behind.now) small (sym c.in-Some.ensures) in
-    let added : c.push.new.self.list ≡ c.entries.history.list ++ e ∷ [] = c.in_ok-push.ensures.added in
+    let entry_seen = seen c.in-Some.entry in
+    let took = entry_takes c.args.version c.args.threads c.entries.rest.now (entry_seen, c.in-Some.behind.now) small (sym c.in-Some.ensures) in
+    let added : c.push.new.self.list ≡ c.entries.history.list ++ entry_seen ∷ [] = c.in_ok-push.ensures.added in
     record {
-      in_range = subst (AllByRecursion (IsClaim c.args.version c.args.threads)) (sym added) (all_more c.args.version c.args.threads c.entries.history.list e c.entries.invariant.in_range took.1);
-      spelled = subst (λ (es : List Entry). c.args.bytes.now ≡ flat_map entry_line es ++ c.in-Some.behind.now) (sym added) (spelled_more c.entries.history.list e c.args.bytes.now c.entries.rest.now c.in-Some.behind.now c.entries.invariant.spelled took.0);
+      in_range = subst (AllByRecursion (IsClaim c.args.version c.args.threads)) (sym added) (all_more c.args.version c.args.threads c.entries.history.list entry_seen c.entries.invariant.in_range took.1);
+      spelled = subst (λ (entries : List Entry). c.args.bytes.now ≡ flat_map entry_line entries ++ c.in-Some.behind.now) (sym added) (spelled_more c.entries.history.list entry_seen c.args.bytes.now c.entries.rest.now c.in-Some.behind.now c.entries.invariant.spelled took.0);
     }
 
 pub returns-clause-none : goal.returns-clause-none

@@ -5,10 +5,10 @@ use Rattle.trace_text.specs.Entries.{IsClaim}
 use Rattle.trace_text.proofs.entries.entries_in.Given as goal
 
 abbrev pub invariant-entries : goal.invariant-entries
-invariant-entries l = record {
-  in_range : AllByRecursion (IsClaim l.version l.threads) l.history.list;
-  spelled : l.bytes ≡ flat_map entry_line l.history.list ++ l.rest;
+invariant-entries loop = record {
+  in_range : AllByRecursion (IsClaim loop.version loop.threads) loop.history.list;
+  spelled : loop.bytes ≡ flat_map entry_line loop.history.list ++ loop.rest;
 }
 
 abbrev pub decreases-entries : goal.decreases-entries
-decreases-entries l = length l.rest
+decreases-entries loop = length loop.rest

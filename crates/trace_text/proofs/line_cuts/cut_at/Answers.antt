@@ -21,4 +21,4 @@ lines-preserved c =
     passed_more c.args.text.now c.args.bytes.now c.lines.rest.now c.in-Some.line.now c.in-Some.behind.now c.lines.invariant c.in-Some.ensures (other_text c.in-Some.line.now c.args.text.now c.if-eq.ensures)
 
 pub returns : goal.returns
-returns c = let last = c.in_default.ensures in none_found c.args.text.now c.args.bytes.now c.lines.rest.now last.0 c.lines.invariant last.1
+returns c = let last_cut = c.in_default.ensures in none_found c.args.text.now c.args.bytes.now c.lines.rest.now last_cut.0 c.lines.invariant last_cut.1

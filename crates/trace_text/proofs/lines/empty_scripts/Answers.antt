@@ -7,12 +7,12 @@ use Rattle.trace_text.proofs.lines.empty_scripts.Goals as goal
 
 pub loop-preserved : goal.loop-preserved
 loop-preserved c =
-    let none : List Command = [] in
+    let no_commands : List Command = [] in
     let pushed : c.push.new.self.items ≡ c.loop.scripts.items ++ c.in-Ok.script ∷ [] = rw c.if-is_err.ensures.negation at c.push.ensures.items in
-    pushed ∙ ap (λ (script : List Command). c.loop.scripts.items ++ script ∷ []) c.in-Ok.ensures ∙ ap (λ (scripts : List (List Command)). scripts ++ none ∷ []) c.loop.invariant ∙ replicate_more c.loop.counter none
+    pushed ∙ ap (λ (script : List Command). c.loop.scripts.items ++ script ∷ []) c.in-Ok.ensures ∙ ap (λ (scripts : List (List Command)). scripts ++ no_commands ∷ []) c.loop.invariant ∙ replicate_more c.loop.counter no_commands
 
 pub returns : goal.returns
 returns c =
-    let none : List Command = [] in
-    let all : c.loop.counter ≡ c.args.threads = omega arith in
-    c.loop.invariant ∙ ap (λ (n : ℕ). replicate n none) all ∙ scripts_of_none c.args.threads
+    let no_commands : List Command = [] in
+    let all_counted : c.loop.counter ≡ c.args.threads = omega arith in
+    c.loop.invariant ∙ ap (λ (count : ℕ). replicate count no_commands) all_counted ∙ scripts_of_none c.args.threads

@@ -3,4 +3,4 @@ use Rattle.std.specs.Prelude.{replicate}
 use Rattle.trace_text.proofs.lines.empty_scripts.Given as goal
 
 abbrev pub invariant-loop : goal.invariant-loop
-invariant-loop l = l.scripts.items ≡ replicate l.counter []
+invariant-loop loop = loop.scripts.items ≡ replicate loop.counter []

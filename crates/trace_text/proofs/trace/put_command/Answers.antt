@@ -8,5 +8,5 @@ returns g c =
     let command = c.args.command in
     let values = c.numbers_of-count.result in
     puts_same
-    (ap (λ (word : List ℕ). word ++ numbers (take values.1 values.0)) c.word_of.ensures ∙ ap (λ (ns : List ℕ). command_word command ++ numbers ns) c.numbers_of-count.ensures.numbers)
+    (ap (λ (word : List ℕ). word ++ numbers (take values.1 values.0)) c.word_of.ensures ∙ ap (λ (some_numbers : List ℕ). command_word command ++ numbers some_numbers) c.numbers_of-count.ensures.numbers)
     c.put_word.ensures

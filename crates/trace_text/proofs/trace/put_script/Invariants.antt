@@ -6,4 +6,4 @@ use Rattle.trace_text.specs.Canonical.{lines_of}
 use Rattle.trace_text.proofs.trace.put_script.Given as goal
 
 abbrev pub invariant-loop-command : goal.invariant-loop-command
-invariant-loop-command g l = Puts (stage (g.K.Sink.written l.initial.sink) (g.K.Sink.faults l.initial.sink) (g.K.Sink.calls l.initial.sink) l.initial.block) (stage (g.K.Sink.written l.sink) (g.K.Sink.faults l.sink) (g.K.Sink.calls l.sink) l.block) (flat_map line (lines_of l.thread (take l.command-index l.script)))
+invariant-loop-command g loop = Puts (stage (g.K.Sink.written loop.initial.sink) (g.K.Sink.faults loop.initial.sink) (g.K.Sink.calls loop.initial.sink) loop.initial.block) (stage (g.K.Sink.written loop.sink) (g.K.Sink.faults loop.sink) (g.K.Sink.calls loop.sink) loop.block) (flat_map line (lines_of loop.thread (take loop.command-index loop.script)))

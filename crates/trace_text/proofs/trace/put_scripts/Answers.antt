@@ -11,9 +11,9 @@ pub loop-mutator-preserved : goal.loop-mutator-preserved
 loop-mutator-preserved g c =
     let mutator : ℕ = c.loop-mutator.mutator in
     let script = c.index-scripts-mutator.result in
-    let own = ap (λ (script : List Command). flat_map line (lines_of (mutator + 1) script)) (c.list.ensures ∙ c.index-scripts-mutator.is) in
+    let own_lines = ap (λ (script : List Command). flat_map line (lines_of (mutator + 1) script)) (c.list.ensures ∙ c.index-scripts-mutator.is) in
     puts_same (script_more c.args.scripts.now mutator script c.loop-mutator-test.true)
-    (puts_both c.loop-mutator.invariant (puts_same own c.put_script.ensures))
+    (puts_both c.loop-mutator.invariant (puts_same own_lines c.put_script.ensures))
 
 pub returns : goal.returns
 returns g c = puts_same (all_scripts c.args.scripts.now c.loop-mutator.mutator (omega arith)) c.loop-mutator.invariant

@@ -13,10 +13,10 @@ pub loop-value-preserved : goal.loop-value-preserved
 loop-value-preserved g c =
     let values = c.args.values.now in
     let word = c.args.word.now in
-    let i = c.loop-value.value-index in
+    let byte_index = c.loop-value.value-index in
     puts_same
-    (append_assoc word (numbers (take i values)) _
-    ∙ ap (λ t. word ++ t) (flat_map-take_more (λ n. space ∷ decimal n) values i _ (omega arith)))
+    (append_assoc word (numbers (take byte_index values)) _
+    ∙ ap (λ text. word ++ text) (flat_map-take_more (λ value. space ∷ decimal value) values byte_index _ (omega arith)))
     (puts_both c.loop-value.invariant (puts_both c.put-in-loop-value.ensures.put c.put_number.ensures.put))
 
 pub returns : goal.returns

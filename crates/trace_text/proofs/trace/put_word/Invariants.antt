@@ -4,4 +4,4 @@ use Rattle.trace_reading.specs.Spelling.{numbers}
 use Rattle.trace_text.proofs.trace.put_word.Given as goal
 
 abbrev pub invariant-loop-value : goal.invariant-loop-value
-invariant-loop-value g l = Puts (stage (g.K.Sink.written l.fn.sink) (g.K.Sink.faults l.fn.sink) (g.K.Sink.calls l.fn.sink) l.fn.block) (stage (g.K.Sink.written l.sink) (g.K.Sink.faults l.sink) (g.K.Sink.calls l.sink) l.block) (l.word ++ numbers (take l.value-index l.values))
+invariant-loop-value g loop = Puts (stage (g.K.Sink.written loop.fn.sink) (g.K.Sink.faults loop.fn.sink) (g.K.Sink.calls loop.fn.sink) loop.fn.block) (stage (g.K.Sink.written loop.sink) (g.K.Sink.faults loop.sink) (g.K.Sink.calls loop.sink) loop.block) (loop.word ++ numbers (take loop.value-index loop.values))

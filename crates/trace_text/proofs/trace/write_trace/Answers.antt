@@ -10,7 +10,7 @@ use Rattle.trace_text.proofs.trace.write_trace.Goals as goal
 
 pub returns-clause-written : goal.returns-clause-written
 returns-clause-written g c =
-    let scripts = puts_same (ap (λ (ss : List (List Command)). flat_map line (lines_from 1 ss)) c.list.ensures) c.put_scripts.ensures in
+    let scripts = puts_same (ap (λ (some_scripts : List (List Command)). flat_map line (lines_from 1 some_scripts)) c.list.ensures) c.put_scripts.ensures in
     let schedule = puts_same (ap (λ (items : List Item). flat_map schedule_line (turns_of items)) c.list-2.ensures) c.put_schedule.ensures in
     c.finish.ensures.ended _ _ (taken_by_new c.new-block.ensures (puts_both c.put_header.ensures (puts_both scripts schedule)))
 

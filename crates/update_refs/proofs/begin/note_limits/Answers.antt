@@ -16,20 +16,20 @@ loop-region-preserved c =
     let config = config_of old in
     let memory : Word → ℕ = memory_of old in
     let region = c.loop-region.region in
-    let below : region < config.regions = omega (arith, c.loop-region-test.true, c.regions-region-end.ensures, ap (λ (config : Config). config.regions) c.config-config.ensures) in
-    let is : c.limit-limit.result ≡ limit_in config memory region =
+    let region_below : region < config.regions = omega (arith, c.loop-region-test.true, c.regions-region-end.ensures, ap (λ (config : Config). config.regions) c.config-config.ensures) in
+    let limit_found : c.limit-limit.result ≡ limit_in config memory region =
     c.limit-limit.ensures ∙ ap (λ (config : Config). limit_in config (memory_of c.loop-region.image) region) c.loop-region.invariant.config
     ∙ ap (λ (memory : Word → ℕ). limit_in config memory region) c.loop-region.invariant.words ∙ limit_limited config region region memory in
-    let one = stored (config_of c.loop-region.image) config (memory_of c.loop-region.image) (memory_of c.set_word.new.self) (Limit region) c.limit_at.result c.limit-limit.result
-    c.loop-region.invariant.config below (c.limit_at.ensures ∙ ap (λ (config : Config). word_at config (Limit region)) c.config-config.ensures) c.set_word.ensures.named in
+    let one_stored = stored (config_of c.loop-region.image) config (memory_of c.loop-region.image) (memory_of c.set_word.new.self) (Limit region) c.limit_at.result c.limit-limit.result
+    c.loop-region.invariant.config region_below (c.limit_at.ensures ∙ ap (λ (config : Config). word_at config (Limit region)) c.config-config.ensures) c.set_word.ensures.named in
     record {
       config = c.set_word.ensures.config ∙ c.loop-region.invariant.config;
-      words = one ∙ ap (λ n. write n (Limit region) c.limit-limit.result) c.loop-region.invariant.words
-          ∙ ap (write (limited config region memory) (Limit region)) is ∙ limited_next config region memory;
+      words = one_stored ∙ ap (λ state. write state (Limit region) c.limit-limit.result) c.loop-region.invariant.words
+          ∙ ap (write (limited config region memory) (Limit region)) limit_found ∙ limited_next config region memory;
     }
 
 pub returns-clause-words : goal.returns-clause-words
 returns-clause-words c =
-    let all : c.loop-region.region ≡ (config_of c.args.image.now).regions =
+    let all_regions : c.loop-region.region ≡ (config_of c.args.image.now).regions =
     omega (arith, c.loop-region-test.false, c.loop-region.auto.region-end, c.regions-region-end.ensures, ap (λ (config : Config). config.regions) c.config-config.ensures) in
-    c.loop-region.invariant.words ∙ ap (λ n. limited (config_of c.args.image.now) n (memory_of c.args.image.now)) all
+    c.loop-region.invariant.words ∙ ap (λ region_count. limited (config_of c.args.image.now) region_count (memory_of c.args.image.now)) all_regions

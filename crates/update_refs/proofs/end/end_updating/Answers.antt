@@ -14,4 +14,4 @@ returns-clause-words c =
     let stored_cset = stored (config_of c.args.image.now) config _ _ Cset c.cset_at.result 0 config_before tt c.cset_at.ensures c.set_word.ensures.named in
     let stored_claim = stored (config_of c.set_word.new.self) config _ _ Claim c.claim_at.result 0 config_cset tt c.claim_at.ensures c.set_word-2.ensures.named in
     let stored_phase = stored (config_of c.set_word-2.new.self) config _ _ Phase c.phase_at.result 0 config_claim tt c.phase_at.ensures c.set_word-3.ensures.named in
-    stored_phase ∙ ap (λ n. write n Phase 0) (stored_claim ∙ ap (λ n. write n Claim 0) stored_cset) ∙ ended (memory_of c.args.image.now)
+    stored_phase ∙ ap (λ memory. write memory Phase 0) (stored_claim ∙ ap (λ memory. write memory Claim 0) stored_cset) ∙ ended (memory_of c.args.image.now)

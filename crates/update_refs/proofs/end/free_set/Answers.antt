@@ -16,24 +16,24 @@ loop-region-preserved c =
     let old = c.args.image.now in
     let config = config_of old in
     let memory : Word → ℕ = memory_of old in
-    let out : ℕ → Bool = is_chosen memory in
+    let freed_region : ℕ → Bool = is_chosen memory in
     let region = c.loop-region.region in
-    let is = c.loop-region.invariant in
+    let freed_so_far = c.loop-region.invariant in
     let few : region < 64 = omega (arith, c.loop-region-test.true, c.regions-region-end.ensures, ap (λ (config : Config). config.regions) c.config-config.ensures, config.in_range.most_regions) in
-    let still : is_chosen (memory_of c.loop-region.image) region ≡ out region = ap (λ n. is_chosen n region) is.words in
+    let still_chosen : is_chosen (memory_of c.loop-region.image) region ≡ freed_region region = ap (λ state. is_chosen state region) freed_so_far.words in
     record {
-      config = c.free_if_chosen.ensures.config ∙ is.config;
+      config = c.free_if_chosen.ensures.config ∙ freed_so_far.config;
       words = ⊎_elim
-          (λ (yes : out region ≡ true). c.free_if_chosen.ensures.freed (still ∙ yes) ∙ ap (freed_one region) is.words ∙ freed_next out region memory few yes)
-          (λ (no : out region ≡ false). c.free_if_chosen.ensures.left (still ∙ no) ∙ is.words ∙ left_next out region memory no)
-          (cases_Bool (out region));
+          (λ (goes_out : freed_region region ≡ true). c.free_if_chosen.ensures.freed (still_chosen ∙ goes_out) ∙ ap (freed_one region) freed_so_far.words ∙ freed_next freed_region region memory few goes_out)
+          (λ (stays : freed_region region ≡ false). c.free_if_chosen.ensures.left (still_chosen ∙ stays) ∙ freed_so_far.words ∙ left_next freed_region region memory stays)
+          (cases_Bool (freed_region region));
     }
 
 pub returns-clause-words : goal.returns-clause-words
 returns-clause-words c =
     let old = c.args.image.now in
     let config = config_of old in
-    let all : c.loop-region.region ≡ config.regions =
+    let all_regions : c.loop-region.region ≡ config.regions =
     omega (arith, c.loop-region-test.false, c.loop-region.auto.region-end, c.regions-region-end.ensures, ap (λ (config : Config). config.regions) c.config-config.ensures) in
-    c.loop-region.invariant.words ∙ ap (λ n. freed_below (is_chosen (memory_of old)) n (memory_of old)) all
+    c.loop-region.invariant.words ∙ ap (λ region_count. freed_below (is_chosen (memory_of old)) region_count (memory_of old)) all_regions
     ∙ freed_all config (words_of old) (is_chosen (memory_of old))

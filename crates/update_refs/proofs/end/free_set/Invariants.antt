@@ -5,7 +5,7 @@ use Rattle.cycle_words.specs.Updating.Changes.{is_chosen}
 use Rattle.update_refs.proofs.end.free_set.Given as goal
 
 abbrev pub invariant-loop-region : goal.invariant-loop-region
-invariant-loop-region l = record {
-  config : config_of l.image ≡ config_of l.fn.image;
-  words : memory_of l.image ≡ freed_below (is_chosen (memory_of l.fn.image)) l.region (memory_of l.fn.image);
+invariant-loop-region locals = record {
+  config : config_of locals.image ≡ config_of locals.fn.image;
+  words : memory_of locals.image ≡ freed_below (is_chosen (memory_of locals.fn.image)) locals.region (memory_of locals.fn.image);
 }

@@ -3,4 +3,4 @@ use Rattle.churn.specs.Summary.{with_replies}
 use Rattle.churn.proofs.summary.Summary.add_replies.Given as goal
 
 abbrev pub invariant-loop-reply : goal.invariant-loop-reply
-invariant-loop-reply l = l.self ≡ with_replies l.fn.self (take l.reply-index l.replies)
+invariant-loop-reply locals = locals.self ≡ with_replies locals.fn.self (take locals.reply-index locals.replies)

@@ -11,7 +11,7 @@ use Rattle.collector_rows.proofs.control_spot.ControlSpot.next.Goals as goal
 
 pub returns-in-Stopping-clause-again : goal.returns-in-Stopping-clause-again
 returns-in-Stopping-clause-again c =
-    subst (λ said. (said ≡ Again) ↔ waits_at c.args.config c.args.last.seen c.args.self c.args.got) (sym c.stopping_says.ensures)
+    subst (λ answer_said. (answer_said ≡ Again) ↔ waits_at c.args.config c.args.last.seen c.args.self c.args.got) (sym c.stopping_says.ensures)
     (subst (λ spot. (stopping_says c.in-Stopping.at c.args.got ≡ Again) ↔ waits_at c.args.config c.args.last.seen spot c.args.got) (sym c.in-Stopping.is)
     (stopping_waits c.args.config c.args.last.seen c.in-Stopping.at c.args.got))
 
@@ -67,8 +67,8 @@ after-next-requires-clause-fit c = subst (λ seat. unit.IsFit c.args.config seat
 
 pub returns-in-Working-clause-again : goal.returns-in-Working-clause-again
 returns-in-Working-clause-again c =
-    let part = c.after-next.ensures.again in
+    let work_again = c.after-next.ensures.again in
     let says = working_waits c.after-next.result.1 in
-    subst (λ said. (said ≡ Again) ↔ waits_at c.args.config c.args.last.seen c.args.self c.args.got) (sym c.working_says.ensures)
+    subst (λ answer_said. (answer_said ≡ Again) ↔ waits_at c.args.config c.args.last.seen c.args.self c.args.got) (sym c.working_says.ensures)
     (subst (λ spot. (working_says c.after-next.result.1 ≡ Again) ↔ waits_at c.args.config c.args.last.seen spot c.args.got) (sym c.in-Working.is)
-    (λ again. part.0 (says.0 again), λ waits. says.1 (part.1 waits)))
+    (λ says_again. work_again.0 (says.0 says_again), λ waits. says.1 (work_again.1 waits)))

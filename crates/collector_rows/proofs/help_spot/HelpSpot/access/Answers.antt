@@ -14,7 +14,7 @@ pub access-requires-clause-busy : goal.access-requires-clause-busy
 access-requires-clause-busy c = false_from_flip (is_entered c.in-Entering.at) (fits_at c.args.config c.args.seat c.args.self (Entering c.in-Entering.at) c.in-Entering.is c.requires.fits)
 
 pub access-requires-in-Working-clause-seat : goal.access-requires-in-Working-clause-seat
-access-requires-in-Working-clause-seat c = let below = c.requires.seat in omega (arith, below)
+access-requires-in-Working-clause-seat c = let seat_below = c.requires.seat in omega (arith, seat_below)
 
 pub leave_access-requires : goal.leave_access-requires
 leave_access-requires c = c.requires.seat

@@ -10,16 +10,16 @@ use Rattle.collector_rows.proofs.help_spot.HelpSpot.next.Goals as goal
 
 pub returns-in-Entering-clause-again : goal.returns-in-Entering-clause-again
 returns-in-Entering-clause-again c =
-    subst (λ said. (said ≡ Again) ↔ waits_at c.args.config c.args.self c.args.got) (sym c.entering_says.ensures)
+    subst (λ answer_said. (answer_said ≡ Again) ↔ waits_at c.args.config c.args.self c.args.got) (sym c.entering_says.ensures)
     (subst (λ spot. (entering_says c.in-Entering.at c.args.got ≡ Again) ↔ waits_at c.args.config spot c.args.got) (sym c.in-Entering.is) (entering_waits c.args.config c.in-Entering.at c.args.got))
 
 pub returns-in-Working-clause-again : goal.returns-in-Working-clause-again
 returns-in-Working-clause-again c =
-    let part = c.after-next.result in
-    subst (λ said. (said ≡ Again) ↔ waits_at c.args.config c.args.self c.args.got) (sym c.working_says.ensures)
-    (subst (λ spot. (working_says part.0 part.1 ≡ Again) ↔ waits_at c.args.config spot c.args.got) (sym c.in-Working.is)
-    (subst (λ next. (working_says next part.1 ≡ Again) ↔ waits_at c.args.config (Working c.in-Working.at) c.args.got) (sym c.after-next.ensures.row)
-    (working_waits c.args.config c.args.seat c.in-Working.at c.args.got part.1 (fits_at c.args.config c.args.seat c.args.self (Working c.in-Working.at) c.in-Working.is c.requires.fits) c.after-next.ensures.again)))
+    let work_result = c.after-next.result in
+    subst (λ answer_said. (answer_said ≡ Again) ↔ waits_at c.args.config c.args.self c.args.got) (sym c.working_says.ensures)
+    (subst (λ spot. (working_says work_result.0 work_result.1 ≡ Again) ↔ waits_at c.args.config spot c.args.got) (sym c.in-Working.is)
+    (subst (λ next_spot. (working_says next_spot work_result.1 ≡ Again) ↔ waits_at c.args.config (Working c.in-Working.at) c.args.got) (sym c.after-next.ensures.row)
+    (working_waits c.args.config c.args.seat c.in-Working.at c.args.got work_result.1 (fits_at c.args.config c.args.seat c.args.self (Working c.in-Working.at) c.in-Working.is c.requires.fits) c.after-next.ensures.again)))
 
 pub after-next-requires-clause-ready : goal.after-next-requires-clause-ready
 after-next-requires-clause-ready c = (and_parts _ _ (fits_at c.args.config c.args.seat c.args.self (Working c.in-Working.at) c.in-Working.is c.requires.fits)).0

@@ -13,7 +13,7 @@ use Rattle.control.proofs.machine.Control.answer_graph.Goals as goal
 
 -- from the image on, its words are those of the table
 loaded : (config : Config) (image : Image) (table : List ℕ) → config_of image ≡ config → image_in image ≡ image_from config table → drop (image_start config) (words_of image) ≡ drop (image_start config) table
-loaded d i table config image = ap (λ e. drop (image_start e) (words_of i)) (sym config) ∙ image
+loaded given_config given_image table config image = ap (λ asked_config. drop (image_start asked_config) (words_of given_image)) (sym config) ∙ image
 
 pub answer_graph-requires-clause-stand : goal.answer_graph-requires-clause-stand
 answer_graph-requires-clause-stand c =
@@ -37,7 +37,7 @@ returns-clause-same c =
     let i = c.answer_graph.new.self in
     let same_config : config_of i ≡ config = c.answer_graph.ensures.unchanged.config ∙ c.load.ensures.config in
     let image : image_in i ≡ image_from config table =
-    ap (λ e. drop (image_start e) (words_of i)) same_config ∙ ap (drop (image_start config)) c.answer_graph.ensures.unchanged.words ∙ loaded config c.load.new.image table c.load.ensures.config c.load.ensures.image in
+    ap (λ asked_config. drop (image_start asked_config) (words_of i)) same_config ∙ ap (drop (image_start config)) c.answer_graph.ensures.unchanged.words ∙ loaded config c.load.new.image table c.load.ensures.config c.load.ensures.image in
     let Seen : List ℕ → Controlling = λ xs. record { spot = control.spot; seen = control.last.seen; phase = control.last.phase; cset = control.last.cset; image = xs; hints = control.hints } in
-    ap (λ e. Seen (words_seen e control.spot control.starts (image_in i))) same_config ∙ ap (λ xs. Seen (words_seen config control.spot control.starts xs)) image
+    ap (λ asked_config. Seen (words_seen asked_config control.spot control.starts (image_in i))) same_config ∙ ap (λ xs. Seen (words_seen config control.spot control.starts xs)) image
     ∙ ap Seen (loaded_same config control.starts (image_from config table) (image_in control.image) control.spot c.requires.loaded)

@@ -11,4 +11,4 @@ returns-in-Some-clause-own c =
     let config = config_in control in
     let address = c.in-Some.address in
     let takes = (control.given address c.in-Some.is).1 in
-    subst (λ s. SeesOwn config s control.starts) (sym (c.hinted.ensures.row ∙ ap (λ e. hinted_by e (Some address) control.spot) c.config.ensures)) (hinted_own config control.starts address control.spot takes)
+    subst (λ spot. SeesOwn config spot control.starts) (sym (c.hinted.ensures.row ∙ ap (λ asked_config. hinted_by asked_config (Some address) control.spot) c.config.ensures)) (hinted_own config control.starts address control.spot takes)

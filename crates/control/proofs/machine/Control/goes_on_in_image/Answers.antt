@@ -10,22 +10,22 @@ use Rattle.control.proofs.Going.{loads_on, stores_on}
 use Rattle.control.proofs.machine.Control.goes_on_in_image.Goals as goal
 
 pub returns-in-LoadWord-default-Whole-clause-row : goal.returns-in-LoadWord-default-Whole-clause-row
-returns-in-LoadWord-default-Whole-clause-row c = λ yes.
+returns-in-LoadWord-default-Whole-clause-row c = λ tested.
     let control = c.args.self.now in
     let config = config_in control in
     let index = c.in-LoadWord-default-Whole.index in
     let extent : c.in-LoadWord-default-Whole.extent ≡ Whole = rw c.in-LoadWord-default-Whole.is at c.in-LoadWord-default-Whole.extent-is in
     let spot : control.spot ≡ LoadWord index Whole = c.in-LoadWord-default-Whole.is ∙ ap (LoadWord index) extent in
-    let more : index + 1 < image_words config = (let last = control.last_is in omega (arith, last)) in
-    loads_on collect_image config control.last.seen control.last.phase control.last.cset control.hints (image_in control.image) (length-image_in control.image) index c.args.got more control.starts control.spot
+    let more_words : index + 1 < image_words config = (let last_facts = control.last_is in omega (arith, last_facts)) in
+    loads_on collect_image config control.last.seen control.last.phase control.last.cset control.hints (image_in control.image) (length-image_in control.image) index c.args.got more_words control.starts control.spot
     (image_in c.put_word.new.image) spot c.put_word.ensures.image
 
 pub returns-in-StoreWord-default-Whole-clause-row : goal.returns-in-StoreWord-default-Whole-clause-row
-returns-in-StoreWord-default-Whole-clause-row c = λ yes.
+returns-in-StoreWord-default-Whole-clause-row c = λ tested.
     let control = c.args.self.now in
     let config = config_in control in
     let index = c.in-StoreWord-default-Whole.index in
     let extent : c.in-StoreWord-default-Whole.extent ≡ Whole = rw c.in-StoreWord-default-Whole.is at c.in-StoreWord-default-Whole.extent-is in
     let spot : control.spot ≡ StoreWord index Whole = c.in-StoreWord-default-Whole.is ∙ ap (StoreWord index) extent in
-    let more : index + 1 < image_words config = (let last = control.last_is in omega (arith, last)) in
-    stores_on collect_image config control.last.seen control.last.phase control.last.cset control.hints (image_in control.image) (length-image_in control.image) index c.args.got more control.starts control.spot spot
+    let more_words : index + 1 < image_words config = (let last_facts = control.last_is in omega (arith, last_facts)) in
+    stores_on collect_image config control.last.seen control.last.phase control.last.cset control.hints (image_in control.image) (length-image_in control.image) index c.args.got more_words control.starts control.spot spot

@@ -19,8 +19,8 @@ returns-clause-row c =
     let index = c.in-LoadWord-default-Whole.index in
     let extent : c.in-LoadWord-default-Whole.extent ≡ Whole = c.in-LoadWord-default-Whole.extent-is in
     let spot : control.spot ≡ LoadWord index Whole = c.in-LoadWord-default-Whole.is ∙ ap (LoadWord index) extent in
-    let some : 0 < image_words config - (index + 1) = subst (λ (spot : ControlSpot). 0 < loads_left config spot) spot c.requires in
-    let more : index + 1 < image_words config = omega (arith, some) in
-    let ys = image_in c.put_word.new.image in
-    ap (λ (extent : Extent). record { spot = LoadWord (index + 1) extent; seen = control.last.seen; phase = control.last.phase; cset = control.last.cset; image = words_seen (config_of c.put_word.new.image) (LoadWord (index + 1) extent) control.starts ys; hints = control.hints }) extent
-    ∙ loads_on collect_image config control.last.seen control.last.phase control.last.cset control.hints (image_in control.image) (length-image_in control.image) index c.args.got more control.starts control.spot ys spot c.put_word.ensures.image
+    let some_words : 0 < image_words config - (index + 1) = subst (λ (spot : ControlSpot). 0 < loads_left config spot) spot c.requires in
+    let more_words : index + 1 < image_words config = omega (arith, some_words) in
+    let new_image = image_in c.put_word.new.image in
+    ap (λ (extent : Extent). record { spot = LoadWord (index + 1) extent; seen = control.last.seen; phase = control.last.phase; cset = control.last.cset; image = words_seen (config_of c.put_word.new.image) (LoadWord (index + 1) extent) control.starts new_image; hints = control.hints }) extent
+    ∙ loads_on collect_image config control.last.seen control.last.phase control.last.cset control.hints (image_in control.image) (length-image_in control.image) index c.args.got more_words control.starts control.spot new_image spot c.put_word.ensures.image

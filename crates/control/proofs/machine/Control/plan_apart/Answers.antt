@@ -19,8 +19,8 @@ returns-in-StoreWord-clause-row c =
     let hinted = sym c.goes_on_at.ensures.row ∙ c.in-StoreWord.is in
     let spot = unhinted config index extent (hint_of control) control.spot hinted in
     let start = c.image_start-in-StoreWord.ensures.value ∙ ap image_start c.config-config.ensures in
-    let own = subst (λ s. SeesOwn config s control.starts) c.in-StoreWord.is c.goes_on_at.ensures.own in
-    let read = c.word.ensures.value ∙ ap (λ n. slice_index (words_of control.image) (n + index)) start ∙ sym (get_or-drop (image_start config) (words_of control.image) index 0)
-    ∙ sym (seen_reads config extent control.starts (image_in control.image) index own)
-    ∙ ap (λ s. slice_index (words_seen config s control.starts (image_in control.image)) index) (sym spot) in
-    c.store.ensures ∙ ap (λ n. Store (n + index) c.word.result) start ∙ stored_row config index extent (hint_of control) (seen_control control) c.word.result hinted read
+    let sees_own = subst (λ asked_spot. SeesOwn config asked_spot control.starts) c.in-StoreWord.is c.goes_on_at.ensures.own in
+    let read = c.word.ensures.value ∙ ap (λ first_index. slice_index (words_of control.image) (first_index + index)) start ∙ sym (get_or-drop (image_start config) (words_of control.image) index 0)
+    ∙ sym (seen_reads config extent control.starts (image_in control.image) index sees_own)
+    ∙ ap (λ asked_spot. slice_index (words_seen config asked_spot control.starts (image_in control.image)) index) (sym spot) in
+    c.store.ensures ∙ ap (λ first_index. Store (first_index + index) c.word.result) start ∙ stored_row config index extent (hint_of control) (seen_control control) c.word.result hinted read

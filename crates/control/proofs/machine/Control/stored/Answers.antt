@@ -18,7 +18,7 @@ returns-clause-row c = λ got.
     let index = c.in-StoreWord-default-Whole.index in
     let extent : c.in-StoreWord-default-Whole.extent ≡ Whole = c.in-StoreWord-default-Whole.extent-is in
     let spot : control.spot ≡ StoreWord index Whole = c.in-StoreWord-default-Whole.is ∙ ap (StoreWord index) extent in
-    let some : 0 < image_words config - (index + 1) = subst (λ (spot : ControlSpot). 0 < stores_left config spot) spot c.requires in
-    let more : index + 1 < image_words config = omega (arith, some) in
+    let some_words : 0 < image_words config - (index + 1) = subst (λ (spot : ControlSpot). 0 < stores_left config spot) spot c.requires in
+    let more_words : index + 1 < image_words config = omega (arith, some_words) in
     ap (λ (extent : Extent). record { spot = StoreWord (index + 1) extent; seen = control.last.seen; phase = control.last.phase; cset = control.last.cset; image = words_seen config (StoreWord (index + 1) extent) control.starts (image_in control.image); hints = control.hints }) extent
-    ∙ stores_on collect_image config control.last.seen control.last.phase control.last.cset control.hints (image_in control.image) (length-image_in control.image) index got more control.starts control.spot spot
+    ∙ stores_on collect_image config control.last.seen control.last.phase control.last.cset control.hints (image_in control.image) (length-image_in control.image) index got more_words control.starts control.spot spot

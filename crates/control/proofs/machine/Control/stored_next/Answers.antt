@@ -9,5 +9,5 @@ pub returns-in-StoreWord : goal.returns-in-StoreWord
 returns-in-StoreWord c =
     let control = c.args.self.now in
     let config = config_in control in
-    let Next : ControlSpot → Type 0 = λ s. c.next_stored.result ≡ stored_next config s (words_seen config s control.starts (image_in control.image)) in
+    let Next : ControlSpot → Type 0 = λ spot. c.next_stored.result ≡ stored_next config spot (words_seen config spot control.starts (image_in control.image)) in
     subst Next (sym c.in-StoreWord.is) c.next_stored.ensures

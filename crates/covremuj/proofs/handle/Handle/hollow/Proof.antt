@@ -40,21 +40,21 @@ stayed = (stay_dropped Given yes, tt)
 module _ {M : Type 1} {𝓤 : Ura M} (𝓛 : Logic 𝓤) (at_mem : Memory → SProp 𝓤) (run : Routine → Fun 𝓤) (𝓣 : Tables 𝓤 𝓛.H) where
   open 𝓛 use {H}
 
-  walk : (z : (walk_of 𝓛 F.ended stayed (F.clauses 𝓛 at_mem run)).Ghost)
-      → ent 𝓤 ((walk_of 𝓛 F.ended stayed (F.clauses 𝓛 at_mem run)).pre z) (WpFn 𝓤 H 𝓣.C 𝓣.Λ code.function (z.0.4.0 ++ []) ((walk_of 𝓛 F.ended stayed (F.clauses 𝓛 at_mem run)).post z))
-  walk z =
-      let Post = (walk_of 𝓛 F.ended stayed (F.clauses 𝓛 at_mem run)).post z in
-      let a = z.0.3.0 in
+  walk : (ghosts : (walk_of 𝓛 F.ended stayed (F.clauses 𝓛 at_mem run)).Ghost)
+      → ent 𝓤 ((walk_of 𝓛 F.ended stayed (F.clauses 𝓛 at_mem run)).pre ghosts) (WpFn 𝓤 H 𝓣.C 𝓣.Λ code.function (ghosts.0.4.0 ++ []) ((walk_of 𝓛 F.ended stayed (F.clauses 𝓛 at_mem run)).post ghosts))
+  walk ghosts =
+      let Post = (walk_of 𝓛 F.ended stayed (F.clauses 𝓛 at_mem run)).post ghosts in
+      let allocator = ghosts.0.3.0 in
       let To = type_at (F.signature).result tt in
-      qed 𝓛 ((‵ ftrue ⊛ ‵ (fsep (heap.the_row.own_val a z.0.4.0) ftrue)) ∷ raw (emp 𝓤) ∷ []) ∵ split ! $ drop ! $ fsplit ! $
-      handle_tells seat_box.al ! a z.0.4.0 (λ h ws fits. nothing ! $
-      let made : To.Denot = record { at = null_ptr; is_open = false; alloc = a; held = None; told = refl } in
-      handle_in ! made h $ use1 𝓛 (‵ (To.own_val made (triple (ptr_val null_ptr) (vbool false) h ∷ []))) (id⊢ 𝓤 _) $ move ! (1 ∷ 2 ∷ []) $ drop ! $ drop ! $
-      let Γ : List (Item 𝓤) = ‵ (To.own_val made (triple (ptr_val null_ptr) (vbool false) h ∷ [])) ∷ [] in
-      by ! (subst (λ (us : List Val). ent 𝓤 (types.Kit.⋆ 𝓛 Γ) (WpFn 𝓤 H 𝓣.C 𝓣.Λ code.function (us ++ []) Post)) (sym ws)
-      (qed 𝓛 Γ ∵ enter ! 𝓣.C 𝓣.Λ code.function (h ∷ []) _ $ alloc_all ! (λ ls. pass_all ! refl (fits, tt) $
-      sets ! (agg ! (and_then ! (lit ! tt) (and_then ! (false_lit !) (and_then ! (get ! refl) (no_more !))))) refl (triple_typed null_ptr false h fits) $ returns ! (look_at ! 0 refl) $ free_all ! refl $
-      suffices ! _ (ends_at 𝓛 F.ended stayed (F.clauses 𝓛 at_mem run) z (triple (ptr_val null_ptr) (vbool false) h) made (tt, tt) (tt, tt)) $ says ! refl $
+      qed 𝓛 ((‵ ftrue ⊛ ‵ (fsep (heap.the_row.own_val allocator ghosts.0.4.0) ftrue)) ∷ raw (emp 𝓤) ∷ []) ∵ split ! $ drop ! $ fsplit ! $
+      handle_tells seat_box.al ! allocator ghosts.0.4.0 (λ heap_value words fits. nothing ! $
+      let made : To.Denot = record { at = null_ptr; is_open = false; alloc = allocator; held = None; told = refl } in
+      handle_in ! made heap_value $ use1 𝓛 (‵ (To.own_val made (triple (ptr_val null_ptr) (vbool false) heap_value ∷ []))) (id⊢ 𝓤 _) $ move ! (1 ∷ 2 ∷ []) $ drop ! $ drop ! $
+      let Γ : List (Item 𝓤) = ‵ (To.own_val made (triple (ptr_val null_ptr) (vbool false) heap_value ∷ [])) ∷ [] in
+      by ! (subst (λ (some_words : List Val). ent 𝓤 (types.Kit.⋆ 𝓛 Γ) (WpFn 𝓤 H 𝓣.C 𝓣.Λ code.function (some_words ++ []) Post)) (sym words)
+      (qed 𝓛 Γ ∵ enter ! 𝓣.C 𝓣.Λ code.function (heap_value ∷ []) _ $ alloc_all ! (λ locals. pass_all ! refl (fits, tt) $
+      sets ! (agg ! (and_then ! (lit ! tt) (and_then ! (false_lit !) (and_then ! (get ! refl) (no_more !))))) refl (triple_typed null_ptr false heap_value fits) $ returns ! (look_at ! 0 refl) $ free_all ! refl $
+      suffices ! _ (ends_at 𝓛 F.ended stayed (F.clauses 𝓛 at_mem run) ghosts (triple (ptr_val null_ptr) (vbool false) heap_value) made (tt, tt) (tt, tt)) $ says ! refl $
       nothing ! $ nothing ! $ fjoin ! $ join ! $ nothing ! $ join ! $ done !))))
 
 pub hollow_spec : {M : Type 1} → stated.statement M

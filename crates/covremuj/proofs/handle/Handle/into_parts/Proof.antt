@@ -41,39 +41,39 @@ stayed = (stay_dropped Handled yes, tt)
 module _ {M : Type 1} {𝓤 : Ura M} (𝓛 : Logic 𝓤) (at_mem : Memory → SProp 𝓤) (run : Routine → Fun 𝓤) (𝓣 : Tables 𝓤 𝓛.H) where
   open 𝓛 use {H}
 
-  walk : (z : (walk_of 𝓛 F.ended stayed (F.clauses 𝓛 at_mem run)).Ghost)
-      → ent 𝓤 ((walk_of 𝓛 F.ended stayed (F.clauses 𝓛 at_mem run)).pre z) (WpFn 𝓤 H 𝓣.C 𝓣.Λ code.function (z.0.4.0 ++ []) ((walk_of 𝓛 F.ended stayed (F.clauses 𝓛 at_mem run)).post z))
-  walk z =
-      let Post = (walk_of 𝓛 F.ended stayed (F.clauses 𝓛 at_mem run)).post z in
-      let d = z.0.3.0 in
+  walk : (ghosts : (walk_of 𝓛 F.ended stayed (F.clauses 𝓛 at_mem run)).Ghost)
+      → ent 𝓤 ((walk_of 𝓛 F.ended stayed (F.clauses 𝓛 at_mem run)).pre ghosts) (WpFn 𝓤 H 𝓣.C 𝓣.Λ code.function (ghosts.0.4.0 ++ []) ((walk_of 𝓛 F.ended stayed (F.clauses 𝓛 at_mem run)).post ghosts))
+  walk ghosts =
+      let Post = (walk_of 𝓛 F.ended stayed (F.clauses 𝓛 at_mem run)).post ghosts in
+      let handle = ghosts.0.3.0 in
       let Out = type_at (F.signature).result tt in
-      qed 𝓛 ((‵ ftrue ⊛ ‵ (fsep (((type_at Handled tt)).own_val d z.0.4.0) ftrue)) ∷ raw (emp 𝓤) ∷ []) ∵ split ! $ drop ! $ fsplit ! $
-      handle_out ! d z.0.4.0 (λ h ws fits. keep ! (0 ∷ 1 ∷ []) $
-      let w : Val = triple (ptr_val d.at) (vbool d.is_open) h in
-      let Γ : List (Item 𝓤) = ‵ (held_owns d.at d.alloc d.held) ∷ ‵ (heap.the_row.own_val d.alloc (h ∷ [])) ∷ [] in
-      by ! (subst (λ (us : List Val). ent 𝓤 (types.Kit.⋆ 𝓛 Γ) (WpFn 𝓤 H 𝓣.C 𝓣.Λ code.function (us ++ []) Post)) (sym ws)
-      (qed 𝓛 Γ ∵ enter ! 𝓣.C 𝓣.Λ code.function (w ∷ []) _ $ alloc_all ! (λ ls. let Ev = env code.function.locals ls in pass_all ! refl (triple_typed d.at d.is_open h fits, tt) $
-      sets ! (of_opd ! (get_in ! (fld ! refl (stop !)) (sub ! 0 refl (whole !)))) refl (ptr_typed d.at) $ sets ! (of_opd ! (get_in ! (fld ! refl (stop !)) (sub ! 1 refl (whole !)))) refl (tt, tt) $
+      qed 𝓛 ((‵ ftrue ⊛ ‵ (fsep (((type_at Handled tt)).own_val handle ghosts.0.4.0) ftrue)) ∷ raw (emp 𝓤) ∷ []) ∵ split ! $ drop ! $ fsplit ! $
+      handle_out ! handle ghosts.0.4.0 (λ heap_value words fits. keep ! (0 ∷ 1 ∷ []) $
+      let handle_word : Val = triple (ptr_val handle.at) (vbool handle.is_open) heap_value in
+      let Γ : List (Item 𝓤) = ‵ (held_owns handle.at handle.alloc handle.held) ∷ ‵ (heap.the_row.own_val handle.alloc (heap_value ∷ [])) ∷ [] in
+      by ! (subst (λ (some_words : List Val). ent 𝓤 (types.Kit.⋆ 𝓛 Γ) (WpFn 𝓤 H 𝓣.C 𝓣.Λ code.function (some_words ++ []) Post)) (sym words)
+      (qed 𝓛 Γ ∵ enter ! 𝓣.C 𝓣.Λ code.function (handle_word ∷ []) _ $ alloc_all ! (λ locals. let Ev = env code.function.locals locals in pass_all ! refl (triple_typed handle.at handle.is_open heap_value fits, tt) $
+      sets ! (of_opd ! (get_in ! (fld ! refl (stop !)) (sub ! 0 refl (whole !)))) refl (ptr_typed handle.at) $ sets ! (of_opd ! (get_in ! (fld ! refl (stop !)) (sub ! 1 refl (whole !)))) refl (tt, tt) $
       sets ! (of_opd ! (get_in ! (fld ! refl (stop !)) (sub ! 2 refl (whole !)))) refl fits $ sets ! (of_opd ! (get ! refl)) refl (tt, tt) $
       first ! $ branches ! (get ! refl)
       (λ open_.
-      let held = held_is d.held d.is_open d.told open_ in
-      let made : SeatParts.Denot = record { address = d.at; allocator = d.alloc; inside = held.0 } in
-      let v : Val = pair (ptr_val d.at) h in
-      let typed = pair_typed d.at h fits in
-      sets ! (of_opd ! (get ! refl)) refl (ptr_typed d.at) $ sets ! (agg ! (and_then ! (get ! refl) (and_then ! (get ! refl) (no_more !)))) refl typed $
+      let held_seat = held_is handle.held handle.is_open handle.told open_ in
+      let made : SeatParts.Denot = record { address = handle.at; allocator = handle.alloc; inside = held_seat.0 } in
+      let parts_word : Val = pair (ptr_val handle.at) heap_value in
+      let typed = pair_typed handle.at heap_value fits in
+      sets ! (of_opd ! (get ! refl)) refl (ptr_typed handle.at) $ sets ! (agg ! (and_then ! (get ! refl) (and_then ! (get ! refl) (no_more !)))) refl typed $
       sets_last ! (agg ! (and_then ! (lit ! tt) (and_then ! (get ! refl) (no_more !)))) refl (and_tt _ typed.0, (record { fits = lit< tt }, (typed.1, tt))) $
       exec ! 𝓣.C 𝓣.Λ Ev (after 5 code.function.body) (at_ret Ev Post) $ sets ! (of_opd ! (get ! refl)) refl (and_tt _ typed.0, (record { fits = lit< tt }, (typed.1, tt))) $
-      rewrite ! 0 (λ (o : Option seat.the_row.Denot). ‵ (held_owns d.at d.alloc o)) held.1 refl $ parts_in ! made h $ use1 𝓛 (‵ (Out.own_val (Some made) (live 1 (vcons v vnil) ∷ []))) (Some-of 𝓛 SeatParts made v) $
+      rewrite ! 0 (λ (found_seat : Option seat.the_row.Denot). ‵ (held_owns handle.at handle.alloc found_seat)) held_seat.1 refl $ parts_in ! made heap_value $ use1 𝓛 (‵ (Out.own_val (Some made) (live 1 (vcons parts_word vnil) ∷ []))) (Some-of 𝓛 SeatParts made parts_word) $
       returns ! (look_at ! 0 refl) $ free_all ! refl $
-      suffices ! _ (ends_at 𝓛 F.ended stayed (F.clauses 𝓛 at_mem run) z (live 1 (vcons v vnil)) (Some made) (tt, tt) (tt, tt)) $ says ! held.1 $
+      suffices ! _ (ends_at 𝓛 F.ended stayed (F.clauses 𝓛 at_mem run) ghosts (live 1 (vcons parts_word vnil)) (Some made) (tt, tt) (tt, tt)) $ says ! held_seat.1 $
       nothing ! $ nothing ! $ fjoin ! $ join ! $ nothing ! $ join ! $ done !)
       (λ empty_.
       sets_last ! (agg ! (and_then ! (lit ! tt) (no_more !))) refl (tt, (record { fits = lit< tt }, tt)) $
       exec ! 𝓣.C 𝓣.Λ Ev (after 5 code.function.body) (at_ret Ev Post) $ sets ! (of_opd ! (get ! refl)) refl (tt, (record { fits = lit< tt }, tt)) $
       drop ! $ drop ! $ use0 𝓛 (‵ (Out.own_val None (live 0 vnil ∷ []))) (none_of 𝓛 SeatParts) $
       returns ! (look_at ! 0 refl) $ free_all ! refl $
-      suffices ! _ (ends_at 𝓛 F.ended stayed (F.clauses 𝓛 at_mem run) z (live 0 vnil) None (tt, tt) (tt, tt)) $ says ! (none_is d.held d.is_open d.told empty_) $
+      suffices ! _ (ends_at 𝓛 F.ended stayed (F.clauses 𝓛 at_mem run) ghosts (live 0 vnil) None (tt, tt) (tt, tt)) $ says ! (none_is handle.held handle.is_open handle.told empty_) $
       nothing ! $ nothing ! $ fjoin ! $ join ! $ nothing ! $ join ! $ done !)))))
 
 pub into_parts_spec : {M : Type 1} → stated.statement M

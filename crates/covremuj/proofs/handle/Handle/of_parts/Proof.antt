@@ -37,23 +37,23 @@ stayed = (stay_dropped Parted yes, tt)
 module _ {M : Type 1} {𝓤 : Ura M} (𝓛 : Logic 𝓤) (at_mem : Memory → SProp 𝓤) (run : Routine → Fun 𝓤) (𝓣 : Tables 𝓤 𝓛.H) where
   open 𝓛 use {H}
 
-  walk : (z : (walk_of 𝓛 F.ended stayed (F.clauses 𝓛 at_mem run)).Ghost)
-      → ent 𝓤 ((walk_of 𝓛 F.ended stayed (F.clauses 𝓛 at_mem run)).pre z) (WpFn 𝓤 H 𝓣.C 𝓣.Λ code.function (z.0.4.0 ++ []) ((walk_of 𝓛 F.ended stayed (F.clauses 𝓛 at_mem run)).post z))
-  walk z =
-      let Post = (walk_of 𝓛 F.ended stayed (F.clauses 𝓛 at_mem run)).post z in
-      let v : D seat_box = record { ptr = z.0.3.0.address; alloc = z.0.3.0.allocator; value = z.0.3.0.inside } in
+  walk : (ghosts : (walk_of 𝓛 F.ended stayed (F.clauses 𝓛 at_mem run)).Ghost)
+      → ent 𝓤 ((walk_of 𝓛 F.ended stayed (F.clauses 𝓛 at_mem run)).pre ghosts) (WpFn 𝓤 H 𝓣.C 𝓣.Λ code.function (ghosts.0.4.0 ++ []) ((walk_of 𝓛 F.ended stayed (F.clauses 𝓛 at_mem run)).post ghosts))
+  walk ghosts =
+      let Post = (walk_of 𝓛 F.ended stayed (F.clauses 𝓛 at_mem run)).post ghosts in
+      let given_box : D seat_box = record { ptr = ghosts.0.3.0.address; alloc = ghosts.0.3.0.allocator; value = ghosts.0.3.0.inside } in
       let To = type_at (F.signature).result tt in
-      qed 𝓛 ((‵ ftrue ⊛ ‵ (fsep ((B seat_box).own_val v z.0.4.0) ftrue)) ∷ raw (emp 𝓤) ∷ []) ∵ split ! $ drop ! $ fsplit ! $
-      box_out seat_box ! v z.0.4.0 (λ b o h e ws fits. fjoin ! $
-      let made : To.Denot = record { at = block_ptr b o; is_open = true; alloc = v.alloc; held = Some v.value; told = refl } in
-      handle_in ! made h $ use1 𝓛 (‵ (To.own_val made (triple (vptr b o) (vbool true) h ∷ []))) (id⊢ 𝓤 _) $ move ! (1 ∷ 2 ∷ []) $ drop ! $ drop ! $
-      let Γ : List (Item 𝓤) = ‵ (To.own_val made (triple (vptr b o) (vbool true) h ∷ [])) ∷ [] in
-      by ! (subst (λ (us : List Val). ent 𝓤 (types.Kit.⋆ 𝓛 Γ) (WpFn 𝓤 H 𝓣.C 𝓣.Λ code.function (us ++ []) Post)) (sym ws)
-      (qed 𝓛 Γ ∵ enter ! 𝓣.C 𝓣.Λ code.function (word seat_box h b o ∷ []) _ $ alloc_all ! (λ ls. pass_all ! refl (box_typed seat_box h b o fits, tt) $
+      qed 𝓛 ((‵ ftrue ⊛ ‵ (fsep ((B seat_box).own_val given_box ghosts.0.4.0) ftrue)) ∷ raw (emp 𝓤) ∷ []) ∵ split ! $ drop ! $ fsplit ! $
+      box_out seat_box ! given_box ghosts.0.4.0 (λ block box_offset heap_value offset_is words fits. fjoin ! $
+      let made : To.Denot = record { at = block_ptr block box_offset; is_open = true; alloc = given_box.alloc; held = Some given_box.value; told = refl } in
+      handle_in ! made heap_value $ use1 𝓛 (‵ (To.own_val made (triple (vptr block box_offset) (vbool true) heap_value ∷ []))) (id⊢ 𝓤 _) $ move ! (1 ∷ 2 ∷ []) $ drop ! $ drop ! $
+      let Γ : List (Item 𝓤) = ‵ (To.own_val made (triple (vptr block box_offset) (vbool true) heap_value ∷ [])) ∷ [] in
+      by ! (subst (λ (some_words : List Val). ent 𝓤 (types.Kit.⋆ 𝓛 Γ) (WpFn 𝓤 H 𝓣.C 𝓣.Λ code.function (some_words ++ []) Post)) (sym words)
+      (qed 𝓛 Γ ∵ enter ! 𝓣.C 𝓣.Λ code.function (word seat_box heap_value block box_offset ∷ []) _ $ alloc_all ! (λ locals. pass_all ! refl (box_typed seat_box heap_value block box_offset fits, tt) $
       sets ! (of_opd ! (get_in ! (fld ! refl (stop !)) (sub ! 0 refl (whole !)))) refl (tt, tt) $ sets ! (of_opd ! (get_in ! (fld ! refl (stop !)) (sub ! 1 refl (whole !)))) refl fits $
       sets ! (of_opd ! (get ! refl)) refl (tt, tt) $
-      sets ! (agg ! (and_then ! (get ! refl) (and_then ! (true_lit !) (and_then ! (get ! refl) (no_more !))))) refl (triple_typed (block_ptr b o) true h fits) $ returns ! (look_at ! 0 refl) $ free_all ! refl $
-      suffices ! _ (ends_at 𝓛 F.ended stayed (F.clauses 𝓛 at_mem run) z (triple (vptr b o) (vbool true) h) made (tt, tt) (tt, tt)) $ says ! refl $
+      sets ! (agg ! (and_then ! (get ! refl) (and_then ! (true_lit !) (and_then ! (get ! refl) (no_more !))))) refl (triple_typed (block_ptr block box_offset) true heap_value fits) $ returns ! (look_at ! 0 refl) $ free_all ! refl $
+      suffices ! _ (ends_at 𝓛 F.ended stayed (F.clauses 𝓛 at_mem run) ghosts (triple (vptr block box_offset) (vbool true) heap_value) made (tt, tt) (tt, tt)) $ says ! refl $
       nothing ! $ nothing ! $ fjoin ! $ join ! $ nothing ! $ join ! $ done !))))
 
 pub of_parts_spec : {M : Type 1} → stated.statement M

@@ -74,44 +74,44 @@ module _ (box : Bx) (let_go : Dict) where
 
     -- what is told of the pair that the call gives: it has the allocator, and the address is owned as the box was
     abbrev Told : (allocator : box.al.row.Denot) → box.row.Denot → Ptr × box.al.row.Denot → Item 𝓤
-    Told allocator x pair = raw (fact 𝓤 (pair.1 ≡ allocator)) ⊛ ‵ (box_owns (token box.al allocator) (R box) pair.0 x)
+    Told allocator value pair = raw (fact 𝓤 (pair.1 ≡ allocator)) ⊛ ‵ (box_owns (token box.al allocator) (R box) pair.0 value)
 
-    walk : Triple 𝓤 (𝓣.C (call_name.name inside)) TakesApart → (z : (walk_of 𝓛 owed kept clauses).Ghost)
-        → ent 𝓤 ((walk_of 𝓛 owed kept clauses).pre z) (WpFn 𝓤 H 𝓣.C 𝓣.Λ body (z.0.4.0 ++ []) ((walk_of 𝓛 owed kept clauses).post z))
-    walk met z =
-        let lifetimes = z.0.0 in let shares = z.0.1 in let given = z.0.3.0 in let words = z.0.4.0 in
-        let Post = (walk_of 𝓛 owed kept clauses).post z in
+    walk : Triple 𝓤 (𝓣.C (call_name.name inside)) TakesApart → (ghosts : (walk_of 𝓛 owed kept clauses).Ghost)
+        → ent 𝓤 ((walk_of 𝓛 owed kept clauses).pre ghosts) (WpFn 𝓤 H 𝓣.C 𝓣.Λ body (ghosts.0.4.0 ++ []) ((walk_of 𝓛 owed kept clauses).post ghosts))
+    walk met ghosts =
+        let lifetimes = ghosts.0.0 in let shares = ghosts.0.1 in let given_box = ghosts.0.3.0 in let words = ghosts.0.4.0 in
+        let Post = (walk_of 𝓛 owed kept clauses).post ghosts in
         let tokens : Item 𝓤 = ‵ (flft lifetimes.0 shares.0) ⊛ ‵ (flft lifetimes.1.0 shares.1.0) ⊛ ‵ ftrue in
         let outlived : Item 𝓤 = raw (fact 𝓤 (lifetimes.0 ⊑ box.row.lives)) ⊛ raw (fact 𝓤 (lifetimes.1.0 ⊑ box.al.row.lives)) ⊛ ‵ ftrue in
-        qed 𝓛 ((tokens ⊛ ‵ (fsep ((B box).own_val given words) ftrue)) ∷ outlived ∷ []) ∵ split ! $ move ! (1 ∷ []) $ fsplit ! $
-        box_out box ! given words (λ block at handle at_is words_are handle_fits. box_in box ! given block at given.value at_is refl $
-        let passed = word box handle block at in
-        let passed_typed = box_typed box handle block at handle_fits in
-        let at_call : TakesApart.Ghost = ((lifetimes, shares, tt, (given, tt), (passed ∷ [], tt)), tt) in
-        let before : List (Item 𝓤) = ‵ ((B box).own_val given (passed ∷ [])) ∷ ‵ ftrue ∷ tokens ∷ outlived ∷ [] in
-        by ! (subst (λ (ws : List Val). ent 𝓤 (types.Kit.⋆ 𝓛 before) (WpFn 𝓤 H 𝓣.C 𝓣.Λ body (ws ++ []) Post)) (sym words_are)
+        qed 𝓛 ((tokens ⊛ ‵ (fsep ((B box).own_val given_box words) ftrue)) ∷ outlived ∷ []) ∵ split ! $ move ! (1 ∷ []) $ fsplit ! $
+        box_out box ! given_box words (λ block box_offset handle offset_is words_are handle_fits. box_in box ! given_box block box_offset given_box.value offset_is refl $
+        let passed = word box handle block box_offset in
+        let passed_typed = box_typed box handle block box_offset handle_fits in
+        let at_call : TakesApart.Ghost = ((lifetimes, shares, tt, (given_box, tt), (passed ∷ [], tt)), tt) in
+        let before : List (Item 𝓤) = ‵ ((B box).own_val given_box (passed ∷ [])) ∷ ‵ ftrue ∷ tokens ∷ outlived ∷ [] in
+        by ! (subst (λ (some_words : List Val). ent 𝓤 (types.Kit.⋆ 𝓛 before) (WpFn 𝓤 H 𝓣.C 𝓣.Λ body (some_words ++ []) Post)) (sym words_are)
         (qed 𝓛 before ∵ enter ! 𝓣.C 𝓣.Λ body (passed ∷ []) _ $ alloc_all ! (λ locals. pass_all ! refl (passed_typed, tt) $
         -- the box is moved, and passed with the tokens
         sets ! (of_opd ! (get ! refl)) refl passed_typed $ fjoin ! $ move ! (1 ∷ 0 ∷ []) $ join ! $ join ! $ use1 𝓛 (raw (TakesApart.pre at_call)) (id⊢ 𝓤 _) $
-        calls_at ! (fm_of 𝓤 H 𝓛.laws 𝓣) TakesApart met at_call (and_then ! (get ! refl) (no_more !)) (λ got.
-        use1 𝓛 (later (some (λ (pair : Ptr × box.al.row.Denot). (tokens ⊛ ‵ ((Tuple (RawPtr ∷ P box ∷ [])).own_val pair (got ∷ []))) ⊛ some (λ (_ : (Unit {0} × (Unit {0} × Unit {0})) × Unit {0}). ‵ (fsep (fsep ftrue (fsep ftrue ftrue)) ftrue) ⊛ Told given.alloc given.value pair)))) (id⊢ 𝓤 _) $
-        await ! tt $ pick ! (λ pair. split ! $ move ! (1 ∷ []) $ pick ! (λ _. split3 ! $ drop ! $ heard ! (pair.1 ≡ given.alloc) (λ same_allocator.
-        in_a_block ! pair.0 (λ p. box_owns (token box.al given.alloc) (R box) p given.value) (fst∗ 𝓤 (never 𝓤) (sem 𝓛 (token box.al given.alloc (bare (τ box)) null_ptr))) (λ block_there offset pointer_is.
+        calls_at ! (fm_of 𝓤 H 𝓛.laws 𝓣) TakesApart met at_call (and_then ! (get ! refl) (no_more !)) (λ pair_got.
+        use1 𝓛 (later (some (λ (pair : Ptr × box.al.row.Denot). (tokens ⊛ ‵ ((Tuple (RawPtr ∷ P box ∷ [])).own_val pair (pair_got ∷ []))) ⊛ some (λ (_ : (Unit {0} × (Unit {0} × Unit {0})) × Unit {0}). ‵ (fsep (fsep ftrue (fsep ftrue ftrue)) ftrue) ⊛ Told given_box.alloc given_box.value pair)))) (id⊢ 𝓤 _) $
+        await ! tt $ pick ! (λ pair. split ! $ move ! (1 ∷ []) $ pick ! (λ _. split3 ! $ drop ! $ heard ! (pair.1 ≡ given_box.alloc) (λ same_allocator.
+        in_a_block ! pair.0 (λ address. box_owns (token box.al given_box.alloc) (R box) address given_box.value) (fst∗ 𝓤 (never 𝓤) (sem 𝓛 (token box.al given_box.alloc (bare (τ box)) null_ptr))) (λ block_there offset pointer_is.
         -- the pair's words are those of its fields
         move ! (1 ∷ []) $ split ! $ move ! (1 ∷ []) $ fpick ! (λ fields. fsplit ! $ feq_l ! (λ got_is. fsplit ! $ feq_l ! (λ address_is. fsplit ! $
-        rewrite ! 0 (λ (s : box.al.row.Denot). ‵ (box.al.row.own_val s fields.1.0)) same_allocator refl $ handle_tells box.al ! given.alloc fields.1.0 (λ its_handle handle_is its_handle_fits.
-        let reached : D box = record { ptr = block_ptr block_there offset; alloc = given.alloc; value = given.value } in
-        let made : Result.Denot = record { address = block_ptr block_there offset; allocator = given.alloc; inside = given.value } in
-        let out = word box its_handle block_there offset in
+        rewrite ! 0 (λ (allocator_value : box.al.row.Denot). ‵ (box.al.row.own_val allocator_value fields.1.0)) same_allocator refl $ handle_tells box.al ! given_box.alloc fields.1.0 (λ its_handle handle_is its_handle_fits.
+        let reached : D box = record { ptr = block_ptr block_there offset; alloc = given_box.alloc; value = given_box.value } in
+        let made : Result.Denot = record { address = block_ptr block_there offset; allocator = given_box.alloc; inside = given_box.value } in
+        let pair_words = word box its_handle block_there offset in
         let out_typed = box_typed box its_handle block_there offset its_handle_fits in
-        lands_as ! (ap only (got_is ∙ (λ j. vstruct (of_list ((address_is ∙ ap (λ (p : Ptr). ptr_val p ∷ []) pointer_is) j ++ (handle_is j ++ []))) ∷ []))) refl out_typed $
+        lands_as ! (ap only (got_is ∙ (λ j. vstruct (of_list ((address_is ∙ ap (λ (address : Ptr). ptr_val address ∷ []) pointer_is) j ++ (handle_is j ++ []))) ∷ []))) refl out_typed $
         sets ! (of_opd ! (get_in ! (fld ! refl (stop !)) (sub ! 0 refl (whole !)))) refl (tt, tt) $
         sets ! (of_opd ! (get_in ! (fld ! refl (stop !)) (sub ! 1 refl (whole !)))) refl its_handle_fits $
         sets ! (of_opd ! (get ! refl)) refl its_handle_fits $
         sets ! (agg ! (and_then ! (get ! refl) (and_then ! (get ! refl) (no_more !)))) refl out_typed $ returns ! (look_at ! 0 refl) $ free_all ! refl $
         -- what is owned is what a box of these fields would own, and that is what the parts own
-        move ! (3 ∷ []) $ fsplit ! $ box_in box ! reached block_there offset given.value refl refl $ use1 𝓛 (‵ (Result.own_val made (out ∷ []))) (id⊢ 𝓤 _) $ move ! (1 ∷ []) $ drop ! $
-        suffices ! _ (ends_at 𝓛 owed kept clauses z out made ((tt, (tt, tt)), tt) (tt, tt)) $ says ! refl $
+        move ! (3 ∷ []) $ fsplit ! $ box_in box ! reached block_there offset given_box.value refl refl $ use1 𝓛 (‵ (Result.own_val made (pair_words ∷ []))) (id⊢ 𝓤 _) $ move ! (1 ∷ []) $ drop ! $
+        suffices ! _ (ends_at 𝓛 owed kept clauses ghosts pair_words made ((tt, (tt, tt)), tt) (tt, tt)) $ says ! refl $
         nothing ! $ nothing ! $ fjoin ! $ join ! $ move ! (1 ∷ 0 ∷ []) $ join ! $ done !)))))))))))))
 
 pub of_box_spec : {M : Type 1} → stated.statement M
@@ -123,5 +123,5 @@ of_box_spec 𝓤 𝓛 𝓜 𝓡 wired Inside Allocator inside_laws allocator_law
     let met = call_met.met 𝓤 𝓛 𝓜 𝓡 (code.calls-std_alloc::boxed::Box::into_raw_with_allocator 𝓡.env wired) Inside Allocator inside_laws allocator_laws ghosts dict lets_go let_go is_allocator meets glued in
     entered 𝓤 𝓛.H (triple_of 𝓛 (owed box let_go).signature (this.spec Inside Allocator ghosts dict lets_go let_go 𝓛 𝓜.mem 𝓡.returns)) 𝓣.C 𝓣.Λ (#this (inside box let_go)) (body box let_go)
     (code.unfolded 𝓤 𝓛.H 𝓜 𝓡 wired (Inside, (Allocator, tt)) dict lets_go let_go)
-    (walk_Meets 𝓛 (owed box let_go) (kept box let_go) (Goes-blank 𝓛 2 (plain (λ _. B box)) no (λ ls xs f. tt), tt) (clauses box let_go 𝓛 𝓜.mem 𝓡.returns 𝓣) run_as (WpFn-mono 𝓤 𝓛.H 𝓛.laws 𝓣 (body box let_go))
+    (walk_Meets 𝓛 (owed box let_go) (kept box let_go) (Goes-blank 𝓛 2 (plain (λ _. B box)) no (λ locals arguments f. tt), tt) (clauses box let_go 𝓛 𝓜.mem 𝓡.returns 𝓣) run_as (WpFn-mono 𝓤 𝓛.H 𝓛.laws 𝓣 (body box let_go))
     (walk box let_go 𝓛 𝓜.mem 𝓡.returns 𝓣 met))

@@ -71,22 +71,22 @@ module _ (box : Bx) where
     abbrev MakesBox : Contract 𝓤
     MakesBox = triple_of 𝓛 (call.signature box.row box.al.row box.al.g box.al.d box.al.drops) (call.spec box.row box.al.row box.al.g box.al.d box.al.drops 𝓛 at_mem run)
 
-    walk : Triple 𝓤 (𝓣.C (call_name.name (args box))) MakesBox → (z : (walk_of 𝓛 owed kept clauses).Ghost)
-        → ent 𝓤 ((walk_of 𝓛 owed kept clauses).pre z) (WpFn 𝓤 H 𝓣.C 𝓣.Λ body (z.0.4.0 ++ []) ((walk_of 𝓛 owed kept clauses).post z))
-    walk met z =
-        let lifetimes = z.0.0 in let shares = z.0.1 in let given = z.0.3.0 in let words = z.0.4.0 in
-        let Post = (walk_of 𝓛 owed kept clauses).post z in
-        let as_box : D box = record { ptr = given.address; alloc = given.allocator; value = given.inside } in
+    walk : Triple 𝓤 (𝓣.C (call_name.name (args box))) MakesBox → (ghosts : (walk_of 𝓛 owed kept clauses).Ghost)
+        → ent 𝓤 ((walk_of 𝓛 owed kept clauses).pre ghosts) (WpFn 𝓤 H 𝓣.C 𝓣.Λ body (ghosts.0.4.0 ++ []) ((walk_of 𝓛 owed kept clauses).post ghosts))
+    walk met ghosts =
+        let lifetimes = ghosts.0.0 in let shares = ghosts.0.1 in let given_parts = ghosts.0.3.0 in let words = ghosts.0.4.0 in
+        let Post = (walk_of 𝓛 owed kept clauses).post ghosts in
+        let as_box : D box = record { ptr = given_parts.address; alloc = given_parts.allocator; value = given_parts.inside } in
         let tokens : Item 𝓤 = ‵ (flft lifetimes.0 shares.0) ⊛ ‵ (flft lifetimes.1.0 shares.1.0) ⊛ ‵ ftrue in
         let outlived : Item 𝓤 = raw (fact 𝓤 (lifetimes.0 ⊑ box.row.lives)) ⊛ raw (fact 𝓤 (lifetimes.1.0 ⊑ box.al.row.lives)) ⊛ ‵ ftrue in
         qed 𝓛 ((tokens ⊛ ‵ (fsep ((B box).own_val as_box words) ftrue)) ∷ outlived ∷ []) ∵ split ! $ move ! (1 ∷ []) $ fsplit ! $
-        box_out box ! as_box words (λ block at handle at_is words_are handle_fits. fjoin ! $
-        let passed = word box handle block at in
-        let pointer = vptr block at in
-        let at_call : MakesBox.Ghost = ((lifetimes, shares, tt, (given.allocator, (block_ptr block at, tt)), (handle ∷ [], (pointer ∷ [], tt))), given.inside) in
-        let before : List (Item 𝓤) = ‵ (box_owns (token box.al given.allocator) (R box) (block_ptr block at) given.inside) ∷ ‵ ((P box).own_val given.allocator (handle ∷ [])) ∷ ‵ ftrue ∷ tokens ∷ outlived ∷ [] in
-        by ! (subst (λ (ws : List Val). ent 𝓤 (types.Kit.⋆ 𝓛 before) (WpFn 𝓤 H 𝓣.C 𝓣.Λ body (ws ++ []) Post)) (sym words_are)
-        (qed 𝓛 before ∵ enter ! 𝓣.C 𝓣.Λ body (passed ∷ []) _ $ alloc_all ! (λ locals. let here = env body.locals locals in pass_all ! refl (box_typed box handle block at handle_fits, tt) $
+        box_out box ! as_box words (λ block box_offset handle address_is words_are handle_fits. fjoin ! $
+        let passed = word box handle block box_offset in
+        let pointer = vptr block box_offset in
+        let at_call : MakesBox.Ghost = ((lifetimes, shares, tt, (given_parts.allocator, (block_ptr block box_offset, tt)), (handle ∷ [], (pointer ∷ [], tt))), given_parts.inside) in
+        let before : List (Item 𝓤) = ‵ (box_owns (token box.al given_parts.allocator) (R box) (block_ptr block box_offset) given_parts.inside) ∷ ‵ ((P box).own_val given_parts.allocator (handle ∷ [])) ∷ ‵ ftrue ∷ tokens ∷ outlived ∷ [] in
+        by ! (subst (λ (some_words : List Val). ent 𝓤 (types.Kit.⋆ 𝓛 before) (WpFn 𝓤 H 𝓣.C 𝓣.Λ body (some_words ++ []) Post)) (sym words_are)
+        (qed 𝓛 before ∵ enter ! 𝓣.C 𝓣.Λ body (passed ∷ []) _ $ alloc_all ! (λ locals. let body_env = env body.locals locals in pass_all ! refl (box_typed box handle block box_offset handle_fits, tt) $
         -- the two fields are moved out
         sets ! (of_opd ! (get_in ! (fld ! refl (stop !)) (sub ! 0 refl (whole !)))) refl (tt, tt) $
         sets ! (of_opd ! (get_in ! (fld ! refl (stop !)) (sub ! 1 refl (whole !)))) refl handle_fits $
@@ -94,15 +94,15 @@ module _ (box : Bx) where
         -- what the call wants: what it requires; the allocator and the address; the tokens
         move ! (4 ∷ []) $ split3 ! $ move ! (2 ∷ []) $ drop ! $ move ! (1 ∷ 2 ∷ []) $ join ! $ move ! (1 ∷ 0 ∷ []) $ join ! $
         move ! (2 ∷ []) $ feq_i ! (List Val) (pointer ∷ []) (pointer ∷ []) refl $ fjoin ! $ move ! (2 ∷ 0 ∷ []) $ fjoin ! $ move ! (2 ∷ 0 ∷ []) $ join ! $ join ! $ use1 𝓛 (raw (MakesBox.pre at_call)) (id⊢ 𝓤 _) $
-        calls_at_last ! (fm_of 𝓤 H 𝓛.laws 𝓣) MakesBox met at_call (and_then ! (get ! refl) (and_then ! (get ! refl) (no_more !))) (λ got.
-        use1 𝓛 (later (some (λ (made : D box). (tokens ⊛ ‵ ((B box).own_val made (got ∷ []))) ⊛ some (λ (_ : Unit {0} × (Unit {0} × Unit {0})). ‵ (fsep ftrue (fsep ftrue ftrue)) ⊛ (raw (fact 𝓤 (made.value ≡ given.inside)) ⊛ raw (fact 𝓤 (made.alloc ≡ given.allocator))))))) (id⊢ 𝓤 _) $
-        await ! tt $ pick ! (λ made. split ! $ move ! (1 ∷ []) $ pick ! (λ _. split3 ! $ drop ! $ heard ! (made.value ≡ given.inside) (λ same_inside. drop ! $ split ! $ move ! (1 ∷ []) $
+        calls_at_last ! (fm_of 𝓤 H 𝓛.laws 𝓣) MakesBox met at_call (and_then ! (get ! refl) (and_then ! (get ! refl) (no_more !))) (λ box_got.
+        use1 𝓛 (later (some (λ (made : D box). (tokens ⊛ ‵ ((B box).own_val made (box_got ∷ []))) ⊛ some (λ (_ : Unit {0} × (Unit {0} × Unit {0})). ‵ (fsep ftrue (fsep ftrue ftrue)) ⊛ (raw (fact 𝓤 (made.value ≡ given_parts.inside)) ⊛ raw (fact 𝓤 (made.alloc ≡ given_parts.allocator))))))) (id⊢ 𝓤 _) $
+        await ! tt $ pick ! (λ made. split ! $ move ! (1 ∷ []) $ pick ! (λ _. split3 ! $ drop ! $ heard ! (made.value ≡ given_parts.inside) (λ same_inside. drop ! $ split ! $ move ! (1 ∷ []) $
         -- its word is that of a box
-        box_out box ! made (got ∷ []) (λ block_there offset its_handle offset_is got_is its_handle_fits. box_in box ! made block_there offset made.value offset_is refl $ rewrite ! 0 (λ (ws : List Val). ‵ ((B box).own_val made ws)) (sym got_is) refl $
-        let got_typed : T (has_ty (box_ty box) got) × WT got = subst (λ (s : Val). T (has_ty (box_ty box) s) × WT s) (sym (ap only got_is)) (box_typed box its_handle block_there offset its_handle_fits) in
-        lands_last ! refl got_typed $ exec ! 𝓣.C 𝓣.Λ here behind (at_ret here Post) $
+        box_out box ! made (box_got ∷ []) (λ block_there offset its_handle offset_is got_is its_handle_fits. box_in box ! made block_there offset made.value offset_is refl $ rewrite ! 0 (λ (some_words : List Val). ‵ ((B box).own_val made some_words)) (sym got_is) refl $
+        let got_typed : T (has_ty (box_ty box) box_got) × WT box_got = subst (λ (some_value : Val). T (has_ty (box_ty box) some_value) × WT some_value) (sym (ap only got_is)) (box_typed box its_handle block_there offset its_handle_fits) in
+        lands_last ! refl got_typed $ exec ! 𝓣.C 𝓣.Λ body_env behind (at_ret body_env Post) $
         sets ! (of_opd ! (get ! refl)) refl got_typed $ returns ! (look_at ! 0 refl) $ free_all ! refl $
-        suffices ! _ (ends_at 𝓛 owed kept clauses z got made ((tt, (tt, tt)), tt) (tt, tt)) $ says ! same_inside $
+        suffices ! _ (ends_at 𝓛 owed kept clauses ghosts box_got made ((tt, (tt, tt)), tt) (tt, tt)) $ says ! same_inside $
         nothing ! $ nothing ! $ fjoin ! $ join ! $ move ! (1 ∷ 0 ∷ []) $ join ! $ done !)))))))))
 
 pub together_spec : {M : Type 1} → stated.statement M
@@ -114,5 +114,5 @@ together_spec 𝓤 𝓛 𝓜 𝓡 wired Inside Allocator inside_laws allocator_l
     let met = call_met.met 𝓤 𝓛 𝓜 𝓡 (code.calls-std_alloc::boxed::Box::from_raw 𝓡.env wired) Inside Allocator inside_laws allocator_laws ghosts dict lets_go is_allocator meets in
     entered 𝓤 𝓛.H (triple_of 𝓛 (owed box).signature (this.spec Inside Allocator ghosts dict lets_go 𝓛 𝓜.mem 𝓡.returns)) 𝓣.C 𝓣.Λ (#this (args box)) (body box)
     (code.unfolded 𝓤 𝓛.H 𝓜 𝓡 wired (Inside, (Allocator, tt)) dict lets_go)
-    (walk_Meets 𝓛 (owed box) (kept box) (Goes-blank 𝓛 2 (plain (λ _. Given box)) no (λ ls xs f. tt), tt) (clauses box 𝓛 𝓜.mem 𝓡.returns 𝓣) run_as (WpFn-mono 𝓤 𝓛.H 𝓛.laws 𝓣 (body box))
+    (walk_Meets 𝓛 (owed box) (kept box) (Goes-blank 𝓛 2 (plain (λ _. Given box)) no (λ locals arguments f. tt), tt) (clauses box 𝓛 𝓜.mem 𝓡.returns 𝓣) run_as (WpFn-mono 𝓤 𝓛.H 𝓛.laws 𝓣 (body box))
     (walk box 𝓛 𝓜.mem 𝓡.returns 𝓣 met))

@@ -4,7 +4,7 @@ use Rattle.evac_room.specs.Copier.{spot_of}
 use Rattle.evac_room.proofs.copiers.Copiers.open.Given as goal
 
 abbrev pub invariant-loop : goal.invariant-loop
-invariant-loop l = record {
-  all : length l.copiers.items ≡ l.counter;
-  are : map spot_of l.copiers.items ≡ replicate l.counter Outside;
+invariant-loop loop = record {
+  all : length loop.copiers.items ≡ loop.counter;
+  are : map spot_of loop.copiers.items ≡ replicate loop.counter Outside;
 }

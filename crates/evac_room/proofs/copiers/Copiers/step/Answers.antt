@@ -7,10 +7,10 @@ use Rattle.evac_room.proofs.copiers.Copiers.step.Goals as goal
 
 pub advance-requires-clause-fit : goal.advance-requires-clause-fit
 advance-requires-clause-fit c =
-    let here = spot_here c.args.self.now.copiers.items c.args.number c.index_mut.result.now c.requires.number c.index_mut.ensures.value in
+    let spot_there = spot_here c.args.self.now.copiers.items c.args.number c.index_mut.result.now c.requires.number c.index_mut.ensures.value in
     from_memory (IsFit-prop _ _) _ _ c.args.self.now.few c.args.self.now.reached
-    (found_fits c.args.self.now.word c.args.self.now.copiers.items c.args.number c.index_mut.result.now c.args.wish here
-    (takes_here c.args.self.now.copiers.items c.args.number c.index_mut.result.now c.args.wish here c.requires.wish))
+    (found_fits c.args.self.now.word c.args.self.now.copiers.items c.args.number c.index_mut.result.now c.args.wish spot_there
+    (takes_here c.args.self.now.copiers.items c.args.number c.index_mut.result.now c.args.wish spot_there c.requires.wish))
 
 pub invariant_of-self : goal.invariant_of-self
 invariant_of-self c = record {
@@ -34,9 +34,9 @@ returns-clause-bit_stays c = from_memory (hlevel (Bool-set)) _ _ c.args.self.now
     c.requires.number c.index_mut.ensures.value c.requires.wish c.advance.ensures.spot c.advance.ensures.word) sound).bit_stays)
 
 pub returns-clause-stopped_is_quiet : goal.returns-clause-stopped_is_quiet
-returns-clause-stopped_is_quiet c = λ is. from_memory (IsQuiet-prop _) _ _ c.args.self.now.few c.args.self.now.reached
+returns-clause-stopped_is_quiet c = λ stopped. from_memory (IsQuiet-prop _) _ _ c.args.self.now.few c.args.self.now.reached
     (λ sound. (made_says _ _ _ _ _ _ _ (made_from c.args.self.now.word c.advance.new.word c.args.self.now.copiers.items c.args.number c.index_mut.result.now c.advance.new.self c.args.wish
-    c.requires.number c.index_mut.ensures.value c.requires.wish c.advance.ensures.spot c.advance.ensures.word) c.advance.result c.advance.ensures.says sound).stopped_is_quiet is)
+    c.requires.number c.index_mut.ensures.value c.requires.wish c.advance.ensures.spot c.advance.ensures.word) c.advance.result c.advance.ensures.says sound).stopped_is_quiet stopped)
 
 pub returns-clause-quiet_stays : goal.returns-clause-quiet_stays
 returns-clause-quiet_stays c = λ quiet. from_memory (IsQuiet-prop _) _ _ c.args.self.now.few c.args.self.now.reached

@@ -6,10 +6,10 @@ use Rattle.find_play.proofs.cast.Cast.open.Goals as goal
 pub loop-number-init : goal.loop-number-init
 loop-number-init c =
     let test = c.args.test.now in
-    let same : scene c.in_ok-cast.cast ≡ opening test.bounds.returns (length test.notes) = c.in_ok-cast.ensures ∙ ap (opening test.bounds.returns) c.len.ensures in
-    subst (Begun test.programs.items (opening test.bounds.returns (length test.notes)) 0) (sym same) Nobody
+    let same_scene : scene c.in_ok-cast.cast ≡ opening test.bounds.returns (length test.notes) = c.in_ok-cast.ensures ∙ ap (opening test.bounds.returns) c.len.ensures in
+    subst (Begun test.programs.items (opening test.bounds.returns (length test.notes)) 0) (sym same_scene) Nobody
 
 pub loop-number-preserved : goal.loop-number-preserved
 loop-number-preserved c =
     Another c.loop-number.number (scene c.loop-number.cast) (scene c.step.new.self) c.loop-number.invariant
-    (subst (λ (ps : Programs). StepsOn ps c.loop-number.number None (scene c.loop-number.cast) (scene c.step.new.self)) c.deref.ensures.value c.step.ensures)
+    (subst (λ (programs : Programs). StepsOn programs c.loop-number.number None (scene c.loop-number.cast) (scene c.step.new.self)) c.deref.ensures.value c.step.ensures)

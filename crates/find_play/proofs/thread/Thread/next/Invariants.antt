@@ -5,7 +5,7 @@ use Rattle.find_play.specs.Meaning.{Runs}
 use Rattle.find_play.proofs.thread.Thread.next.Given as goal
 
 abbrev pub invariant-moves : goal.invariant-moves
-invariant-moves l = (next : Next) (end : Thread) → Runs l.program l.reply l.self next end → Runs l.program l.reply l.fn.self next end
+invariant-moves locals = (next : Next) (end : Thread) → Runs locals.program locals.reply locals.self next end → Runs locals.program locals.reply locals.fn.self next end
 
 abbrev pub decreases-moves : goal.decreases-moves
-decreases-moves l = l.self.left * (length l.program + 1) + (length l.program - l.self.at)
+decreases-moves locals = locals.self.left * (length locals.program + 1) + (length locals.program - locals.self.at)

@@ -3,4 +3,4 @@ use Rattle.find_search.specs.Courses.{IsResting}
 use Rattle.find_search.proofs.course.Course.do_mutators_rest.Given as goal
 
 abbrev pub invariant-loop-mutator : goal.invariant-loop-mutator
-invariant-loop-mutator l = (k : ℕ) → k < l.mutator → IsResting l.self k
+invariant-loop-mutator loop = (mutator : ℕ) → mutator < loop.mutator → IsResting loop.self mutator

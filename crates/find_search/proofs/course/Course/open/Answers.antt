@@ -8,13 +8,13 @@ use Rattle.find_search.proofs.course.Course.open.Goals as goal
 
 pub invariant_of-course-2 : goal.invariant_of-course-2
 invariant_of-course-2 c =
-    let p = c.in_ok-open.field-0 in
+    let plain = c.in_ok-open.field-0 in
     let scripts = c.in_ok-empty_scripts.field-0.items in
-    let same = c.in_ok-open.ensures.config in
-    let mutators = ap (λ (config : Config). config.mutators) same in
+    let same_config = c.in_ok-open.ensures.config in
+    let mutators = ap (λ (config : Config). config.mutators) same_config in
     let count = c.in_ok-empty_scripts.ensures.count in
-    let most = c.args.test.now.config.in_range.most_mutators in
-    let can = can_run_first p scripts (subst (λ (config : Config). Shows p (opening config)) (sym same) c.in_ok-open.ensures.opening) c.in_ok-open.ensures.orders
-    (omega (arith, mutators, count, c.mutators-mutators.ensures)) (omega (arith, count, c.mutators-mutators.ensures, most))
-    (λ k d below. subst IsRunnable (sym (c.in_ok-empty_scripts.ensures.empty k d below)) ((λ j e lt. absurd (omega (arith, lt))), omega arith)) in
-    record { can_run = subst (CanRun p) (sym (c.work.view_is ∙ c.in-Ok.ensures)) can }
+    let few_mutators = c.args.test.now.config.in_range.most_mutators in
+    let can_run = can_run_first plain scripts (subst (λ (config : Config). Shows plain (opening config)) (sym same_config) c.in_ok-open.ensures.opening) c.in_ok-open.ensures.orders
+    (omega (arith, mutators, count, c.mutators-mutators.ensures)) (omega (arith, count, c.mutators-mutators.ensures, few_mutators))
+    (λ place otherwise place_below. subst IsRunnable (sym (c.in_ok-empty_scripts.ensures.empty place otherwise place_below)) ((λ index fallback index_below. absurd (omega (arith, index_below))), omega arith)) in
+    record { can_run = subst (CanRun plain) (sym (c.work.view_is ∙ c.in-Ok.ensures)) can_run }

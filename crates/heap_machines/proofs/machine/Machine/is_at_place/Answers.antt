@@ -15,7 +15,7 @@ pub returns-then-not-is_idle : goal.returns-then-not-is_idle
 returns-then-not-is_idle c =
     let mutator = c.in-Mutator-2.mutator in
     let place = c.args.place in
-    let none : order_of mutator ≡ Nothing = subst (λ (machine : Machine). machines.order_of machine ≡ Nothing) c.in-Mutator-2.is c.requires in
-    let busy : is_between_calls mutator.spot ≡ false = busy_without_order (is_between_calls mutator.spot) (order_of mutator) none (sym c.is_idle.ensures.idle ∙ c.if-not-is_idle.true) in
+    let no_order : order_of mutator ≡ Nothing = subst (λ (machine : Machine). machines.order_of machine ≡ Nothing) c.in-Mutator-2.is c.requires in
+    let spot_busy : is_between_calls mutator.spot ≡ false = busy_without_order (is_between_calls mutator.spot) (order_of mutator) no_order (sym c.is_idle.ensures.idle ∙ c.if-not-is_idle.true) in
     subst (λ (machine : Machine). c.is-then-not-is_idle.result ≡ is_machine_at place (machines.shown machine) (order_for c.args.next (machines.shown machine))) (sym c.in-Mutator-2.is)
-    (c.is-then-not-is_idle.ensures.test ∙ ap (λ p. same_place p place) (c.place.ensures ∙ ap (λ o. place_at o mutator.spot) none) ∙ sym (stands_in_call (seen mutator) c.args.next place busy))
+    (c.is-then-not-is_idle.ensures.test ∙ ap (λ asked_place. same_place asked_place place) (c.place.ensures ∙ ap (λ order. place_at order mutator.spot) no_order) ∙ sym (stands_in_call (seen mutator) c.args.next place spot_busy))

@@ -12,7 +12,7 @@ use Rattle.heap_machines.proofs.machine.Machine.loaded.Goals as goal
 pub returns-clause-shown : goal.returns-clause-shown
 returns-clause-shown c =
     ap controlling c.loaded.ensures.row
-    ∙ ap (λ o. machine_after pause_image (config_in c.in-Control.control) (hinting o) c.args.got (controlling (seen_control c.in-Control.control))) (sym c.loaded.ensures.none)
+    ∙ ap (λ hint. machine_after pause_image (config_in c.in-Control.control) (hinting hint) c.args.got (controlling (seen_control c.in-Control.control))) (sym c.loaded.ensures.none)
     ∙ ap (λ (machine : Machine). machine_after pause_image (config_of machine) (order_of machine) c.args.got (shown machine)) (sym c.in-Control.is)
 
 pub returns-clause-heap : goal.returns-clause-heap

@@ -11,7 +11,7 @@ use Rattle.heap_machines.proofs.machine.Machine.next_to_store.Goals as goal
 pub returns-clause-row : goal.returns-clause-row
 returns-clause-row c =
     c.next_to_store.ensures.row
-    ∙ ap (λ o. plan_of (config_in c.in-Control.control) (hinting o) (controlling (seen_control c.in-Control.control))) (sym c.next_to_store.ensures.none)
+    ∙ ap (λ hint. plan_of (config_in c.in-Control.control) (hinting hint) (controlling (seen_control c.in-Control.control))) (sym c.next_to_store.ensures.none)
     ∙ ap (λ (machine : Machine). plan_of (config_of machine) (order_of machine) (shown machine)) (sym c.in-Control.is)
 
 pub returns-clause-inside : goal.returns-clause-inside

@@ -10,8 +10,8 @@ use Rattle.heap_machines.proofs.machine.Machine.order_next.Goals as goal
 pub returns-then-not-may_begin-clause-turn : goal.returns-then-not-may_begin-clause-turn
 returns-then-not-may_begin-clause-turn c =
     let machine = c.args.self.now in
-    let busy : may_begin (shown machine) ≡ false = sym c.may_begin.ensures ∙ c.if-not-may_begin.true in
+    let machine_busy : may_begin (shown machine) ≡ false = sym c.may_begin.ensures ∙ c.if-not-may_begin.true in
     let takes : takes_of (shown machine) Nothing ≡ not c.is_idle.result = ap (takes_of (shown machine)) (sym c.requires.none) ∙ c.is_idle.ensures in
-    turn_in_call (shown machine) c.args.next busy
+    turn_in_call (shown machine) c.args.next machine_busy
     ∙ ap (λ (holds : Bool). if◌then◌else◌ {A = Option Order} holds (Some Nothing) None) takes
     ∙ ap (λ (order : Order). if◌then◌else◌ {A = Option Order} (not c.is_idle.result) (Some order) None) (sym c.requires.none)

@@ -21,7 +21,7 @@ returns-in-Mutator-clause-inside c = subst (λ (machine : Machine). table_index 
 pub returns-in-Helper-clause-row : goal.returns-in-Helper-clause-row
 returns-in-Helper-clause-row c =
     let helper = c.in-Helper.helper in
-    c.plan-in-Helper.ensures.row ∙ ap (λ (other_helper : Helping). placed (helpers.config_of helper) (help_touch (helpers.config_of helper) other_helper)) (sym (helped (helpers.config_of helper) (helpers.hint_of helper) (helpers.seen_helper helper)))
+    c.plan-in-Helper.ensures.row ∙ ap (λ (some_helper : Helping). placed (helpers.config_of helper) (help_touch (helpers.config_of helper) some_helper)) (sym (helped (helpers.config_of helper) (helpers.hint_of helper) (helpers.seen_helper helper)))
     ∙ ap (λ (machine : Machine). plan_of (config_of machine) (order_of machine) (shown machine)) (sym c.in-Helper.is)
 
 pub returns-in-Helper-clause-inside : goal.returns-in-Helper-clause-inside
@@ -30,7 +30,7 @@ returns-in-Helper-clause-inside c = subst (λ (machine : Machine). table_index c
 pub returns-in-Control-clause-row : goal.returns-in-Control-clause-row
 returns-in-Control-clause-row c =
     let control = c.in-Control.control in
-    c.plan-in-Control.ensures.row ∙ ap (λ (other_control : Controlling). control_access (config_in control) other_control) (sym (controlled (config_in control) (hint_of control) (seen_control control)))
+    c.plan-in-Control.ensures.row ∙ ap (λ (some_control : Controlling). control_access (config_in control) some_control) (sym (controlled (config_in control) (hint_of control) (seen_control control)))
     ∙ ap (λ (machine : Machine). plan_of (config_of machine) (order_of machine) (shown machine)) (sym c.in-Control.is)
 
 pub returns-in-Control-clause-inside : goal.returns-in-Control-clause-inside

@@ -14,14 +14,14 @@ use Rattle.heap_machines.proofs.machine.Machine.step_inside_image.Goals as goal
 pub returns-clause-words : goal.returns-clause-words
 returns-clause-words c =
     c.step_inside_image.ensures.words
-    ∙ ap (λ o. accessed (plan_of (config_in c.in-Control.control) (hinting o) (controlling (seen_control c.in-Control.control))) c.args.words.now.items) (sym c.step_inside_image.ensures.none)
+    ∙ ap (λ hint. accessed (plan_of (config_in c.in-Control.control) (hinting hint) (controlling (seen_control c.in-Control.control))) c.args.words.now.items) (sym c.step_inside_image.ensures.none)
     ∙ ap (λ (machine : Machine). accessed (plan_of (config_of machine) (order_of machine) (shown machine)) c.args.words.now.items) (sym c.in-Control.is)
 
 pub returns-clause-shown : goal.returns-clause-shown
 returns-clause-shown c =
     ap controlling c.step_inside_image.ensures.row
-    ∙ ap (λ o. machine_after pause_image (config_in c.in-Control.control) (hinting o)
-    (slice_index c.args.words.now.items (table_index (plan_of (config_in c.in-Control.control) (hinting o) (controlling (seen_control c.in-Control.control))))) (controlling (seen_control c.in-Control.control)))
+    ∙ ap (λ hint. machine_after pause_image (config_in c.in-Control.control) (hinting hint)
+    (slice_index c.args.words.now.items (table_index (plan_of (config_in c.in-Control.control) (hinting hint) (controlling (seen_control c.in-Control.control))))) (controlling (seen_control c.in-Control.control)))
     (sym c.step_inside_image.ensures.none)
     ∙ ap (λ (machine : Machine). machine_after pause_image (config_of machine) (order_of machine) (slice_index c.args.words.now.items (table_index (plan_of (config_of machine) (order_of machine) (shown machine)))) (shown machine)) (sym c.in-Control.is)
 

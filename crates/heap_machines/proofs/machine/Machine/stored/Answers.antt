@@ -12,7 +12,7 @@ use Rattle.heap_machines.proofs.machine.Machine.stored.Goals as goal
 pub returns-clause-shown : goal.returns-clause-shown
 returns-clause-shown c = λ got.
     ap controlling (c.stored.ensures.row got)
-    ∙ ap (λ o. machine_after pause_image (config_in c.in-Control.control) (hinting o) got (controlling (seen_control c.in-Control.control))) (sym c.stored.ensures.none)
+    ∙ ap (λ hint. machine_after pause_image (config_in c.in-Control.control) (hinting hint) got (controlling (seen_control c.in-Control.control))) (sym c.stored.ensures.none)
     ∙ ap (λ (machine : Machine). machine_after pause_image (config_of machine) (order_of machine) got (shown machine)) (sym c.in-Control.is)
 
 pub returns-clause-heap : goal.returns-clause-heap

@@ -27,15 +27,15 @@ pub took-requires-in-Control-clause-fit : goal.took-requires-in-Control-clause-f
 took-requires-in-Control-clause-fit c =
     let config = config_in c.in-Control.control in
     let hint = hint_of c.in-Control.control in
-    let k : Controlling = control_hinted config hint (seen_control c.in-Control.control) in
-    let fit = subst (λ (machine : Machine). IsFitFor (config_of machine) (order_of machine) c.args.got (shown machine)) c.in-Control.is c.requires.fit in
-    fit_for_control config k.phase k.spot k.image c.args.got (whole_with_hint config hint (seen_control c.in-Control.control) c.args.got fit.0)
-    (subst (λ (x : Controlling). UnitGoesOn config x.spot c.args.got) (controlled config hint (seen_control c.in-Control.control)) fit.1)
+    let hinted_control : Controlling = control_hinted config hint (seen_control c.in-Control.control) in
+    let got_fits = subst (λ (machine : Machine). IsFitFor (config_of machine) (order_of machine) c.args.got (shown machine)) c.in-Control.is c.requires.fit in
+    fit_for_control config hinted_control.phase hinted_control.spot hinted_control.image c.args.got (whole_with_hint config hint (seen_control c.in-Control.control) c.args.got got_fits.0)
+    (subst (λ (some_control : Controlling). UnitGoesOn config some_control.spot c.args.got) (controlled config hint (seen_control c.in-Control.control)) got_fits.1)
 
 pub returns-in-Control-clause-replied : goal.returns-in-Control-clause-replied
-returns-in-Control-clause-replied c = λ done.
-    let k : Controlling = control_hinted (config_in c.in-Control.control) (hint_of c.in-Control.control) (seen_control c.in-Control.control) in
-    absurd (goes_on (config_in c.in-Control.control) k.seen k.spot c.args.got (sym c.took-in-Control.ensures.says ∙ done))
+returns-in-Control-clause-replied c = λ said_done.
+    let hinted_control : Controlling = control_hinted (config_in c.in-Control.control) (hint_of c.in-Control.control) (seen_control c.in-Control.control) in
+    absurd (goes_on (config_in c.in-Control.control) hinted_control.seen hinted_control.spot c.args.got (sym c.took-in-Control.ensures.says ∙ said_done))
 
 pub took-requires-clause-fit : goal.took-requires-clause-fit
 took-requires-clause-fit c = subst (λ (machine : Machine). IsFitFor (config_of machine) (order_of machine) c.args.got (shown machine)) c.in-Mutator.is c.requires.fit
@@ -57,7 +57,7 @@ returns-in-Mutator-clause-answer c =
 pub returns-in-Mutator-clause-done : goal.returns-in-Mutator-clause-done
 returns-in-Mutator-clause-done c =
     subst (λ (machine : Machine). (c.took.result ≡ took.Done) ↔ ((is_mutating (shown machine) ≡ true) × (place_in (order_of machine) (shown machine) ≡ LV))) (sym c.in-Mutator.is)
-    (λ done. (refl, c.took.ensures.done.0 done), λ both. c.took.ensures.done.1 both.1)
+    (λ said_done. (refl, c.took.ensures.done.0 said_done), λ both_parts. c.took.ensures.done.1 both_parts.1)
 
 pub returns-in-Mutator-clause-replied : goal.returns-in-Mutator-clause-replied
 returns-in-Mutator-clause-replied c = c.took.ensures.replied
@@ -69,7 +69,7 @@ returns-in-Mutator-clause-again c =
 pub took-requires-in-Helper-clause-fit : goal.took-requires-in-Helper-clause-fit
 took-requires-in-Helper-clause-fit c =
     let helper = c.in-Helper.helper in
-    subst (λ (other_helper : Helping). IsFit (helpers.config_of helper) other_helper c.args.got) (helped (helpers.config_of helper) (helpers.hint_of helper) (helpers.seen_helper helper))
+    subst (λ (some_helper : Helping). IsFit (helpers.config_of helper) some_helper c.args.got) (helped (helpers.config_of helper) (helpers.hint_of helper) (helpers.seen_helper helper))
     (subst (λ (machine : Machine). IsFitFor (config_of machine) (order_of machine) c.args.got (shown machine)) c.in-Helper.is c.requires.fit)
 
 pub returns-in-Helper-clause-shown : goal.returns-in-Helper-clause-shown
@@ -93,11 +93,11 @@ returns-in-Helper-clause-answer c =
 pub returns-in-Helper-clause-done : goal.returns-in-Helper-clause-done
 returns-in-Helper-clause-done c =
     subst (λ (machine : Machine). (c.took-in-Helper.result ≡ took.Done) ↔ ((is_mutating (shown machine) ≡ true) × (place_in (order_of machine) (shown machine) ≡ LV))) (sym c.in-Helper.is)
-    (λ done. absurd (helps_on (helpers.config_of c.in-Helper.helper) (help_hinted (helpers.config_of c.in-Helper.helper) (helpers.hint_of c.in-Helper.helper) (helpers.seen_helper c.in-Helper.helper)).spot c.args.got (sym c.took-in-Helper.ensures.says ∙ done)), λ both. absurd (false≢true both.0))
+    (λ said_done. absurd (helps_on (helpers.config_of c.in-Helper.helper) (help_hinted (helpers.config_of c.in-Helper.helper) (helpers.hint_of c.in-Helper.helper) (helpers.seen_helper c.in-Helper.helper)).spot c.args.got (sym c.took-in-Helper.ensures.says ∙ said_done)), λ both_parts. absurd (false≢true both_parts.0))
 
 pub returns-in-Helper-clause-replied : goal.returns-in-Helper-clause-replied
-returns-in-Helper-clause-replied c = λ done.
-    absurd (helps_on (helpers.config_of c.in-Helper.helper) (help_hinted (helpers.config_of c.in-Helper.helper) (helpers.hint_of c.in-Helper.helper) (helpers.seen_helper c.in-Helper.helper)).spot c.args.got (sym c.took-in-Helper.ensures.says ∙ done))
+returns-in-Helper-clause-replied c = λ said_done.
+    absurd (helps_on (helpers.config_of c.in-Helper.helper) (help_hinted (helpers.config_of c.in-Helper.helper) (helpers.hint_of c.in-Helper.helper) (helpers.seen_helper c.in-Helper.helper)).spot c.args.got (sym c.took-in-Helper.ensures.says ∙ said_done))
 
 pub returns-in-Helper-clause-again : goal.returns-in-Helper-clause-again
 returns-in-Helper-clause-again c =
@@ -108,7 +108,7 @@ returns-in-Helper-clause-again c =
 pub returns-in-Control-clause-shown : goal.returns-in-Control-clause-shown
 returns-in-Control-clause-shown c =
     ap controlling c.took-in-Control.ensures.row
-    ∙ ap (λ (x : Controlling). controlling (control_next pause_image (config_in c.in-Control.control) x c.args.got)) (sym (controlled (config_in c.in-Control.control) (hint_of c.in-Control.control) (seen_control c.in-Control.control)))
+    ∙ ap (λ (some_control : Controlling). controlling (control_next pause_image (config_in c.in-Control.control) some_control c.args.got)) (sym (controlled (config_in c.in-Control.control) (hint_of c.in-Control.control) (seen_control c.in-Control.control)))
     ∙ ap (λ (machine : Machine). machine_after pause_image (config_of machine) (order_of machine) c.args.got (shown machine)) (sym c.in-Control.is)
 
 pub returns-in-Control-clause-order : goal.returns-in-Control-clause-order
@@ -120,19 +120,19 @@ returns-in-Control-clause-heap c = c.took-in-Control.ensures.config ∙ ap confi
 pub returns-in-Control-clause-answer : goal.returns-in-Control-clause-answer
 returns-in-Control-clause-answer c =
     ap (λ (machine : Machine). answer_of (config_of machine) (order_of machine) (shown machine) c.args.got) c.in-Control.is
-    ∙ ap (λ (x : Controlling). Some (control_says (config_in c.in-Control.control) x c.args.got)) (controlled (config_in c.in-Control.control) (hint_of c.in-Control.control) (seen_control c.in-Control.control))
+    ∙ ap (λ (some_control : Controlling). Some (control_says (config_in c.in-Control.control) some_control c.args.got)) (controlled (config_in c.in-Control.control) (hint_of c.in-Control.control) (seen_control c.in-Control.control))
     ∙ ap Some (sym c.took-in-Control.ensures.says)
 
 pub returns-in-Control-clause-done : goal.returns-in-Control-clause-done
 returns-in-Control-clause-done c =
-    let k : Controlling = control_hinted (config_in c.in-Control.control) (hint_of c.in-Control.control) (seen_control c.in-Control.control) in
+    let hinted_control : Controlling = control_hinted (config_in c.in-Control.control) (hint_of c.in-Control.control) (seen_control c.in-Control.control) in
     subst (λ (machine : Machine). (c.took-in-Control.result ≡ took.Done) ↔ ((is_mutating (shown machine) ≡ true) × (place_in (order_of machine) (shown machine) ≡ LV))) (sym c.in-Control.is)
-    (λ done. absurd (goes_on (config_in c.in-Control.control) k.seen k.spot c.args.got (sym c.took-in-Control.ensures.says ∙ done)), λ both. absurd (false≢true both.0))
+    (λ said_done. absurd (goes_on (config_in c.in-Control.control) hinted_control.seen hinted_control.spot c.args.got (sym c.took-in-Control.ensures.says ∙ said_done)), λ both_parts. absurd (false≢true both_parts.0))
 
 pub returns-in-Control-clause-again : goal.returns-in-Control-clause-again
 returns-in-Control-clause-again c =
     subst (λ (machine : Machine). (c.took-in-Control.result ≡ took.Again) ↔ WaitsIn (config_of machine) (order_of machine) (shown machine) c.args.got) (sym c.in-Control.is)
-    (subst (λ (other_control : Controlling). (c.took-in-Control.result ≡ took.Again) ↔ control.WaitsAt (config_in c.in-Control.control) other_control c.args.got)
+    (subst (λ (some_control : Controlling). (c.took-in-Control.result ≡ took.Again) ↔ control.WaitsAt (config_in c.in-Control.control) some_control c.args.got)
     (sym (controlled (config_in c.in-Control.control) (hint_of c.in-Control.control) (seen_control c.in-Control.control))) c.took-in-Control.ensures.again)
 
 pub took-requires-in-Helper-clause-busy : goal.took-requires-in-Helper-clause-busy

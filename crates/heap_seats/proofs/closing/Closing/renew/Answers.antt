@@ -13,49 +13,49 @@ use Rattle.heap_seats.proofs.LeftMachines.{left_rests, left_made}
 use Rattle.heap_seats.proofs.closing.Closing.renew.Goals as goal
 
 pub count_made-requires : goal.count_made-requires
-count_made-requires c t below =
-    let k = c.args.self in
-    let w = c.requires.whole in
-    let room : c.args.room.config.mutators ≡ k.together.config.mutators = ap (λ (config : Config). config.mutators) (c.requires.room ∙ sym k.fits.config) in
+count_made-requires c thread thread_below =
+    let closing = c.args.self in
+    let seats_whole = c.requires.whole in
+    let same_mutators : c.args.room.config.mutators ≡ closing.together.config.mutators = ap (λ (config : Config). config.mutators) (c.requires.room ∙ sym closing.fits.config) in
     let count = c.args.room.count in
-    has_all (sizes_closing k) (heap_closing k) w.0 k.together w.1.all w.1.given t (omega (arith, below, count, room))
+    has_all (sizes_closing closing) (heap_closing closing) seats_whole.0 closing.together seats_whole.1.all seats_whole.1.given thread (omega (arith, thread_below, count, same_mutators))
 
 pub go_on-requires-clause-rest : goal.go_on-requires-clause-rest
 go_on-requires-clause-rest c =
-    let w = c.requires.whole in
-    let left = c.in_ok-closed.closed in
-    left_rests w.0 left (c.in_ok-closed.ensures.machines w.0 w.1.given w.1.all) w.1.over (ends.config_of left)
+    let seats_whole = c.requires.whole in
+    let closed_heap = c.in_ok-closed.closed in
+    left_rests seats_whole.0 closed_heap (c.in_ok-closed.ensures.machines seats_whole.0 seats_whole.1.given seats_whole.1.all) seats_whole.1.over (ends.config_of closed_heap)
 
 pub go_on-requires-clause-begins : goal.go_on-requires-clause-begins
 go_on-requires-clause-begins c =
-    let k = c.args.self in
-    let w = c.requires.whole in
-    let left = c.in_ok-closed.closed in
-    let one = c.in_ok-closed.ensures.history w.0 w.1.given w.1.all (λ at s there role. w.1.over at s there) in
-    subst (λ (config : Config). ∥ IsLeftRenewable config (ends.stage_of left) ∥₁) (sym c.in_ok-closed.ensures.config) (left_renewable (sizes_closing k) (start_closing k) (ends.stage_of left) one.events one.ends one.history.some)
+    let closing = c.args.self in
+    let seats_whole = c.requires.whole in
+    let closed_heap = c.in_ok-closed.closed in
+    let one_history = c.in_ok-closed.ensures.history seats_whole.0 seats_whole.1.given seats_whole.1.all (λ index seat seat_there role. seats_whole.1.over index seat seat_there) in
+    subst (λ (config : Config). ∥ IsLeftRenewable config (ends.stage_of closed_heap) ∥₁) (sym c.in_ok-closed.ensures.config) (left_renewable (sizes_closing closing) (start_closing closing) (ends.stage_of closed_heap) one_history.events one_history.ends one_history.history.some)
 
 pub go_on-requires-clause-counts : goal.go_on-requires-clause-counts
 go_on-requires-clause-counts c =
-    let k = c.args.self in
-    let w = c.requires.whole in
-    let left = c.in_ok-closed.closed in
-    let sizes : c.args.room.config.mutators ≡ (ends.config_of left).mutators = ap (λ (config : Config). config.mutators) (c.requires.room ∙ sym c.in_ok-closed.ensures.config) in
+    let closing = c.args.self in
+    let seats_whole = c.requires.whole in
+    let closed_heap = c.in_ok-closed.closed in
+    let sizes : c.args.room.config.mutators ≡ (ends.config_of closed_heap).mutators = ap (λ (config : Config). config.mutators) (c.requires.room ∙ sym c.in_ok-closed.ensures.config) in
     let count = c.args.room.count in
-    let same = c.count_made.ensures.count in
-    left_made (ends.config_of left).mutators w.0 k.together left w.1.given.machines (c.in_ok-closed.ensures.machines w.0 w.1.given w.1.all) (λ at s there. w.1.all.number at s there)
-    c.count_made.new.counts.items (same ∙ count ∙ sizes) (λ t below. c.count_made.ensures.each t (omega (arith, below, count, sizes)))
+    let same_count = c.count_made.ensures.count in
+    left_made (ends.config_of closed_heap).mutators seats_whole.0 closing.together closed_heap seats_whole.1.given.machines (c.in_ok-closed.ensures.machines seats_whole.0 seats_whole.1.given seats_whole.1.all) (λ index seat seat_there. seats_whole.1.all.number index seat seat_there)
+    c.count_made.new.counts.items (same_count ∙ count ∙ sizes) (λ thread thread_below. c.count_made.ensures.each thread (omega (arith, thread_below, count, sizes)))
 
 pub returns : goal.returns
 returns c seats to_be =
-    let k = c.args.self in
-    let left = c.in_ok-closed.closed in
-    let one = c.in_ok-closed.ensures.history seats to_be.given to_be.all (λ at s there role. to_be.over at s there) in
+    let closing = c.args.self in
+    let closed_heap = c.in_ok-closed.closed in
+    let one_history = c.in_ok-closed.ensures.history seats to_be.given to_be.all (λ index seat seat_there role. to_be.over index seat seat_there) in
     if_some c.go_on.result _ _
     (λ following begin. record {
-      events = one.events;
-      history = one.history;
+      events = one_history.events;
+      history = one_history.history;
       goes_on =
-          subst (λ (stage : Stage Actor). BeginSeats (sizes_closing k) (IsGraphLeft (sizes_closing k) stage) following.renewal following.seats.items) (sym one.ends)
-          (subst (λ (config : Config). BeginSeats config (IsGraphLeft config (ends.stage_of left)) following.renewal following.seats.items) c.in_ok-closed.ensures.config begin);
+          subst (λ (stage : Stage Actor). BeginSeats (sizes_closing closing) (IsGraphLeft (sizes_closing closing) stage) following.renewal following.seats.items) (sym one_history.ends)
+          (subst (λ (config : Config). BeginSeats config (IsGraphLeft config (ends.stage_of closed_heap)) following.renewal following.seats.items) c.in_ok-closed.ensures.config begin);
     })
     c.go_on.ensures

@@ -7,6 +7,6 @@ use Rattle.heap_seats.proofs.seat.Seat.number.Goals as goal
 pub returns-clause-inside : goal.returns-clause-inside
 returns-clause-inside c =
     let seat = c.args.self.now in
-    let below = within shown seat.bundle.machines.items seat.number seat.here in
-    let count = seat.bundle.seats ∙ ap (λ k. seat_count k.mutators k.helpers) seat.same_config in
-    omega (arith, below, count)
+    let number_below = within shown seat.bundle.machines.items seat.number seat.here in
+    let count = seat.bundle.seats ∙ ap (λ config. seat_count config.mutators config.helpers) seat.same_config in
+    omega (arith, number_below, count)

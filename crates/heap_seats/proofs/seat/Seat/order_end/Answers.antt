@@ -13,26 +13,26 @@ use Rattle.heap_seats.proofs.seat.Seat.order_end.Goals as goal
 pub invariant_of-self : goal.invariant_of-self
 invariant_of-self c =
     let seat = c.args.self.now in
-    let b = c.finish.new.self in
-    let made = c.finish.ensures.unmoved in
+    let bundle = c.finish.new.self in
+    let seat_unmoved = c.finish.ensures.unmoved in
     record {
-      fits = stays_of (arc_value seat.heap) seat.bundle b made.same seat.fits;
-      here = stays_here seat.bundle b seat.number made.same seat.here;
-      only = stays_only seat.bundle b seat.number made.same seat.only;
-      same_config = made.same.config ∙ seat.same_config;
-      reached = unmoved_run seat.bundle b made seat.reached;
-      renewable = stays_renewable seat.config seat.bundle b made.same seat.renewable;
+      fits = stays_of (arc_value seat.heap) seat.bundle bundle seat_unmoved.same seat.fits;
+      here = stays_here seat.bundle bundle seat.number seat_unmoved.same seat.here;
+      only = stays_only seat.bundle bundle seat.number seat_unmoved.same seat.only;
+      same_config = seat_unmoved.same.config ∙ seat.same_config;
+      reached = unmoved_run seat.bundle bundle seat_unmoved seat.reached;
+      renewable = stays_renewable seat.config seat.bundle bundle seat_unmoved.same seat.renewable;
     }
 
 pub returns : goal.returns
 returns c =
     let seat = c.args.self.now in
-    let b = c.finish.new.self in
-    let made = c.finish.ensures in
+    let bundle = c.finish.new.self in
+    let order_made = c.finish.ensures in
     record {
       same = record { config = refl; number = refl; heap = refl };
-      given = given_order seat.bundle b seat.number End made.unmoved made.order seat.here;
-      actor = ap (λ v. unwrap_or (machine_of v seat.number) nobody) made.unmoved.view;
-      steps = ap (λ v. unwrap_or (machine_of v seat.number) 0) made.unmoved.steps;
-      state = ap (λ turn. state_by turn (may_begin (machine_at b seat.number))) (takes_turn seat.bundle b seat.number End made.unmoved made.order seat.here made.takes);
+      given = given_order seat.bundle bundle seat.number End order_made.unmoved order_made.order seat.here;
+      actor = ap (λ view. unwrap_or (machine_of view seat.number) nobody) order_made.unmoved.view;
+      steps = ap (λ view. unwrap_or (machine_of view seat.number) 0) order_made.unmoved.steps;
+      state = ap (λ turn. state_by turn (may_begin (machine_at bundle seat.number))) (takes_turn seat.bundle bundle seat.number End order_made.unmoved order_made.order seat.here order_made.takes);
     }

@@ -4,4 +4,4 @@ use Rattle.shen_core.specs.Agendas.{IsWalkOf}
 use Rattle.heap_tests.proofs.brief_pauses.Course.pauses.Given as goal
 
 abbrev pub invariant-loop : goal.invariant-loop
-invariant-loop l = CanRun l.self.played.plain l.self.played.work × IsWalkOf (config_of l.self.played.plain) l.self.walk
+invariant-loop loop = CanRun loop.self.played.plain loop.self.played.work × IsWalkOf (config_of loop.self.played.plain) loop.self.walk

@@ -4,4 +4,4 @@ use Rattle.shen_core.specs.Agendas.{IsWalkOf}
 use Rattle.heap_tests.proofs.scene.Scene.goes_to.Given as goal
 
 abbrev pub invariant-loop : goal.invariant-loop
-invariant-loop l = CanRun l.self.plain l.self.work × IsWalkOf (config_of l.self.plain) l.self.walk
+invariant-loop loop = CanRun loop.self.plain loop.self.work × IsWalkOf (config_of loop.self.plain) loop.self.walk

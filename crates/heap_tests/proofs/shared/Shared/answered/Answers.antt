@@ -6,7 +6,7 @@ use Rattle.heap_tests.proofs.shared.Shared.answered.Goals as goal
 
 pub replies-requires : goal.replies-requires
 replies-requires c =
-    let s = c.args.self.now in
-    let same = c.requires.same in
-    let mutators = ap (λ (config : Config). config.mutators) same in
-    has_script s.bundle s.work c.loop-thread.thread c.requires.works (c.requires.here c.loop-thread.thread (omega arith)) (lt-ltb c.loop-thread.thread s.bundle.config.mutators (omega (arith, mutators)))
+    let shared_now = c.args.self.now in
+    let same_config = c.requires.same in
+    let mutators = ap (λ (config : Config). config.mutators) same_config in
+    has_script shared_now.bundle shared_now.work c.loop-thread.thread c.requires.works (c.requires.here c.loop-thread.thread (omega arith)) (lt-ltb c.loop-thread.thread shared_now.bundle.config.mutators (omega (arith, mutators)))

@@ -13,19 +13,19 @@ use Rattle.heap_tests.proofs.shared.Shared.repeats.Goals as goal
 
 pub returns : goal.returns
 returns c =
-    let s = c.args.self.now in
+    let shared_now = c.args.self.now in
     let number = c.args.turn_then.number in
     let bundle = c.turn-said.new.bundle in
     elim c.if-number-mutators-2.branch [
       | then-number-mutators-2 w ↦
           subst (λ (shared : Shared). IsPlaying shared.heap shared.bundle shared.work shared.config shared.between) (sym w.self-is)
-          (plays_on s.heap s.bundle bundle s.work c.turn-said.new.work s.config s.between (slice_set s.between number w.eq.result) c.requires c.turn-said.ensures.same c.turn-said.ensures.work
-          (may_set s.config.mutators number s.between s.bundle bundle (get_or s.between number false) w.eq.result
-          (slice_get-get_or s.between number false (omega (arith, c.requires.long, c.args.self.now.config.in_range.most_mutators))) c.requires.rests c.turn-said.ensures.others
-          (λ set. c.turn-said.ensures.done (same_true the_type tt c.turn-said.result Done (sym w.eq.ensures ∙ set))))
-          (length-set s.between number w.eq.result ∙ c.requires.long))
+          (plays_on shared_now.heap shared_now.bundle bundle shared_now.work c.turn-said.new.work shared_now.config shared_now.between (slice_set shared_now.between number w.eq.result) c.requires c.turn-said.ensures.same c.turn-said.ensures.work
+          (may_set shared_now.config.mutators number shared_now.between shared_now.bundle bundle (get_or shared_now.between number false) w.eq.result
+          (slice_get-get_or shared_now.between number false (omega (arith, c.requires.long, c.args.self.now.config.in_range.most_mutators))) c.requires.rests c.turn-said.ensures.others
+          (λ flag_set. c.turn-said.ensures.done (same_true the_type tt c.turn-said.result Done (sym w.eq.ensures ∙ flag_set))))
+          (length-set shared_now.between number w.eq.result ∙ c.requires.long))
       | else-number-mutators-2 w ↦
           subst (λ (shared : Shared). IsPlaying shared.heap shared.bundle shared.work shared.config shared.between) (sym w.self-is)
-          (plays_on s.heap s.bundle bundle s.work c.turn-said.new.work s.config s.between s.between c.requires c.turn-said.ensures.same c.turn-said.ensures.work
-          (may_kept s.config.mutators number s.between s.bundle bundle (omega arith) c.requires.rests c.turn-said.ensures.others) c.requires.long)
+          (plays_on shared_now.heap shared_now.bundle bundle shared_now.work c.turn-said.new.work shared_now.config shared_now.between shared_now.between c.requires c.turn-said.ensures.same c.turn-said.ensures.work
+          (may_kept shared_now.config.mutators number shared_now.between shared_now.bundle bundle (omega arith) c.requires.rests c.turn-said.ensures.others) c.requires.long)
     ]

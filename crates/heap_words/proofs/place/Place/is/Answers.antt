@@ -6,6 +6,6 @@ use Rattle.heap_words.proofs.place.Place.is.Goals as goal
 
 pub returns : goal.returns
 returns c = record {
-  same = (λ e. same_true the_type tt c.args.self c.args.other (sym c.eq.ensures ∙ e), λ e. c.eq.ensures ∙ true_same the_type c.args.self c.args.other e);
+  same = (λ equal. same_true the_type tt c.args.self c.args.other (sym c.eq.ensures ∙ equal), λ equal. c.eq.ensures ∙ true_same the_type c.args.self c.args.other equal);
   test = c.eq.ensures ∙ sameb-same_place c.args.self c.args.other;
 }

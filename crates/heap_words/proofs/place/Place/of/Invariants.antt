@@ -5,4 +5,4 @@ use Rattle.heap_words.proofs.place.Place.of.Given as goal
 
 -- no row so far has the code
 abbrev pub invariant-loop-place : goal.invariant-loop-place
-invariant-loop-place l = (index : ℕ) → index < l.place-index → (get_or CODES index (E1, [])).1 ≡ l.code → ⊥
+invariant-loop-place loop = (index : ℕ) → index < loop.place-index → (get_or CODES index (E1, [])).1 ≡ loop.code → ⊥

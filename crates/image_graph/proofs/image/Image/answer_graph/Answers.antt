@@ -9,9 +9,9 @@ pub write_graph-requires-clause-stand : goal.write_graph-requires-clause-stand
 write_graph-requires-clause-stand c = rw (c.region_words.ensures, c.heap_in.ensures, c.deref.ensures.value, c.roots_in.ensures, c.deref-2.ensures.value, c.pins_in.ensures, c.deref-3.ensures.value) c.requires.stand
 
 pub returns-clause-shows : goal.returns-clause-shows
-returns-clause-shows c = λ at g stands.
-    subst (λ threads. texts.ShowsGraph c.write_graph.new.text threads g) c.requires.threads
-    (c.write_graph.ensures.shows at g (rw (c.region_words.ensures, c.heap_in.ensures, c.deref.ensures.value, c.roots_in.ensures, c.deref-2.ensures.value, c.pins_in.ensures, c.deref-3.ensures.value) stands))
+returns-clause-shows c = λ naming graph stands.
+    subst (λ threads. texts.ShowsGraph c.write_graph.new.text threads graph) c.requires.threads
+    (c.write_graph.ensures.shows naming graph (rw (c.region_words.ensures, c.heap_in.ensures, c.deref.ensures.value, c.roots_in.ensures, c.deref-2.ensures.value, c.pins_in.ensures, c.deref-3.ensures.value) stands))
 
 pub heap_in-requires : goal.heap_in-requires
 heap_in-requires c = ap length c.deref.ensures.value ∙ c.args.self.now.all_words

@@ -4,7 +4,7 @@ use Rattle.image_graph.specs.Make.{heap_cleared}
 use Rattle.image_graph.proofs.image.Image.clear.Given as goal
 
 abbrev pub invariant-loop-index : goal.invariant-loop-index
-invariant-loop-index l = record {
-  config : config_of l.self ≡ config_of l.fn.self;
-  words : memory_of l.self ≡ heap_cleared l.address l.index (memory_of l.fn.self);
+invariant-loop-index loop = record {
+  config : config_of loop.self ≡ config_of loop.fn.self;
+  words : memory_of loop.self ≡ heap_cleared loop.address loop.index (memory_of loop.fn.self);
 }

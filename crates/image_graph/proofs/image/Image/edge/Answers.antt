@@ -18,5 +18,5 @@ loop-seat-preserved c =
     let region = c.args.region in
     let seat = c.loop-seat.seat in
     c.edge_with-edge.ensures
-    ∙ ap (λ e. if is_last_in config memory region seat && nat_lt (next_in (memory (Current seat)) - base_of config region) e then next_in (memory (Current seat)) - base_of config region else e) c.loop-seat.invariant
+    ∙ ap (λ edge. if is_last_in config memory region seat && nat_lt (next_in (memory (Current seat)) - base_of config region) edge then next_in (memory (Current seat)) - base_of config region else edge) c.loop-seat.invariant
     ∙ edge_next config memory region seat

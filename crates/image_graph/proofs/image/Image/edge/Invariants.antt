@@ -4,4 +4,4 @@ use Rattle.image_graph.specs.State.{config_of, memory_of}
 use Rattle.image_graph.proofs.image.Image.edge.Given as goal
 
 abbrev pub invariant-loop-seat : goal.invariant-loop-seat
-invariant-loop-seat l = l.edge ≡ edge_below (config_of l.self) (memory_of l.self) l.region l.seat
+invariant-loop-seat loop = loop.edge ≡ edge_below (config_of loop.self) (memory_of loop.self) loop.region loop.seat

@@ -11,7 +11,7 @@ pub returns-then-is_left_over-clause-words : goal.returns-then-is_left_over-clau
 returns-then-is_left_over-clause-words c =
     let memory : Word → ℕ = memory_of c.args.self.now in
     let address = c.args.address in
-    let left = is_left_over memory (found_of c.args.self.now) c.args.left address in
-    let both = and_from (c.args.object == address) left (eq-eqb c.args.object address c.if-object-address.false) (sym c.is_left_over.ensures ∙ c.if-is_left_over.true) in
+    let left_over = is_left_over memory (found_of c.args.self.now) c.args.left address in
+    let both_tests = and_from (c.args.object == address) left_over (eq-eqb c.args.object address c.if-object-address.false) (sym c.is_left_over.ensures ∙ c.if-is_left_over.true) in
     c.fill_object.ensures.words
-    ∙ fun_ext (λ w. sym (cond-true ((c.args.object == address) && left) (write memory (Heap address) (filler_header (object_words (memory (Heap (address + 1))))) w) (memory w) both))
+    ∙ fun_ext (λ word. sym (cond-true ((c.args.object == address) && left_over) (write memory (Heap address) (filler_header (object_words (memory (Heap (address + 1))))) word) (memory word) both_tests))

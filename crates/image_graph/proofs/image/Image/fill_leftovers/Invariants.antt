@@ -8,11 +8,11 @@ use Rattle.image_graph.proofs.LeftoversFilled.{filled_at, is_below}
 use Rattle.image_graph.proofs.image.Image.fill_leftovers.Given as goal
 
 abbrev pub invariant-loop-offset : goal.invariant-loop-offset
-invariant-loop-offset l = record {
-  config : config_of l.self ≡ config_of l.fn.self;
-  places : places_of l.self ≡ places_of l.fn.self;
-  found : found_of l.self ≡ found_of l.fn.self;
-  marks : marks_of l.self ≡ marks_of l.fn.self;
-  words : memory_of l.self ≡ filled_at (config_of l.fn.self) (is_below (config_of l.fn.self) l.region l.offset) (is_left_over (memory_of l.fn.self) (found_of l.fn.self) l.left) (memory_of l.fn.self);
-  object : l.object ≡ base_of (config_of l.fn.self) l.region + start_of (λ address. memory_of l.fn.self (Heap address)) (base_of (config_of l.fn.self) l.region) (l.offset - 1);
+invariant-loop-offset loop = record {
+  config : config_of loop.self ≡ config_of loop.fn.self;
+  places : places_of loop.self ≡ places_of loop.fn.self;
+  found : found_of loop.self ≡ found_of loop.fn.self;
+  marks : marks_of loop.self ≡ marks_of loop.fn.self;
+  words : memory_of loop.self ≡ filled_at (config_of loop.fn.self) (is_below (config_of loop.fn.self) loop.region loop.offset) (is_left_over (memory_of loop.fn.self) (found_of loop.fn.self) loop.left) (memory_of loop.fn.self);
+  object : loop.object ≡ base_of (config_of loop.fn.self) loop.region + start_of (λ address. memory_of loop.fn.self (Heap address)) (base_of (config_of loop.fn.self) loop.region) (loop.offset - 1);
 }

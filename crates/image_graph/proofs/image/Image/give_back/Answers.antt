@@ -12,7 +12,7 @@ returns-clause-words c =
     let memory : Word → ℕ = memory_of c.args.self.now in
     let word = c.args.word in
     let region : c.region_of_buffer-region.result ≡ buffer_region config word = c.region_of_buffer-region.ensures in
-    let place : word_at config (Top (buffer_region config word)) ≡ c.top_at.result = sym (c.top_at.ensures ∙ ap (λ region. word_at config (Top region)) region) in
+    let same_place : word_at config (Top (buffer_region config word)) ≡ c.top_at.result = sym (c.top_at.ensures ∙ ap (λ region. word_at config (Top region)) region) in
     let value : c.next_of.result - c.base.result ≡ next_in word - base_of config (buffer_region config word) =
-    ap (λ n. n - c.base.result) c.next_of.ensures ∙ ap (λ b. next_in word - b) (c.base.ensures ∙ ap (base_of config) region) in
-    c.set_word.ensures.named (Top (buffer_region config word)) c.requires.region place ∙ ap (λ v. write memory (Top (buffer_region config word)) v) value
+    ap (λ next_address. next_address - c.base.result) c.next_of.ensures ∙ ap (λ base_address. next_in word - base_address) (c.base.ensures ∙ ap (base_of config) region) in
+    c.set_word.ensures.named (Top (buffer_region config word)) c.requires.region same_place ∙ ap (λ written. write memory (Top (buffer_region config word)) written) value

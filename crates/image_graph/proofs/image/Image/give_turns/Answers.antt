@@ -15,7 +15,7 @@ loop-mutator-init c = record {
   config = refl;
   words = served_none (config_of c.args.self.now) (memory_of c.args.self.now);
   within = c.requires;
-  told = record { left = λ never. absurd (true≢false never); served = λ _ u below left. absurd (omega (arith, below)) };
+  told = record { left = λ never. absurd (true≢false never); served = λ _ turn turn_below request_left. absurd (omega (arith, turn_below)) };
 }
 
 pub serve_one-requires-clause-mutator : goal.serve_one-requires-clause-mutator
@@ -28,37 +28,37 @@ loop-mutator-preserved c =
     let memory : Word → ℕ = memory_of c.args.self.now in
     let mutator = c.loop-mutator.mutator in
     let before : Word → ℕ = memory_of c.loop-mutator.self in
-    let same : config_of c.loop-mutator.self ≡ config = c.loop-mutator.invariant.config in
+    let same_config : config_of c.loop-mutator.self ≡ config = c.loop-mutator.invariant.config in
     let so_far : before ≡ served config memory mutator = c.loop-mutator.invariant.words in
-    let below : mutator < config.mutators = omega (arith, c.loop-mutator-test.true, c.mutators-mutator-end.ensures, ap (λ (config : Config). config.mutators) c.config.ensures) in
-    let after : memory_of c.serve_one.new.self ≡ served config memory (mutator + 1) =
+    let mutator_below : mutator < config.mutators = omega (arith, c.loop-mutator-test.true, c.mutators-mutator-end.ensures, ap (λ (config : Config). config.mutators) c.config.ensures) in
+    let words_after : memory_of c.serve_one.new.self ≡ served config memory (mutator + 1) =
     turned config memory (memory_of c.serve_one.new.self) mutator
-    (λ none. c.serve_one.ensures.idle (ap (λ k. k (Wait mutator)) so_far ∙ none) ∙ so_far)
-    (λ some. c.serve_one.ensures.waits (λ e. some (ap (λ k. k (Wait mutator)) (sym so_far) ∙ e))
-    ∙ ap (λ (config : Config). served_in config before mutator (room_for config before mutator)) same
-    ∙ ap (λ k. served_in config k mutator (room_for config k mutator)) so_far) in
+    (λ no_wait. c.serve_one.ensures.idle (ap (λ memory_then. memory_then (Wait mutator)) so_far ∙ no_wait) ∙ so_far)
+    (λ waits. c.serve_one.ensures.waits (λ not_waiting. waits (ap (λ memory_then. memory_then (Wait mutator)) (sym so_far) ∙ not_waiting))
+    ∙ ap (λ (config : Config). served_in config before mutator (room_for config before mutator)) same_config
+    ∙ ap (λ memory_then. served_in config memory_then mutator (room_for config memory_then mutator)) so_far) in
     -- what a turn without room says, over the words by the definition
     let no_room : (before (Wait mutator) ≢ 0) × NoneHasRoom (config_of c.loop-mutator.self).region_words (λ region. before (Top region)) (object_words (request_shape_in (before (Wait mutator)))) (config_of c.loop-mutator.self).regions
     → (served config memory mutator (Wait mutator) ≢ 0) × NoneHasRoom config.region_words (λ region. served config memory mutator (Top region)) (object_words (request_shape_in (served config memory mutator (Wait mutator)))) config.regions =
-    λ h. subst (λ (memory : Word → ℕ). (memory (Wait mutator) ≢ 0) × NoneHasRoom config.region_words (λ region. memory (Top region)) (object_words (request_shape_in (memory (Wait mutator)))) config.regions) so_far
-    (subst (λ (config : Config). (before (Wait mutator) ≢ 0) × NoneHasRoom config.region_words (λ region. before (Top region)) (object_words (request_shape_in (before (Wait mutator)))) config.regions) same h) in
+    λ left_before. subst (λ (memory : Word → ℕ). (memory (Wait mutator) ≢ 0) × NoneHasRoom config.region_words (λ region. memory (Top region)) (object_words (request_shape_in (memory (Wait mutator)))) config.regions) so_far
+    (subst (λ (config : Config). (before (Wait mutator) ≢ 0) × NoneHasRoom config.region_words (λ region. before (Top region)) (object_words (request_shape_in (before (Wait mutator)))) config.regions) same_config left_before) in
     let and_back : (served config memory mutator (Wait mutator) ≢ 0) × NoneHasRoom config.region_words (λ region. served config memory mutator (Top region)) (object_words (request_shape_in (served config memory mutator (Wait mutator)))) config.regions
     → (before (Wait mutator) ≢ 0) × NoneHasRoom (config_of c.loop-mutator.self).region_words (λ region. before (Top region)) (object_words (request_shape_in (before (Wait mutator)))) (config_of c.loop-mutator.self).regions =
-    λ h. subst (λ (config : Config). (before (Wait mutator) ≢ 0) × NoneHasRoom config.region_words (λ region. before (Top region)) (object_words (request_shape_in (before (Wait mutator)))) config.regions) (sym same)
-    (subst (λ (memory : Word → ℕ). (memory (Wait mutator) ≢ 0) × NoneHasRoom config.region_words (λ region. memory (Top region)) (object_words (request_shape_in (memory (Wait mutator)))) config.regions) (sym so_far) h) in
+    λ left_before. subst (λ (config : Config). (before (Wait mutator) ≢ 0) × NoneHasRoom config.region_words (λ region. before (Top region)) (object_words (request_shape_in (before (Wait mutator)))) config.regions) (sym same_config)
+    (subst (λ (memory : Word → ℕ). (memory (Wait mutator) ≢ 0) × NoneHasRoom config.region_words (λ region. memory (Top region)) (object_words (request_shape_in (memory (Wait mutator)))) config.regions) (sym so_far) left_before) in
     record {
-      config = c.serve_one.ensures.config ∙ same;
-      words = after;
+      config = c.serve_one.ensures.config ∙ same_config;
+      words = words_after;
       within = c.serve_one.ensures.within;
       told = elim c.if-not-serve_one.branch [
         | then-not-serve_one w ↦
-            let no : c.serve_one.result ≡ false = cc in
-            let left = no_room (c.serve_one.ensures.left.0 no) in
-            subst (IsTold config memory (mutator + 1)) (sym w.all-is) (told_left config memory mutator (left_at config memory mutator below left.0 left.1))
+            let not_served : c.serve_one.result ≡ false = cc in
+            let request_left = no_room (c.serve_one.ensures.left.0 not_served) in
+            subst (IsTold config memory (mutator + 1)) (sym w.all-is) (told_left config memory mutator (left_at config memory mutator mutator_below request_left.0 request_left.1))
         | else-not-serve_one w ↦
-            let yes : c.serve_one.result ≡ true = cc in
+            let was_served : c.serve_one.result ≡ true = cc in
             subst (IsTold config memory (mutator + 1)) (sym w.all-is)
             (told_served config memory mutator c.loop-mutator.all
-            (λ left. true≢false (sym yes ∙ c.serve_one.ensures.left.1 (and_back (left_from config memory mutator left)))) c.loop-mutator.invariant.told)
+            (λ request_left. true≢false (sym was_served ∙ c.serve_one.ensures.left.1 (and_back (left_from config memory mutator request_left)))) c.loop-mutator.invariant.told)
       ];
     }

@@ -6,9 +6,9 @@ use Rattle.image_graph.proofs.Turns.{IsTold}
 use Rattle.image_graph.proofs.image.Image.give_turns.Given as goal
 
 abbrev pub invariant-loop-mutator : goal.invariant-loop-mutator
-invariant-loop-mutator l = record {
-  config : config_of l.self ≡ config_of l.fn.self;
-  words : memory_of l.self ≡ served (config_of l.fn.self) (memory_of l.fn.self) l.mutator;
-  within : AreWithin (config_of l.self) (memory_of l.self);
-  told : IsTold (config_of l.fn.self) (memory_of l.fn.self) l.mutator l.all;
+invariant-loop-mutator loop = record {
+  config : config_of loop.self ≡ config_of loop.fn.self;
+  words : memory_of loop.self ≡ served (config_of loop.fn.self) (memory_of loop.fn.self) loop.mutator;
+  within : AreWithin (config_of loop.self) (memory_of loop.self);
+  told : IsTold (config_of loop.fn.self) (memory_of loop.fn.self) loop.mutator loop.all;
 }

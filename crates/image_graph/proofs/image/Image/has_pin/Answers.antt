@@ -12,10 +12,10 @@ loop-slot-preserved c =
     let memory : Word → ℕ = memory_of c.args.self.now in
     let mutator = c.args.mutator in
     let word : c.word-word.result ≡ memory (Pin mutator c.loop-slot.slot) = c.word-word.ensures.named (Pin mutator c.loop-slot.slot) (c.requires.mutator, c.loop-slot-test.true) (sym c.pin_at.ensures) in
-    λ i below. ⊎_elim
-    (λ (last : i ≡ c.loop-slot.slot). ap (λ slot. lies_in config c.args.region (memory (Pin mutator slot))) last ∙ ap (lies_in config c.args.region) (sym word) ∙ sym c.lies_in.ensures ∙ c.if-lies_in.false)
-    (λ other. c.loop-slot.invariant i (omega (arith, below, other)))
-    (cases_eq i c.loop-slot.slot)
+    λ any_slot slot_below. ⊎_elim
+    (λ (last_slot : any_slot ≡ c.loop-slot.slot). ap (λ slot. lies_in config c.args.region (memory (Pin mutator slot))) last_slot ∙ ap (lies_in config c.args.region) (sym word) ∙ sym c.lies_in.ensures ∙ c.if-lies_in.false)
+    (λ earlier_slot. c.loop-slot.invariant any_slot (omega (arith, slot_below, earlier_slot)))
+    (cases_eq any_slot c.loop-slot.slot)
 
 pub returns-then-lies_in : goal.returns-then-lies_in
 returns-then-lies_in c =
@@ -26,4 +26,4 @@ returns-then-lies_in c =
     sym (any_from_zero (λ slot. lies_in config c.args.region (memory (Pin mutator slot))) 4 c.loop-slot.slot c.loop-slot-test.true (ap (lies_in config c.args.region) (sym word) ∙ sym c.lies_in.ensures ∙ c.if-lies_in.true))
 
 pub returns : goal.returns
-returns c = sym (none_from_zero (λ slot. lies_in (config_of c.args.self.now) c.args.region (memory_of c.args.self.now (Pin c.args.mutator slot))) 4 (λ i few. c.loop-slot.invariant i (omega (arith, few, c.loop-slot-test.false))))
+returns c = sym (none_from_zero (λ slot. lies_in (config_of c.args.self.now) c.args.region (memory_of c.args.self.now (Pin c.args.mutator slot))) 4 (λ any_slot few. c.loop-slot.invariant any_slot (omega (arith, few, c.loop-slot-test.false))))

@@ -5,4 +5,4 @@ use Rattle.image_graph.specs.State.{config_of, memory_of}
 use Rattle.image_graph.proofs.image.Image.has_pin.Given as goal
 
 abbrev pub invariant-loop-slot : goal.invariant-loop-slot
-invariant-loop-slot l = (i : ℕ) → i < l.slot → lies_in (config_of l.self) l.region (memory_of l.self (Pin l.mutator i)) ≡ false
+invariant-loop-slot loop = (slot : ℕ) → slot < loop.slot → lies_in (config_of loop.self) loop.region (memory_of loop.self (Pin loop.mutator slot)) ≡ false

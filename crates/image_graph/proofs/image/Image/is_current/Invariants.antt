@@ -3,4 +3,4 @@ use Rattle.image_graph.specs.State.{config_of, memory_of, EndsIn}
 use Rattle.image_graph.proofs.image.Image.is_current.Given as goal
 
 abbrev pub invariant-loop-seat : goal.invariant-loop-seat
-invariant-loop-seat l = (k : ℕ) → k < l.seat → EndsIn (config_of l.self) (memory_of l.self) k l.region → ⊥
+invariant-loop-seat loop = (seat : ℕ) → seat < loop.seat → EndsIn (config_of loop.self) (memory_of loop.self) seat loop.region → ⊥

@@ -6,10 +6,10 @@ use Rattle.image_graph.specs.State.{config_of, memory_of}
 use Rattle.image_graph.proofs.image.Image.is_pinned.Goals as goal
 
 pub loop-mutator-preserved : goal.loop-mutator-preserved
-loop-mutator-preserved c = λ t below. ⊎_elim
-    (λ (last : t ≡ c.loop-mutator.mutator). ap (has_pin (config_of c.args.self.now) (memory_of c.args.self.now) c.args.region) last ∙ sym c.has_pin.ensures ∙ c.if-has_pin.false)
-    (λ other. c.loop-mutator.invariant t (omega (arith, below, other)))
-    (cases_eq t c.loop-mutator.mutator)
+loop-mutator-preserved c = λ mutator mutator_below. ⊎_elim
+    (λ (last_mutator : mutator ≡ c.loop-mutator.mutator). ap (has_pin (config_of c.args.self.now) (memory_of c.args.self.now) c.args.region) last_mutator ∙ sym c.has_pin.ensures ∙ c.if-has_pin.false)
+    (λ earlier_mutator. c.loop-mutator.invariant mutator (omega (arith, mutator_below, earlier_mutator)))
+    (cases_eq mutator c.loop-mutator.mutator)
 
 pub returns-then-has_pin : goal.returns-then-has_pin
 returns-then-has_pin c =
@@ -19,4 +19,4 @@ returns-then-has_pin c =
 pub returns : goal.returns
 returns c =
     let config = config_of c.args.self.now in
-    sym (none_from_zero (has_pin config (memory_of c.args.self.now) c.args.region) config.mutators (λ t below. c.loop-mutator.invariant t (omega (arith, below, c.loop-mutator-test.false, c.mutators-mutator-end.ensures))))
+    sym (none_from_zero (has_pin config (memory_of c.args.self.now) c.args.region) config.mutators (λ mutator mutator_below. c.loop-mutator.invariant mutator (omega (arith, mutator_below, c.loop-mutator-test.false, c.mutators-mutator-end.ensures))))

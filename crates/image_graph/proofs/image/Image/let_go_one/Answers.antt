@@ -14,17 +14,17 @@ returns-clause-words c =
     let memory : Word → ℕ = memory_of c.args.self.now in
     let seat = c.args.seat in
     let word : c.word-word.result ≡ memory (Current seat) = c.word-word.ensures.named (Current seat) c.requires.seat (sym c.cur_at-at.ensures) in
-    let some : memory (Current seat) ≢ 0 = λ none. c.if-word-eq0.false (word ∙ none) in
-    let last : is_last config memory (memory (Current seat)) ≡ c.is_last.result = ap (is_last config memory) (sym word) ∙ sym c.is_last.ensures in
+    let some_word : memory (Current seat) ≢ 0 = λ no_word. c.if-word-eq0.false (word ∙ no_word) in
+    let last_tested : is_last config memory (memory (Current seat)) ≡ c.is_last.result = ap (is_last config memory) (sym word) ∙ sym c.is_last.ensures in
     elim c.if-is_last.branch [
       | then-is_last w ↦
-          let yes : c.is_last.result ≡ true = cc in
+          let last_object : c.is_last.result ≡ true = cc in
           stored (config_of c.if-is_last.self) config _ _ (Current seat) c.cur_at-at.result 0 (ap config_of w.self-is ∙ w.give_back.ensures.config) c.requires.seat c.cur_at-at.ensures c.set_word.ensures.named
           ∙ ap (λ (memory : Word → ℕ). write memory (Current seat) 0) (ap memory_of w.self-is ∙ w.give_back.ensures.words ∙ ap (given_back config memory) word)
-          ∙ let_go_back config memory seat some (last ∙ yes)
+          ∙ let_go_back config memory seat some_word (last_tested ∙ last_object)
       | else-is_last w ↦
-          let no : c.is_last.result ≡ false = cc in
+          let not_last : c.is_last.result ≡ false = cc in
           stored (config_of c.if-is_last.self) config _ _ (Current seat) c.cur_at-at.result 0 (ap config_of w.self-is ∙ w.fill.ensures.config) c.requires.seat c.cur_at-at.ensures c.set_word.ensures.named
           ∙ ap (λ (memory : Word → ℕ). write memory (Current seat) 0) (ap memory_of w.self-is ∙ w.fill.ensures.words ∙ ap (filled_over memory) word)
-          ∙ let_go_filled config memory seat some (last ∙ no)
+          ∙ let_go_filled config memory seat some_word (last_tested ∙ not_last)
     ]

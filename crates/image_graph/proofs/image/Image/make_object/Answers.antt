@@ -16,47 +16,47 @@ returns-clause-words c =
     let mutator = c.args.mutator in
     let region = c.args.region in
     let old : Word → ℕ = memory_of c.args.self.now in
-    let same : g ≡ config_of c.args.self.now = c.config-config.ensures in
+    let same_config : g ≡ config_of c.args.self.now = c.config-config.ensures in
     -- what was read
-    let request : c.word-request.result ≡ old (Wait mutator) = c.word-request.ensures.named (Wait mutator) c.requires.mutator (ap (λ (config : Config). word_at config (Wait mutator)) (sym same) ∙ sym c.wait_at.ensures) in
-    let top : c.word-top.result ≡ old (Top region) = c.word-top.ensures.named (Top region) c.requires.region (ap (λ (config : Config). word_at config (Top region)) (sym same) ∙ sym c.top_at.ensures) in
-    let free : c.word-free.result ≡ old Free = c.word-free.ensures.named Free tt (ap (λ (config : Config). word_at config Free) (sym same) ∙ sym c.free_at.ensures) in
-    let shape : c.request_shape-shape.result ≡ request_shape_in (old (Wait mutator)) = c.request_shape-shape.ensures ∙ ap request_shape_in request in
-    let base : c.base.result ≡ base_of (config_of c.args.self.now) region = c.base.ensures ∙ ap (λ (config : Config). base_of config region) same in
+    let request : c.word-request.result ≡ old (Wait mutator) = c.word-request.ensures.named (Wait mutator) c.requires.mutator (ap (λ (config : Config). word_at config (Wait mutator)) (sym same_config) ∙ sym c.wait_at.ensures) in
+    let top_is : c.word-top.result ≡ old (Top region) = c.word-top.ensures.named (Top region) c.requires.region (ap (λ (config : Config). word_at config (Top region)) (sym same_config) ∙ sym c.top_at.ensures) in
+    let same_free : c.word-free.result ≡ old Free = c.word-free.ensures.named Free tt (ap (λ (config : Config). word_at config Free) (sym same_config) ∙ sym c.free_at.ensures) in
+    let shape_is : c.request_shape-shape.result ≡ request_shape_in (old (Wait mutator)) = c.request_shape-shape.ensures ∙ ap request_shape_in request in
+    let base : c.base.result ≡ base_of (config_of c.args.self.now) region = c.base.ensures ∙ ap (λ (config : Config). base_of config region) same_config in
     let other_address : ℕ = c.base.result + c.word-top.result in
-    let address : other_address ≡ base_of (config_of c.args.self.now) region + old (Top region) = omega (arith, base, top) in
-    let name : c.name_word-name.result ≡ name_code (mutator + 1) (request_count_in (old (Wait mutator))) =
+    let address_is : other_address ≡ base_of (config_of c.args.self.now) region + old (Top region) = omega (arith, base, top_is) in
+    let name_is : c.name_word-name.result ≡ name_code (mutator + 1) (request_count_in (old (Wait mutator))) =
     c.name_word-name.ensures ∙ ap (name_code (mutator + 1)) (c.request_count.ensures ∙ ap request_count_in request) in
     let words : c.words_of.result ≡ object_words c.request_shape-shape.result = c.words_of.ensures in
     -- where it is written
-    let inside : AreInHeap (config_of c.args.self.now) (base_of (config_of c.args.self.now) region + old (Top region)) (object_words (request_shape_in (old (Wait mutator)))) =
+    let object_inside : AreInHeap (config_of c.args.self.now) (base_of (config_of c.args.self.now) region + old (Top region)) (object_words (request_shape_in (old (Wait mutator)))) =
     room_in_heap (config_of c.args.self.now) region (old (Top region)) (object_words (request_shape_in (old (Wait mutator)))) c.requires.region c.requires.room in
-    let is_heap : (i : ℕ) → i < 3 → IsWord g (Heap (other_address + i)) =
-    λ i few. subst (λ (config : Config). IsWord config (Heap (other_address + i))) (sym same) (omega (arith, inside.from, address), omega (arith, inside.to, address, few)) in
-    let config_cleared : config_of c.clear.new.self ≡ g = c.clear.ensures.config ∙ sym same in
+    let is_heap : (index : ℕ) → index < 3 → IsWord g (Heap (other_address + index)) =
+    λ index index_few. subst (λ (config : Config). IsWord config (Heap (other_address + index))) (sym same_config) (omega (arith, object_inside.from, address_is), omega (arith, object_inside.to, address_is, index_few)) in
+    let config_cleared : config_of c.clear.new.self ≡ g = c.clear.ensures.config ∙ sym same_config in
     let config_header : config_of c.set_word.new.self ≡ g = c.set_word.ensures.config ∙ config_cleared in
     let config_shape : config_of c.set_word-2.new.self ≡ g = c.set_word-2.ensures.config ∙ config_header in
     let config_name : config_of c.set_word-3.new.self ≡ g = c.set_word-3.ensures.config ∙ config_shape in
     let config_top : config_of c.set_word-4.new.self ≡ g = c.set_word-4.ensures.config ∙ config_name in
     let config_free : config_of c.set_word-5.new.self ≡ g = c.set_word-5.ensures.config ∙ config_top in
     let config_answer : config_of c.set_word-6.new.self ≡ g = c.set_word-6.ensures.config ∙ config_free in
-    let stored_header = stored (config_of c.clear.new.self) g _ _ (Heap other_address) c.heap_at.result 1 config_cleared (subst (λ (config : Config). IsWord config (Heap other_address)) (sym same) (omega (arith, inside.from, address), omega (arith, inside.to, address))) c.heap_at.ensures c.set_word.ensures.named in
+    let stored_header = stored (config_of c.clear.new.self) g _ _ (Heap other_address) c.heap_at.result 1 config_cleared (subst (λ (config : Config). IsWord config (Heap other_address)) (sym same_config) (omega (arith, object_inside.from, address_is), omega (arith, object_inside.to, address_is))) c.heap_at.ensures c.set_word.ensures.named in
     let stored_shape = stored (config_of c.set_word.new.self) g _ _ (Heap (other_address + 1)) c.heap_at-2.result c.request_shape-shape.result config_header (is_heap 1 (omega arith)) c.heap_at-2.ensures c.set_word-2.ensures.named in
     let stored_name = stored (config_of c.set_word-2.new.self) g _ _ (Heap (other_address + 2)) c.heap_at-3.result c.name_word-name.result config_shape (is_heap 2 (omega arith)) c.heap_at-3.ensures c.set_word-3.ensures.named in
-    let stored_top = stored (config_of c.set_word-3.new.self) g _ _ (Top region) c.top_at-2.result (c.word-top.result + c.words_of-2.result) config_name (subst (λ (config : Config). region < config.regions) (sym same) c.requires.region) c.top_at-2.ensures c.set_word-4.ensures.named in
+    let stored_top = stored (config_of c.set_word-3.new.self) g _ _ (Top region) c.top_at-2.result (c.word-top.result + c.words_of-2.result) config_name (subst (λ (config : Config). region < config.regions) (sym same_config) c.requires.region) c.top_at-2.ensures c.set_word-4.ensures.named in
     let stored_free = stored (config_of c.set_word-4.new.self) g _ _ Free c.free_at-2.result (bit_and c.word-free.result c.all_but.result) config_top tt c.free_at-2.ensures c.set_word-5.ensures.named in
-    let stored_answer = stored (config_of c.set_word-5.new.self) g _ _ (Answer mutator) c.answer_at.result other_address config_free (subst (λ (config : Config). mutator < config.mutators) (sym same) c.requires.mutator) c.answer_at.ensures c.set_word-6.ensures.named in
-    let stored_wait = stored (config_of c.set_word-6.new.self) g _ _ (Wait mutator) c.wait_at-2.result 0 config_answer (subst (λ (config : Config). mutator < config.mutators) (sym same) c.requires.mutator) c.wait_at-2.ensures c.set_word-7.ensures.named in
+    let stored_answer = stored (config_of c.set_word-5.new.self) g _ _ (Answer mutator) c.answer_at.result other_address config_free (subst (λ (config : Config). mutator < config.mutators) (sym same_config) c.requires.mutator) c.answer_at.ensures c.set_word-6.ensures.named in
+    let stored_wait = stored (config_of c.set_word-6.new.self) g _ _ (Wait mutator) c.wait_at-2.result 0 config_answer (subst (λ (config : Config). mutator < config.mutators) (sym same_config) c.requires.mutator) c.wait_at-2.ensures c.set_word-7.ensures.named in
     let cleared_is : memory_of c.clear.new.self ≡ heap_cleared other_address (object_words c.request_shape-shape.result) old = c.clear.ensures.words ∙ ap (λ words. heap_cleared other_address words old) words in
-    stored_wait ∙ ap (λ m. write m (Wait mutator) 0)
-    (stored_answer ∙ ap (λ m. write m (Answer mutator) other_address)
-    (stored_free ∙ ap (λ m. write m Free (bit_and c.word-free.result c.all_but.result))
-    (stored_top ∙ ap (λ m. write m (Top region) (c.word-top.result + c.words_of-2.result))
-    (stored_name ∙ ap (λ m. write m (Heap (other_address + 2)) c.name_word-name.result)
-    (stored_shape ∙ ap (λ m. write m (Heap (other_address + 1)) c.request_shape-shape.result)
-    (stored_header ∙ ap (λ m. write m (Heap other_address) 1) cleared_is))))))
+    stored_wait ∙ ap (λ written. write written (Wait mutator) 0)
+    (stored_answer ∙ ap (λ written. write written (Answer mutator) other_address)
+    (stored_free ∙ ap (λ written. write written Free (bit_and c.word-free.result c.all_but.result))
+    (stored_top ∙ ap (λ written. write written (Top region) (c.word-top.result + c.words_of-2.result))
+    (stored_name ∙ ap (λ written. write written (Heap (other_address + 2)) c.name_word-name.result)
+    (stored_shape ∙ ap (λ written. write written (Heap (other_address + 1)) c.request_shape-shape.result)
+    (stored_header ∙ ap (λ written. write written (Heap other_address) 1) cleared_is))))))
     ∙ made_steps (config_of c.args.self.now) old mutator region other_address c.request_shape-shape.result c.name_word-name.result (c.word-top.result + c.words_of-2.result) (bit_and c.word-free.result c.all_but.result)
-    address shape name (omega (arith, top, c.words_of-2.ensures)) (ap (λ k. bit_and k c.all_but.result) free ∙ ap (bit_and (old Free)) c.all_but.ensures.value)
+    address_is shape_is name_is (omega (arith, top_is, c.words_of-2.ensures)) (ap (λ set. bit_and set c.all_but.result) same_free ∙ ap (bit_and (old Free)) c.all_but.ensures.value)
 
 pub wait_at-requires : goal.wait_at-requires
 wait_at-requires c =
@@ -105,10 +105,10 @@ clear-requires c =
     let memory : Word → ℕ = memory_of c.args.self.now in
     let mutator = c.args.mutator in
     let region = c.args.region in
-    let asked : c.word-request.result ≡ memory (Wait mutator) = read config _ memory (Wait mutator) _ _ c.config-config.ensures c.requires.mutator c.wait_at.ensures c.word-request.ensures.named in
+    let request_is : c.word-request.result ≡ memory (Wait mutator) = read config _ memory (Wait mutator) _ _ c.config-config.ensures c.requires.mutator c.wait_at.ensures c.word-request.ensures.named in
     let used : c.word-top.result ≡ memory (Top region) = read config _ memory (Top region) _ _ c.config-config.ensures c.requires.region c.top_at.ensures c.word-top.ensures.named in
-    let inside = made_inside config _ memory mutator region _ _ _ _ c.words_of.result c.config-config.ensures c.requires.region c.requires.room c.base.ensures used asked c.request_shape-shape.ensures c.words_of.ensures in
-    record { inside = inside }
+    let object_inside = made_inside config _ memory mutator region _ _ _ _ c.words_of.result c.config-config.ensures c.requires.region c.requires.room c.base.ensures used request_is c.request_shape-shape.ensures c.words_of.ensures in
+    record { inside = object_inside }
 
 pub heap_at-requires : goal.heap_at-requires
 heap_at-requires c =
@@ -116,10 +116,10 @@ heap_at-requires c =
     let memory : Word → ℕ = memory_of c.args.self.now in
     let mutator = c.args.mutator in
     let region = c.args.region in
-    let asked : c.word-request.result ≡ memory (Wait mutator) = read config _ memory (Wait mutator) _ _ c.config-config.ensures c.requires.mutator c.wait_at.ensures c.word-request.ensures.named in
+    let request_is : c.word-request.result ≡ memory (Wait mutator) = read config _ memory (Wait mutator) _ _ c.config-config.ensures c.requires.mutator c.wait_at.ensures c.word-request.ensures.named in
     let used : c.word-top.result ≡ memory (Top region) = read config _ memory (Top region) _ _ c.config-config.ensures c.requires.region c.top_at.ensures c.word-top.ensures.named in
-    let inside = made_inside config _ memory mutator region _ _ _ _ c.words_of.result c.config-config.ensures c.requires.region c.requires.room c.base.ensures used asked c.request_shape-shape.ensures c.words_of.ensures in
-    first_in config c.config-config.result _ _ c.config-config.ensures inside (omega (arith, c.words_of.ensures))
+    let object_inside = made_inside config _ memory mutator region _ _ _ _ c.words_of.result c.config-config.ensures c.requires.region c.requires.room c.base.ensures used request_is c.request_shape-shape.ensures c.words_of.ensures in
+    first_in config c.config-config.result _ _ c.config-config.ensures object_inside (omega (arith, c.words_of.ensures))
 
 pub set_word-requires : goal.set_word-requires
 set_word-requires c =
@@ -127,10 +127,10 @@ set_word-requires c =
     let memory : Word → ℕ = memory_of c.args.self.now in
     let mutator = c.args.mutator in
     let region = c.args.region in
-    let asked : c.word-request.result ≡ memory (Wait mutator) = read config _ memory (Wait mutator) _ _ c.config-config.ensures c.requires.mutator c.wait_at.ensures c.word-request.ensures.named in
+    let request_is : c.word-request.result ≡ memory (Wait mutator) = read config _ memory (Wait mutator) _ _ c.config-config.ensures c.requires.mutator c.wait_at.ensures c.word-request.ensures.named in
     let used : c.word-top.result ≡ memory (Top region) = read config _ memory (Top region) _ _ c.config-config.ensures c.requires.region c.top_at.ensures c.word-top.ensures.named in
-    let inside = made_inside config _ memory mutator region _ _ _ _ c.words_of.result c.config-config.ensures c.requires.region c.requires.room c.base.ensures used asked c.request_shape-shape.ensures c.words_of.ensures in
-    placed_inside (config_of c.clear.new.self) c.config-config.result (Heap (c.base.result + c.word-top.result)) _ (c.clear.ensures.config ∙ sym c.config-config.ensures) (first_in config c.config-config.result _ _ c.config-config.ensures inside (omega (arith, c.words_of.ensures))) c.heap_at.ensures
+    let object_inside = made_inside config _ memory mutator region _ _ _ _ c.words_of.result c.config-config.ensures c.requires.region c.requires.room c.base.ensures used request_is c.request_shape-shape.ensures c.words_of.ensures in
+    placed_inside (config_of c.clear.new.self) c.config-config.result (Heap (c.base.result + c.word-top.result)) _ (c.clear.ensures.config ∙ sym c.config-config.ensures) (first_in config c.config-config.result _ _ c.config-config.ensures object_inside (omega (arith, c.words_of.ensures))) c.heap_at.ensures
 
 pub overflow_add-address-2 : goal.overflow_add-address-2
 overflow_add-address-2 c =
@@ -138,10 +138,10 @@ overflow_add-address-2 c =
     let memory : Word → ℕ = memory_of c.args.self.now in
     let mutator = c.args.mutator in
     let region = c.args.region in
-    let asked : c.word-request.result ≡ memory (Wait mutator) = read config _ memory (Wait mutator) _ _ c.config-config.ensures c.requires.mutator c.wait_at.ensures c.word-request.ensures.named in
+    let request_is : c.word-request.result ≡ memory (Wait mutator) = read config _ memory (Wait mutator) _ _ c.config-config.ensures c.requires.mutator c.wait_at.ensures c.word-request.ensures.named in
     let used : c.word-top.result ≡ memory (Top region) = read config _ memory (Top region) _ _ c.config-config.ensures c.requires.region c.top_at.ensures c.word-top.ensures.named in
-    let inside = made_inside config _ memory mutator region _ _ _ _ c.words_of.result c.config-config.ensures c.requires.region c.requires.room c.base.ensures used asked c.request_shape-shape.ensures c.words_of.ensures in
-    omega (arith, low_in _ _ _ inside)
+    let object_inside = made_inside config _ memory mutator region _ _ _ _ c.words_of.result c.config-config.ensures c.requires.region c.requires.room c.base.ensures used request_is c.request_shape-shape.ensures c.words_of.ensures in
+    omega (arith, low_in _ _ _ object_inside)
 
 pub heap_at-requires-2 : goal.heap_at-requires-2
 heap_at-requires-2 c =
@@ -149,10 +149,10 @@ heap_at-requires-2 c =
     let memory : Word → ℕ = memory_of c.args.self.now in
     let mutator = c.args.mutator in
     let region = c.args.region in
-    let asked : c.word-request.result ≡ memory (Wait mutator) = read config _ memory (Wait mutator) _ _ c.config-config.ensures c.requires.mutator c.wait_at.ensures c.word-request.ensures.named in
+    let request_is : c.word-request.result ≡ memory (Wait mutator) = read config _ memory (Wait mutator) _ _ c.config-config.ensures c.requires.mutator c.wait_at.ensures c.word-request.ensures.named in
     let used : c.word-top.result ≡ memory (Top region) = read config _ memory (Top region) _ _ c.config-config.ensures c.requires.region c.top_at.ensures c.word-top.ensures.named in
-    let inside = made_inside config _ memory mutator region _ _ _ _ c.words_of.result c.config-config.ensures c.requires.region c.requires.room c.base.ensures used asked c.request_shape-shape.ensures c.words_of.ensures in
-    word_in config c.config-config.result _ _ 1 c.config-config.ensures inside (omega (arith, c.words_of.ensures))
+    let object_inside = made_inside config _ memory mutator region _ _ _ _ c.words_of.result c.config-config.ensures c.requires.region c.requires.room c.base.ensures used request_is c.request_shape-shape.ensures c.words_of.ensures in
+    word_in config c.config-config.result _ _ 1 c.config-config.ensures object_inside (omega (arith, c.words_of.ensures))
 
 pub set_word-requires-2 : goal.set_word-requires-2
 set_word-requires-2 c =
@@ -160,10 +160,10 @@ set_word-requires-2 c =
     let memory : Word → ℕ = memory_of c.args.self.now in
     let mutator = c.args.mutator in
     let region = c.args.region in
-    let asked : c.word-request.result ≡ memory (Wait mutator) = read config _ memory (Wait mutator) _ _ c.config-config.ensures c.requires.mutator c.wait_at.ensures c.word-request.ensures.named in
+    let request_is : c.word-request.result ≡ memory (Wait mutator) = read config _ memory (Wait mutator) _ _ c.config-config.ensures c.requires.mutator c.wait_at.ensures c.word-request.ensures.named in
     let used : c.word-top.result ≡ memory (Top region) = read config _ memory (Top region) _ _ c.config-config.ensures c.requires.region c.top_at.ensures c.word-top.ensures.named in
-    let inside = made_inside config _ memory mutator region _ _ _ _ c.words_of.result c.config-config.ensures c.requires.region c.requires.room c.base.ensures used asked c.request_shape-shape.ensures c.words_of.ensures in
-    placed_inside (config_of c.set_word.new.self) c.config-config.result (Heap (c.base.result + c.word-top.result + 1)) _ (c.set_word.ensures.config ∙ c.clear.ensures.config ∙ sym c.config-config.ensures) (word_in config c.config-config.result _ _ 1 c.config-config.ensures inside (omega (arith, c.words_of.ensures))) c.heap_at-2.ensures
+    let object_inside = made_inside config _ memory mutator region _ _ _ _ c.words_of.result c.config-config.ensures c.requires.region c.requires.room c.base.ensures used request_is c.request_shape-shape.ensures c.words_of.ensures in
+    placed_inside (config_of c.set_word.new.self) c.config-config.result (Heap (c.base.result + c.word-top.result + 1)) _ (c.set_word.ensures.config ∙ c.clear.ensures.config ∙ sym c.config-config.ensures) (word_in config c.config-config.result _ _ 1 c.config-config.ensures object_inside (omega (arith, c.words_of.ensures))) c.heap_at-2.ensures
 
 pub overflow_add-address-3 : goal.overflow_add-address-3
 overflow_add-address-3 c =
@@ -171,10 +171,10 @@ overflow_add-address-3 c =
     let memory : Word → ℕ = memory_of c.args.self.now in
     let mutator = c.args.mutator in
     let region = c.args.region in
-    let asked : c.word-request.result ≡ memory (Wait mutator) = read config _ memory (Wait mutator) _ _ c.config-config.ensures c.requires.mutator c.wait_at.ensures c.word-request.ensures.named in
+    let request_is : c.word-request.result ≡ memory (Wait mutator) = read config _ memory (Wait mutator) _ _ c.config-config.ensures c.requires.mutator c.wait_at.ensures c.word-request.ensures.named in
     let used : c.word-top.result ≡ memory (Top region) = read config _ memory (Top region) _ _ c.config-config.ensures c.requires.region c.top_at.ensures c.word-top.ensures.named in
-    let inside = made_inside config _ memory mutator region _ _ _ _ c.words_of.result c.config-config.ensures c.requires.region c.requires.room c.base.ensures used asked c.request_shape-shape.ensures c.words_of.ensures in
-    omega (arith, low_in _ _ _ inside)
+    let object_inside = made_inside config _ memory mutator region _ _ _ _ c.words_of.result c.config-config.ensures c.requires.region c.requires.room c.base.ensures used request_is c.request_shape-shape.ensures c.words_of.ensures in
+    omega (arith, low_in _ _ _ object_inside)
 
 pub heap_at-requires-3 : goal.heap_at-requires-3
 heap_at-requires-3 c =
@@ -182,10 +182,10 @@ heap_at-requires-3 c =
     let memory : Word → ℕ = memory_of c.args.self.now in
     let mutator = c.args.mutator in
     let region = c.args.region in
-    let asked : c.word-request.result ≡ memory (Wait mutator) = read config _ memory (Wait mutator) _ _ c.config-config.ensures c.requires.mutator c.wait_at.ensures c.word-request.ensures.named in
+    let request_is : c.word-request.result ≡ memory (Wait mutator) = read config _ memory (Wait mutator) _ _ c.config-config.ensures c.requires.mutator c.wait_at.ensures c.word-request.ensures.named in
     let used : c.word-top.result ≡ memory (Top region) = read config _ memory (Top region) _ _ c.config-config.ensures c.requires.region c.top_at.ensures c.word-top.ensures.named in
-    let inside = made_inside config _ memory mutator region _ _ _ _ c.words_of.result c.config-config.ensures c.requires.region c.requires.room c.base.ensures used asked c.request_shape-shape.ensures c.words_of.ensures in
-    word_in config c.config-config.result _ _ 2 c.config-config.ensures inside (omega (arith, c.words_of.ensures))
+    let object_inside = made_inside config _ memory mutator region _ _ _ _ c.words_of.result c.config-config.ensures c.requires.region c.requires.room c.base.ensures used request_is c.request_shape-shape.ensures c.words_of.ensures in
+    word_in config c.config-config.result _ _ 2 c.config-config.ensures object_inside (omega (arith, c.words_of.ensures))
 
 pub set_word-requires-3 : goal.set_word-requires-3
 set_word-requires-3 c =
@@ -193,10 +193,10 @@ set_word-requires-3 c =
     let memory : Word → ℕ = memory_of c.args.self.now in
     let mutator = c.args.mutator in
     let region = c.args.region in
-    let asked : c.word-request.result ≡ memory (Wait mutator) = read config _ memory (Wait mutator) _ _ c.config-config.ensures c.requires.mutator c.wait_at.ensures c.word-request.ensures.named in
+    let request_is : c.word-request.result ≡ memory (Wait mutator) = read config _ memory (Wait mutator) _ _ c.config-config.ensures c.requires.mutator c.wait_at.ensures c.word-request.ensures.named in
     let used : c.word-top.result ≡ memory (Top region) = read config _ memory (Top region) _ _ c.config-config.ensures c.requires.region c.top_at.ensures c.word-top.ensures.named in
-    let inside = made_inside config _ memory mutator region _ _ _ _ c.words_of.result c.config-config.ensures c.requires.region c.requires.room c.base.ensures used asked c.request_shape-shape.ensures c.words_of.ensures in
-    placed_inside (config_of c.set_word-2.new.self) c.config-config.result (Heap (c.base.result + c.word-top.result + 2)) _ (c.set_word-2.ensures.config ∙ c.set_word.ensures.config ∙ c.clear.ensures.config ∙ sym c.config-config.ensures) (word_in config c.config-config.result _ _ 2 c.config-config.ensures inside (omega (arith, c.words_of.ensures))) c.heap_at-3.ensures
+    let object_inside = made_inside config _ memory mutator region _ _ _ _ c.words_of.result c.config-config.ensures c.requires.region c.requires.room c.base.ensures used request_is c.request_shape-shape.ensures c.words_of.ensures in
+    placed_inside (config_of c.set_word-2.new.self) c.config-config.result (Heap (c.base.result + c.word-top.result + 2)) _ (c.set_word-2.ensures.config ∙ c.set_word.ensures.config ∙ c.clear.ensures.config ∙ sym c.config-config.ensures) (word_in config c.config-config.result _ _ 2 c.config-config.ensures object_inside (omega (arith, c.words_of.ensures))) c.heap_at-3.ensures
 
 pub top_at-requires-2 : goal.top_at-requires-2
 top_at-requires-2 c =

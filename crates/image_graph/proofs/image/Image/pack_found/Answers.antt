@@ -11,5 +11,5 @@ pack_words-requires-clause-places c = ap length c.deref_mut-2.ensures.value ∙ 
 
 pub pack_words-requires-clause-compact : goal.pack_words-requires-clause-compact
 pack_words-requires-clause-compact c =
-    subst (λ (w : List ℕ). CanCompact c.args.self.now.config.region_words (heap_in c.args.self.now.config w) c.deref.result.now) (sym c.deref_mut.ensures.value)
-    (subst (λ (s : List Bool). CanCompact c.args.self.now.config.region_words (heap_in c.args.self.now.config c.args.self.now.words.items) s) (sym c.deref.ensures.value) c.requires)
+    subst (λ (words : List ℕ). CanCompact c.args.self.now.config.region_words (heap_in c.args.self.now.config words) c.deref.result.now) (sym c.deref_mut.ensures.value)
+    (subst (λ (flags : List Bool). CanCompact c.args.self.now.config.region_words (heap_in c.args.self.now.config c.args.self.now.words.items) flags) (sym c.deref.ensures.value) c.requires)

@@ -11,11 +11,11 @@ loop-region-init c = set_none (is_pinned (config_of c.args.self.now) (memory_of 
 pub with_if-set-requires-clause-below : goal.with_if-set-requires-clause-below
 with_if-set-requires-clause-below c =
     let test = is_pinned (config_of c.args.self.now) (memory_of c.args.self.now) in
-    subst (λ (k : ℕ). k < 2 ^ c.loop-region.region) (sym c.loop-region.invariant) (set_small test c.loop-region.region)
+    subst (λ (region_set : ℕ). region_set < 2 ^ c.loop-region.region) (sym c.loop-region.invariant) (set_small test c.loop-region.region)
 
 pub loop-region-preserved : goal.loop-region-preserved
 loop-region-preserved c =
     let test = is_pinned (config_of c.args.self.now) (memory_of c.args.self.now) in
     let region = c.loop-region.region in
-    c.with_if-set.ensures ∙ ap (λ b. (if b then 1 else 0) * 2 ^ region + c.loop-region.set) c.is_pinned.ensures
-    ∙ ap (λ k. (if test region then 1 else 0) * 2 ^ region + k) c.loop-region.invariant ∙ set_more test region
+    c.with_if-set.ensures ∙ ap (λ pinned. (if pinned then 1 else 0) * 2 ^ region + c.loop-region.set) c.is_pinned.ensures
+    ∙ ap (λ earlier_set. (if test region then 1 else 0) * 2 ^ region + earlier_set) c.loop-region.invariant ∙ set_more test region

@@ -4,4 +4,4 @@ use Rattle.image_graph.specs.State.{config_of, memory_of}
 use Rattle.image_graph.proofs.image.Image.pinned_set.Given as goal
 
 abbrev pub invariant-loop-region : goal.invariant-loop-region
-invariant-loop-region l = l.set ≡ set_of (is_pinned (config_of l.self) (memory_of l.self)) l.region
+invariant-loop-region loop = loop.set ≡ set_of (is_pinned (config_of loop.self) (memory_of loop.self)) loop.region

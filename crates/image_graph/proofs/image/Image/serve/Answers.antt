@@ -13,14 +13,14 @@ pub give_turns-requires : goal.give_turns-requires
 give_turns-requires c = holds_within (config_of c.args.self.now) (memory_of c.args.self.now) c.requires.holds
 
 pub returns-clause-graph : goal.returns-clause-graph
-returns-clause-graph c = λ block g p stands asking.
+returns-clause-graph c = λ block graph promises stands asking.
     let config = config_of c.args.self.now in
     let memory : Word → ℕ = memory_of c.args.self.now in
-    subst (λ (other_memory : Word → ℕ). ImageStands config other_memory (served_block config memory block config.mutators) g (served_promises config memory p config.mutators)) (sym c.give_turns.ensures.words)
-    (served_stands config g memory block p stands asking config.mutators (omega arith))
+    subst (λ (some_memory : Word → ℕ). ImageStands config some_memory (served_block config memory block config.mutators) graph (served_promises config memory promises config.mutators)) (sym c.give_turns.ensures.words)
+    (served_stands config graph memory block promises stands asking config.mutators (omega arith))
 
 pub returns-clause-holds : goal.returns-clause-holds
-returns-clause-holds c = λ block owner p g holds.
+returns-clause-holds c = λ block owner promises graph holds.
     let config = config_of c.args.self.now in
     let memory : Word → ℕ = memory_of c.args.self.now in
-    subst (λ (other_memory : Word → ℕ). HoldsServed config memory other_memory block owner p g) (sym c.give_turns.ensures.words) (serving_holds config memory block owner p g holds)
+    subst (λ (some_memory : Word → ℕ). HoldsServed config memory some_memory block owner promises graph) (sym c.give_turns.ensures.words) (serving_holds config memory block owner promises graph holds)

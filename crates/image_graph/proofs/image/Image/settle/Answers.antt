@@ -18,10 +18,10 @@ settle_one-requires-clause-inside c =
     let config = config_of c.args.self.now in
     let memory : Word → ℕ = memory_of c.args.self.now in
     let seat = c.loop-seat.seat in
-    let same : config_of c.loop-seat.self ≡ config = c.loop-seat.invariant.config in
+    let same_config : config_of c.loop-seat.self ≡ config = c.loop-seat.invariant.config in
     let word : memory_of c.loop-seat.self (Current seat) ≡ memory (Current seat) = ap (λ (memory : Word → ℕ). memory (Current seat)) c.loop-seat.invariant.words ∙ settled_later config memory seat seat (omega arith) in
-    let below : seat < seat_count config.mutators config.helpers = omega (arith, c.loop-seat-test.true, c.seats-seat-end.ensures) in
-    λ some. subst (λ (word : ℕ). IsInside (config_of c.loop-seat.self) word) (sym word) (subst (λ (config : Config). IsInside config (memory (Current seat))) (sym same) (c.requires seat below (λ none. some (word ∙ none))))
+    let seat_below : seat < seat_count config.mutators config.helpers = omega (arith, c.loop-seat-test.true, c.seats-seat-end.ensures) in
+    λ some_word. subst (λ (word : ℕ). IsInside (config_of c.loop-seat.self) word) (sym word) (subst (λ (config : Config). IsInside config (memory (Current seat))) (sym same_config) (c.requires seat seat_below (λ no_word. some_word (word ∙ no_word))))
 
 pub loop-seat-preserved : goal.loop-seat-preserved
 loop-seat-preserved c =
@@ -38,6 +38,6 @@ pub returns-clause-holds : goal.returns-clause-holds
 returns-clause-holds c =
     let config = config_of c.args.self.now in
     let memory : Word → ℕ = memory_of c.args.self.now in
-    let all : c.loop-seat.seat ≡ seat_count config.mutators config.helpers = omega (arith, c.loop-seat-test.false, c.loop-seat.auto.seat-end, c.seats-seat-end.ensures) in
-    let words : memory_of c.loop-seat.self ≡ buffers_settled config memory = c.loop-seat.invariant.words ∙ ap (settled_below config memory) all in
-    subst (SettlingHolds config memory) (sym words) (settling_holds config memory (no_more_seats config (words_of c.args.self.now)))
+    let all_seats : c.loop-seat.seat ≡ seat_count config.mutators config.helpers = omega (arith, c.loop-seat-test.false, c.loop-seat.auto.seat-end, c.seats-seat-end.ensures) in
+    let words_settled : memory_of c.loop-seat.self ≡ buffers_settled config memory = c.loop-seat.invariant.words ∙ ap (settled_below config memory) all_seats in
+    subst (SettlingHolds config memory) (sym words_settled) (settling_holds config memory (no_more_seats config (words_of c.args.self.now)))

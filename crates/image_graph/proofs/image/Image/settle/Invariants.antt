@@ -4,7 +4,7 @@ use Rattle.image_graph.specs.State.{config_of, memory_of}
 use Rattle.image_graph.proofs.image.Image.settle.Given as goal
 
 abbrev pub invariant-loop-seat : goal.invariant-loop-seat
-invariant-loop-seat l = record {
-  config : config_of l.self ≡ config_of l.fn.self;
-  words : memory_of l.self ≡ settled_below (config_of l.fn.self) (memory_of l.fn.self) l.seat;
+invariant-loop-seat loop = record {
+  config : config_of loop.self ≡ config_of loop.fn.self;
+  words : memory_of loop.self ≡ settled_below (config_of loop.fn.self) (memory_of loop.fn.self) loop.seat;
 }

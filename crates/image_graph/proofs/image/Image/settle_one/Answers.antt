@@ -13,7 +13,7 @@ returns-clause-words c =
     let seat = c.args.seat in
     let word : c.word-word.result ≡ memory (Current seat) = c.word-word.ensures.named (Current seat) c.requires.seat (sym c.cur_at-at.ensures) in
     let inner : is_last config memory (memory (Current seat)) ≡ false = ap (is_last config memory) (sym word) ∙ sym c.is_last.ensures ∙ cc in
-    let some : memory (Current seat) ≢ 0 = λ none. c.if-word-eq0.false (word ∙ none) in
+    let some_word : memory (Current seat) ≢ 0 = λ no_word. c.if-word-eq0.false (word ∙ no_word) in
     stored (config_of c.fill.new.self) config _ _ (Current seat) c.cur_at-at.result 0 c.fill.ensures.config c.requires.seat c.cur_at-at.ensures c.set_word.ensures.named
     ∙ ap (λ (memory : Word → ℕ). write memory (Current seat) 0) (c.fill.ensures.words ∙ ap (filled_over memory) word)
-    ∙ settled_gone config memory seat some inner
+    ∙ settled_gone config memory seat some_word inner

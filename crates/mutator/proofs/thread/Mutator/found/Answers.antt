@@ -8,4 +8,4 @@ pub returns : goal.returns
 returns c =
     let mutator = c.args.self.now in
     touch_found mutator.config c.args.words.now mutator.mutator mutator.made mutator.kept mutator.order mutator.spot (and_parts _ _ (and_parts _ _ mutator.ready).0).0
-    ∙ sym (ap (λ k. get_or c.args.words.now k 0) (c.at.ensures ∙ ap table_index c.plan.ensures.row))
+    ∙ sym (ap (λ index. get_or c.args.words.now index 0) (c.at.ensures ∙ ap table_index c.plan.ensures.row))

@@ -65,11 +65,11 @@ returns-in-Entering-clause-again c = rw ((c.requires.at ∙ c.in-Entering.is), c
 pub invariant_of-self-in-LoadSet : goal.invariant_of-self-in-LoadSet
 invariant_of-self-in-LoadSet c =
     let mutator = c.args.self.now in
-    let there : Spot → Mutating = λ spot. record (seen mutator) { kept = record mutator.kept { cset = c.args.got }; spot = spot } in
+    let mutator_at : Spot → Mutating = λ spot. record (seen mutator) { kept = record mutator.kept { cset = c.args.got }; spot = spot } in
     record {
       is_mutator = mutator.is_mutator;
       allowed = pending c.first_spot-self.result mutator.made mutator.order c.requires.none;
-      ready = ready_next mutator.config (seen mutator) Nothing c.args.got LoadSet (there c.first_spot-self.result) (c.requires.at ∙ c.in-LoadSet.is) (ap there (sym c.first_spot-self.ensures)) c.requires.fit.0;
+      ready = ready_next mutator.config (seen mutator) Nothing c.args.got LoadSet (mutator_at c.first_spot-self.result) (c.requires.at ∙ c.in-LoadSet.is) (ap mutator_at (sym c.first_spot-self.ensures)) c.requires.fit.0;
     }
 
 pub invariant_of-self-in-Leave : goal.invariant_of-self-in-Leave

@@ -15,13 +15,13 @@ pub after-next-requires-clause-seat : goal.after-next-requires-clause-seat
 after-next-requires-clause-seat c = c.args.self.now.is_mutator
 
 pub after-next-requires-clause-fits : goal.after-next-requires-clause-fits
-after-next-requires-clause-fits c = let mutator = c.args.self.now in let ready = ready_at mutator.config mutator.mutator mutator.made mutator.kept mutator.spot (Making c.args.at) c.requires.at mutator.ready in ready.0
+after-next-requires-clause-fits c = let mutator = c.args.self.now in let spot_ready = ready_at mutator.config mutator.mutator mutator.made mutator.kept mutator.spot (Making c.args.at) c.requires.at mutator.ready in spot_ready.0
 
 pub after-next-requires-clause-make : goal.after-next-requires-clause-make
-after-next-requires-clause-make c = let mutator = c.args.self.now in let ready = ready_at mutator.config mutator.mutator mutator.made mutator.kept mutator.spot (Making c.args.at) c.requires.at mutator.ready in (and_parts _ _ ready.1).0
+after-next-requires-clause-make c = let mutator = c.args.self.now in let spot_ready = ready_at mutator.config mutator.mutator mutator.made mutator.kept mutator.spot (Making c.args.at) c.requires.at mutator.ready in (and_parts _ _ spot_ready.1).0
 
 pub after-next-requires-clause-numbers : goal.after-next-requires-clause-numbers
-after-next-requires-clause-numbers c = let mutator = c.args.self.now in let ready = ready_at mutator.config mutator.mutator mutator.made mutator.kept mutator.spot (Making c.args.at) c.requires.at mutator.ready in (and_parts _ _ ready.1).1
+after-next-requires-clause-numbers c = let mutator = c.args.self.now in let spot_ready = ready_at mutator.config mutator.mutator mutator.made mutator.kept mutator.spot (Making c.args.at) c.requires.at mutator.ready in (and_parts _ _ spot_ready.1).1
 
 pub after-next-requires-clause-fit : goal.after-next-requires-clause-fit
 after-next-requires-clause-fit c = let mutator = c.args.self.now in

@@ -18,6 +18,6 @@ returns-clause-answer c = c.call_says.ensures ∙ ap call_says c.after-at.ensure
 
 pub returns-clause-again : goal.returns-clause-again
 returns-clause-again c = (
-  λ is. c.after-at.ensures.again.0 ((says_again _).0 (sym c.call_says.ensures ∙ is)),
+  λ said_again. c.after-at.ensures.again.0 ((says_again _).0 (sym c.call_says.ensures ∙ said_again)),
   λ waits. c.call_says.ensures ∙ (says_again _).1 (c.after-at.ensures.again.1 waits),
 )

@@ -27,14 +27,14 @@ go_on-requires-clause-takes c =
 pub go_on-requires-clause-fit : goal.go_on-requires-clause-fit
 go_on-requires-clause-fit c =
     let mutator = c.args.self.now in
-    let none = in_progress mutator.spot mutator.made mutator.order (ap takes_commands c.requires.at ∙ sym c.takes_commands.ensures ∙ c.if-takes_commands.false) (takes_where_busy _ _ _ c.requires.busy mutator.allowed) in
-    subst (λ (order : Order). IsFit mutator.config (seen mutator) order c.args.got) none c.requires.fit
+    let no_order = in_progress mutator.spot mutator.made mutator.order (ap takes_commands c.requires.at ∙ sym c.takes_commands.ensures ∙ c.if-takes_commands.false) (takes_where_busy _ _ _ c.requires.busy mutator.allowed) in
+    subst (λ (order : Order). IsFit mutator.config (seen mutator) order c.args.got) no_order c.requires.fit
 
 pub returns-clause-seen : goal.returns-clause-seen
 returns-clause-seen c =
     let mutator = c.args.self.now in
-    let none = in_progress mutator.spot mutator.made mutator.order (ap takes_commands c.requires.at ∙ sym c.takes_commands.ensures ∙ c.if-takes_commands.false) (takes_where_busy _ _ _ c.requires.busy mutator.allowed) in
-    c.go_on.ensures.seen ∙ ap (λ (order : Order). next_of mutator.config (seen mutator) order c.args.got) (sym none)
+    let no_order = in_progress mutator.spot mutator.made mutator.order (ap takes_commands c.requires.at ∙ sym c.takes_commands.ensures ∙ c.if-takes_commands.false) (takes_where_busy _ _ _ c.requires.busy mutator.allowed) in
+    c.go_on.ensures.seen ∙ ap (λ (order : Order). next_of mutator.config (seen mutator) order c.args.got) (sym no_order)
 
 pub returns-clause-done : goal.returns-clause-done
 returns-clause-done c = let mutator = c.args.self.now in rw c.go_on.ensures.answer (ends mutator.config mutator.kept mutator.order mutator.spot c.args.got)
@@ -42,7 +42,7 @@ returns-clause-done c = let mutator = c.args.self.now in rw c.go_on.ensures.answ
 pub returns-clause-replied : goal.returns-clause-replied
 returns-clause-replied c =
     let mutator = c.args.self.now in
-    λ is none. replies mutator.config (seen mutator) Nothing c.args.got mutator.spot (sym c.go_on.ensures.answer ∙ is) (sym (ap (λ n. reply_at n.spot) c.go_on.ensures.seen) ∙ none)
+    λ said_done no_reply. replies mutator.config (seen mutator) Nothing c.args.got mutator.spot (sym c.go_on.ensures.answer ∙ said_done) (sym (ap (λ next_state. reply_at next_state.spot) c.go_on.ensures.seen) ∙ no_reply)
 
 pub returns-then-takes_commands-clause-seen : goal.returns-then-takes_commands-clause-seen
 returns-then-takes_commands-clause-seen c =
@@ -60,9 +60,9 @@ returns-then-takes_commands-clause-done c =
     subst (λ (said : Took). (said ≡ Done) ↔ (place_at mutator.order mutator.spot ≡ LV)) (says_more mutator.config mutator.kept mutator.spot c.args.got (ap takes_commands c.requires.at ∙ sym c.takes_commands.ensures ∙ c.if-takes_commands.true)) (ends mutator.config mutator.kept mutator.order mutator.spot c.args.got)
 
 pub returns-then-takes_commands-clause-replied : goal.returns-then-takes_commands-clause-replied
-returns-then-takes_commands-clause-replied c = λ is. absurd (cc (is))
+returns-then-takes_commands-clause-replied c = λ said_done. absurd (cc (said_done))
 
 pub returns-then-takes_commands-clause-again : goal.returns-then-takes_commands-clause-again
 returns-then-takes_commands-clause-again c =
     let mutator = c.args.self.now in
-    (λ is. absurd (cc (is)), λ waits. absurd (waits_nowhere mutator.spot c.args.got (ap takes_commands c.requires.at ∙ sym c.takes_commands.ensures ∙ c.if-takes_commands.true) waits))
+    (λ said_again. absurd (cc (said_again)), λ waits. absurd (waits_nowhere mutator.spot c.args.got (ap takes_commands c.requires.at ∙ sym c.takes_commands.ensures ∙ c.if-takes_commands.true) waits))

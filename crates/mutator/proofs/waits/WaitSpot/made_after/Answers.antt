@@ -6,5 +6,5 @@ use Rattle.mutator.proofs.waits.WaitSpot.made_after.Goals as goal
 
 pub overflow_add-result : goal.overflow_add-result
 overflow_add-result c =
-    let below : c.args.made < most_objects = ltb-true _ _ (subst (λ at. can_count c.args.made at ≡ true) c.in-StoreRoot.is c.requires) in
+    let count_below : c.args.made < most_objects = ltb-true _ _ (subst (λ spot. can_count c.args.made spot ≡ true) c.in-StoreRoot.is c.requires) in
     omega arith

@@ -6,10 +6,10 @@ use Rattle.program_calls.specs.Noted.{IsOfSteps, steps_named}
 use Rattle.program_calls.proofs.turns.Turns.schedule.Given as goal
 
 abbrev pub invariant-loop-step : goal.invariant-loop-step
-invariant-loop-step l = record {
-  here : l.last < seat_count l.config.mutators l.config.helpers;
-  few : l.count ≤ 4000000000;
-  items : AllByRecursion (IsItem l.config) l.schedule;
-  of_steps : AllByRecursion IsOfSteps l.schedule;
-  steps : steps_named l.schedule + l.count ≡ l.step;
+invariant-loop-step loop = record {
+  here : loop.last < seat_count loop.config.mutators loop.config.helpers;
+  few : loop.count ≤ 4000000000;
+  items : AllByRecursion (IsItem loop.config) loop.schedule;
+  of_steps : AllByRecursion IsOfSteps loop.schedule;
+  steps : steps_named loop.schedule + loop.count ≡ loop.step;
 }

@@ -16,7 +16,7 @@ loop-rest-preserved g c =
         front_moves _ done rest count split,
       );
       stopped = λ f.
-          (let still : c.loop-rest.self.failed ≡ c.args.self.now.failed = ap (λ (h : Held). h.failed) (c.loop-rest.invariant.stopped f).0 in
+          (let still_failed : c.loop-rest.self.failed ≡ c.args.self.now.failed = ap (λ (block : Held). block.failed) (c.loop-rest.invariant.stopped f).0 in
           let going : c.loop-rest.self.failed ≡ false = search rules in
           let never : ⊥ = cc in
           absurd never);

@@ -9,8 +9,8 @@ use Rattle.shen_check.proofs.judge.Judge.is_answered_by.Goals as goal
 
 pub write-requires-clause-room : goal.write-requires-clause-room
 write-requires-clause-room c = λ words live.
-    let same = live_once (graph_of c.args.self.graph) words c.in_ok-words.words live c.in_ok-words.ensures in
-    omega (arith, same, ap (λ t. t.room) c.in_ok-graph.ensures)
+    let live_same = live_once (graph_of c.args.self.graph) words c.in_ok-words.words live c.in_ok-words.ensures in
+    omega (arith, live_same, ap (λ text. text.room) c.in_ok-graph.ensures)
 
 pub returns : goal.returns
 returns c = λ scripts before count judged.
@@ -18,6 +18,6 @@ returns c = λ scripts before count judged.
     let work = c.args.self.work in
     let shows = subst (λ threads. IsTextOf (graph_of c.args.self.graph) threads text) (sym c.requires.threads) c.in_ok-write.ensures.ok in
     map_ok c.is_text.result _ _
-    (λ same compared. answered c.args.version scripts before c.args.self.graph work text c.args.body.now
-    (answer_text c.args.version (length text.roots) (λ t. replies_of work (t - 1)) text.rows (root_of text) (pin_of text)) same c.args.threads judged count shows refl compared)
+    (λ alike compared. answered c.args.version scripts before c.args.self.graph work text c.args.body.now
+    (answer_text c.args.version (length text.roots) (λ thread. replies_of work (thread - 1)) text.rows (root_of text) (pin_of text)) alike c.args.threads judged count shows refl compared)
     c.is_text.ensures

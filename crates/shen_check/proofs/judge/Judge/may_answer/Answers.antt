@@ -8,7 +8,7 @@ use Rattle.shen_check.proofs.Accepted.{answered}
 use Rattle.shen_check.proofs.judge.Judge.may_answer.Goals as goal
 
 no_full : (reply : Reply) (told : Bool) → told ≡ eq-value.it reply Full → told ≡ false → reply ≡ Full → ⊥
-no_full reply told is other same = let one = sym other ∙ is ∙ ap (λ (reply : Reply). eq-value.it reply Full) same in absurd cc
+no_full reply told told_is not_told reply_full = let not_full = sym not_told ∙ told_is ∙ ap (λ (reply : Reply). eq-value.it reply Full) reply_full in absurd cc
 
 pub returns-clause-answer : goal.returns-clause-answer
 returns-clause-answer c =

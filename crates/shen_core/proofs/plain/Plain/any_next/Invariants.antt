@@ -6,4 +6,4 @@ use Rattle.shen_core.specs.State.{Shows}
 use Rattle.shen_core.proofs.plain.Plain.any_next.Given as goal
 
 abbrev pub invariant-loop-number : goal.invariant-loop-number
-invariant-loop-number l = (scripts : Scripts) (stage : Stage Actor) → Shows l.self stage → (k : ℕ) → k < l.number → turn scripts stage k ≡ None
+invariant-loop-number loop = (scripts : Scripts) (stage : Stage Actor) → Shows loop.self stage → (number : ℕ) → number < loop.number → turn scripts stage number ≡ None

@@ -10,19 +10,19 @@ use Rattle.shen_core.proofs.plain.Plain.begin.Goals as goal
 
 pub begin-requires-clause-rest : goal.begin-requires-clause-rest
 begin-requires-clause-rest c =
-    let here = from_read c.args.self.now.machines.items c.args.number c.index_mut.result.now (omega (arith, c.args.self.now.all_machines, c.requires.number)) c.index_mut.ensures.value in
-    ap may_begin (sym (machine_here c.args.self.now.machines.items c.args.number c.index_mut.result.now here)) ∙ c.requires.rest
+    let machine_there = from_read c.args.self.now.machines.items c.args.number c.index_mut.result.now (omega (arith, c.args.self.now.all_machines, c.requires.number)) c.index_mut.ensures.value in
+    ap may_begin (sym (machine_here c.args.self.now.machines.items c.args.number c.index_mut.result.now machine_there)) ∙ c.requires.rest
 
 pub invariant_of-self : goal.invariant_of-self
 invariant_of-self c =
     let plain = c.args.self.now in
-    let here = from_read plain.machines.items c.args.number c.index_mut.result.now (omega (arith, plain.all_machines, c.requires.number)) c.index_mut.ensures.value in
+    let machine_there = from_read plain.machines.items c.args.number c.index_mut.result.now (omega (arith, plain.all_machines, c.requires.number)) c.index_mut.ensures.value in
     record {
       all_words = plain.all_words;
       all_machines = length-set plain.machines.items _ _ ∙ plain.all_machines;
-      one_heap = ordered_heap plain.config plain.machines.items c.args.number c.index_mut.result.now c.begin.new.self here c.begin.ensures.heap plain.one_heap;
+      one_heap = ordered_heap plain.config plain.machines.items c.args.number c.index_mut.result.now c.begin.new.self machine_there c.begin.ensures.heap plain.one_heap;
       reached = ∥∥₁_map plain.reached (subst (λ machines. IsShownBySomeRun plain.config plain.words.items machines)
-          (sym (ordered_machines plain.machines.items c.args.number c.index_mut.result.now c.begin.new.self here c.begin.ensures.shown)));
+          (sym (ordered_machines plain.machines.items c.args.number c.index_mut.result.now c.begin.new.self machine_there c.begin.ensures.shown)));
     }
 
 pub returns-clause-order : goal.returns-clause-order
@@ -30,8 +30,8 @@ returns-clause-order c = ordered_orders c.args.self.now.machines.items c.args.nu
 
 pub returns-clause-machines : goal.returns-clause-machines
 returns-clause-machines c =
-    let here = from_read c.args.self.now.machines.items c.args.number c.index_mut.result.now (omega (arith, c.args.self.now.all_machines, c.requires.number)) c.index_mut.ensures.value in
-    ordered_machines c.args.self.now.machines.items c.args.number c.index_mut.result.now c.begin.new.self here c.begin.ensures.shown
+    let machine_there = from_read c.args.self.now.machines.items c.args.number c.index_mut.result.now (omega (arith, c.args.self.now.all_machines, c.requires.number)) c.index_mut.ensures.value in
+    ordered_machines c.args.self.now.machines.items c.args.number c.index_mut.result.now c.begin.new.self machine_there c.begin.ensures.shown
 
 pub index_mut-requires : goal.index_mut-requires
 index_mut-requires c =
@@ -43,13 +43,13 @@ begin-requires-clause-valid c = c.requires.valid
 
 pub begin-requires-clause-made : goal.begin-requires-clause-made
 begin-requires-clause-made c =
-    let here = from_read c.args.self.now.machines.items c.args.number c.index_mut.result.now (omega (arith, c.args.self.now.all_machines, c.requires.number)) c.index_mut.ensures.value in
-    subst (λ n. n < most_objects) (ap made_of_machine (machine_here c.args.self.now.machines.items c.args.number c.index_mut.result.now here)) c.requires.made
+    let machine_there = from_read c.args.self.now.machines.items c.args.number c.index_mut.result.now (omega (arith, c.args.self.now.all_machines, c.requires.number)) c.index_mut.ensures.value in
+    subst (λ made_count. made_count < most_objects) (ap made_of_machine (machine_here c.args.self.now.machines.items c.args.number c.index_mut.result.now machine_there)) c.requires.made
 
 pub returns-clause-takes : goal.returns-clause-takes
 returns-clause-takes c =
-    let here = from_read c.args.self.now.machines.items c.args.number c.index_mut.result.now (omega (arith, c.args.self.now.all_machines, c.requires.number)) c.index_mut.ensures.value in
-    ap (λ x. takes_of x (Begin c.args.command)) (machine_here c.args.self.now.machines.items c.args.number c.index_mut.result.now here) ∙ c.begin.ensures.takes
+    let machine_there = from_read c.args.self.now.machines.items c.args.number c.index_mut.result.now (omega (arith, c.args.self.now.all_machines, c.requires.number)) c.index_mut.ensures.value in
+    ap (λ machine. takes_of machine (Begin c.args.command)) (machine_here c.args.self.now.machines.items c.args.number c.index_mut.result.now machine_there) ∙ c.begin.ensures.takes
 
 pub returns-clause-words : goal.returns-clause-words
 returns-clause-words c = refl

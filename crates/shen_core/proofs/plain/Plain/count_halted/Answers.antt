@@ -11,10 +11,10 @@ loop-number-preserved c =
     elim c.if-is_halted.branch [
       | then-is_halted w ↦ record {
         halted = halted_more plain number c.loop-number.waiting c.if-is_halted.waiting w.waiting-is (c.is_halted.ensures w.if-is_halted.true) c.loop-number.invariant.halted;
-        few = (let is = w.waiting-is in omega arith);
+        few = (let waiting_is = w.waiting-is in omega arith);
       }
       | else-is_halted+else-may_move w ↦ record {
         halted = ended_more plain number c.loop-number.waiting c.if-is_halted.waiting w.waiting-is (w.may_move.ensures w.if-may_move.false) c.loop-number.invariant.halted;
-        few = (let is = w.waiting-is in omega arith);
+        few = (let waiting_is = w.waiting-is in omega arith);
       }
     ]

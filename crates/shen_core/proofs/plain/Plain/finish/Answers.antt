@@ -9,19 +9,19 @@ use Rattle.shen_core.proofs.plain.Plain.finish.Goals as goal
 
 pub finish-requires : goal.finish-requires
 finish-requires c =
-    let here = from_read c.args.self.now.machines.items c.args.number c.index_mut.result.now (omega (arith, c.args.self.now.all_machines, c.requires.number)) c.index_mut.ensures.value in
-    ap may_begin (sym (machine_here c.args.self.now.machines.items c.args.number c.index_mut.result.now here)) ∙ c.requires.rest
+    let machine_there = from_read c.args.self.now.machines.items c.args.number c.index_mut.result.now (omega (arith, c.args.self.now.all_machines, c.requires.number)) c.index_mut.ensures.value in
+    ap may_begin (sym (machine_here c.args.self.now.machines.items c.args.number c.index_mut.result.now machine_there)) ∙ c.requires.rest
 
 pub invariant_of-self : goal.invariant_of-self
 invariant_of-self c =
     let plain = c.args.self.now in
-    let here = from_read plain.machines.items c.args.number c.index_mut.result.now (omega (arith, plain.all_machines, c.requires.number)) c.index_mut.ensures.value in
+    let machine_there = from_read plain.machines.items c.args.number c.index_mut.result.now (omega (arith, plain.all_machines, c.requires.number)) c.index_mut.ensures.value in
     record {
       all_words = plain.all_words;
       all_machines = length-set plain.machines.items _ _ ∙ plain.all_machines;
-      one_heap = ordered_heap plain.config plain.machines.items c.args.number c.index_mut.result.now c.finish.new.self here c.finish.ensures.heap plain.one_heap;
+      one_heap = ordered_heap plain.config plain.machines.items c.args.number c.index_mut.result.now c.finish.new.self machine_there c.finish.ensures.heap plain.one_heap;
       reached = ∥∥₁_map plain.reached (subst (λ machines. IsShownBySomeRun plain.config plain.words.items machines)
-          (sym (ordered_machines plain.machines.items c.args.number c.index_mut.result.now c.finish.new.self here c.finish.ensures.shown)));
+          (sym (ordered_machines plain.machines.items c.args.number c.index_mut.result.now c.finish.new.self machine_there c.finish.ensures.shown)));
     }
 
 pub returns-clause-order : goal.returns-clause-order
@@ -29,8 +29,8 @@ returns-clause-order c = ordered_orders c.args.self.now.machines.items c.args.nu
 
 pub returns-clause-machines : goal.returns-clause-machines
 returns-clause-machines c =
-    let here = from_read c.args.self.now.machines.items c.args.number c.index_mut.result.now (omega (arith, c.args.self.now.all_machines, c.requires.number)) c.index_mut.ensures.value in
-    ordered_machines c.args.self.now.machines.items c.args.number c.index_mut.result.now c.finish.new.self here c.finish.ensures.shown
+    let machine_there = from_read c.args.self.now.machines.items c.args.number c.index_mut.result.now (omega (arith, c.args.self.now.all_machines, c.requires.number)) c.index_mut.ensures.value in
+    ordered_machines c.args.self.now.machines.items c.args.number c.index_mut.result.now c.finish.new.self machine_there c.finish.ensures.shown
 
 pub index_mut-requires : goal.index_mut-requires
 index_mut-requires c =
@@ -39,8 +39,8 @@ index_mut-requires c =
 
 pub returns-clause-takes : goal.returns-clause-takes
 returns-clause-takes c =
-    let here = from_read c.args.self.now.machines.items c.args.number c.index_mut.result.now (omega (arith, c.args.self.now.all_machines, c.requires.number)) c.index_mut.ensures.value in
-    ap (λ x. takes_of x End) (machine_here c.args.self.now.machines.items c.args.number c.index_mut.result.now here) ∙ c.finish.ensures.takes
+    let machine_there = from_read c.args.self.now.machines.items c.args.number c.index_mut.result.now (omega (arith, c.args.self.now.all_machines, c.requires.number)) c.index_mut.ensures.value in
+    ap (λ x. takes_of x End) (machine_here c.args.self.now.machines.items c.args.number c.index_mut.result.now machine_there) ∙ c.finish.ensures.takes
 
 pub returns-clause-words : goal.returns-clause-words
 returns-clause-words c = refl

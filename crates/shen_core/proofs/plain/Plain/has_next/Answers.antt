@@ -16,7 +16,7 @@ has_next-requires c =
 pub returns : goal.returns
 returns c =
     let plain = c.args.self.now in
-    let m = c.index.result.now in
-    let here = from_read plain.machines.items c.args.number m (omega (arith, plain.all_machines, c.requires.number)) c.index.ensures in
+    let found_machine = c.index.result.now in
+    let machine_there = from_read plain.machines.items c.args.number found_machine (omega (arith, plain.all_machines, c.requires.number)) c.index.ensures in
     some_turn plain c.args.number c.has_next.result (omega (arith, length-map plain.machines.items shown, plain.all_machines, c.requires.number))
-    (λ next. ap (λ machine. is_some (order_for next machine)) (machine_here plain.machines.items c.args.number m here) ∙ c.has_next.ensures next)
+    (λ next_command. ap (λ machine. is_some (order_for next_command machine)) (machine_here plain.machines.items c.args.number found_machine machine_there) ∙ c.has_next.ensures next_command)

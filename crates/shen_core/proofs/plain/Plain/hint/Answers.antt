@@ -10,25 +10,25 @@ use Rattle.shen_core.proofs.plain.Plain.hint.Goals as goal
 
 pub give_hint-requires-clause-takes : goal.give_hint-requires-clause-takes
 give_hint-requires-clause-takes c =
-    let here = from_read c.args.self.now.machines.items c.args.number c.index_mut.result.now (omega (arith, c.args.self.now.all_machines, c.requires.number)) c.index_mut.ensures.value in
-    ap takes_hint (sym (machine_here c.args.self.now.machines.items c.args.number c.index_mut.result.now here)) ∙ c.requires.takes
+    let machine_there = from_read c.args.self.now.machines.items c.args.number c.index_mut.result.now (omega (arith, c.args.self.now.all_machines, c.requires.number)) c.index_mut.ensures.value in
+    ap takes_hint (sym (machine_here c.args.self.now.machines.items c.args.number c.index_mut.result.now machine_there)) ∙ c.requires.takes
 
 pub give_hint-requires-clause-heap : goal.give_hint-requires-clause-heap
 give_hint-requires-clause-heap c =
     let plain = c.args.self.now in
-    let here = from_read plain.machines.items c.args.number c.index_mut.result.now (omega (arith, plain.all_machines, c.requires.number)) c.index_mut.ensures.value in
-    subst (λ k. IsWord k (Heap c.args.address)) (sym (heap_here plain.config plain.machines.items c.args.number c.index_mut.result.now plain.one_heap here)) c.requires.heap
+    let machine_there = from_read plain.machines.items c.args.number c.index_mut.result.now (omega (arith, plain.all_machines, c.requires.number)) c.index_mut.ensures.value in
+    subst (λ config. IsWord config (Heap c.args.address)) (sym (heap_here plain.config plain.machines.items c.args.number c.index_mut.result.now plain.one_heap machine_there)) c.requires.heap
 
 pub invariant_of-self : goal.invariant_of-self
 invariant_of-self c =
     let plain = c.args.self.now in
-    let here = from_read plain.machines.items c.args.number c.index_mut.result.now (omega (arith, plain.all_machines, c.requires.number)) c.index_mut.ensures.value in
+    let machine_there = from_read plain.machines.items c.args.number c.index_mut.result.now (omega (arith, plain.all_machines, c.requires.number)) c.index_mut.ensures.value in
     record {
       all_words = plain.all_words;
       all_machines = length-set plain.machines.items _ _ ∙ plain.all_machines;
-      one_heap = ordered_heap plain.config plain.machines.items c.args.number c.index_mut.result.now c.give_hint.new.self here c.give_hint.ensures.heap plain.one_heap;
+      one_heap = ordered_heap plain.config plain.machines.items c.args.number c.index_mut.result.now c.give_hint.new.self machine_there c.give_hint.ensures.heap plain.one_heap;
       reached = ∥∥₁_map plain.reached (subst (λ machines. IsShownBySomeRun plain.config plain.words.items machines)
-          (sym (ordered_machines plain.machines.items c.args.number c.index_mut.result.now c.give_hint.new.self here c.give_hint.ensures.shown)));
+          (sym (ordered_machines plain.machines.items c.args.number c.index_mut.result.now c.give_hint.new.self machine_there c.give_hint.ensures.shown)));
     }
 
 pub returns-clause-order : goal.returns-clause-order
@@ -36,8 +36,8 @@ returns-clause-order c = ordered_orders c.args.self.now.machines.items c.args.nu
 
 pub returns-clause-machines : goal.returns-clause-machines
 returns-clause-machines c =
-    let here = from_read c.args.self.now.machines.items c.args.number c.index_mut.result.now (omega (arith, c.args.self.now.all_machines, c.requires.number)) c.index_mut.ensures.value in
-    ordered_machines c.args.self.now.machines.items c.args.number c.index_mut.result.now c.give_hint.new.self here c.give_hint.ensures.shown
+    let machine_there = from_read c.args.self.now.machines.items c.args.number c.index_mut.result.now (omega (arith, c.args.self.now.all_machines, c.requires.number)) c.index_mut.ensures.value in
+    ordered_machines c.args.self.now.machines.items c.args.number c.index_mut.result.now c.give_hint.new.self machine_there c.give_hint.ensures.shown
 
 pub index_mut-requires : goal.index_mut-requires
 index_mut-requires c =
@@ -46,8 +46,8 @@ index_mut-requires c =
 
 pub returns-clause-takes : goal.returns-clause-takes
 returns-clause-takes c =
-    let here = from_read c.args.self.now.machines.items c.args.number c.index_mut.result.now (omega (arith, c.args.self.now.all_machines, c.requires.number)) c.index_mut.ensures.value in
-    ap (λ x. takes_of x (Hint c.args.address)) (machine_here c.args.self.now.machines.items c.args.number c.index_mut.result.now here) ∙ c.give_hint.ensures.takes
+    let machine_there = from_read c.args.self.now.machines.items c.args.number c.index_mut.result.now (omega (arith, c.args.self.now.all_machines, c.requires.number)) c.index_mut.ensures.value in
+    ap (λ machine. takes_of machine (Hint c.args.address)) (machine_here c.args.self.now.machines.items c.args.number c.index_mut.result.now machine_there) ∙ c.give_hint.ensures.takes
 
 pub returns-clause-words : goal.returns-clause-words
 returns-clause-words c = refl

@@ -11,8 +11,8 @@ has_next-requires c =
     (from_read plain.machines.items c.args.number c.index.result.now (omega (arith, plain.all_machines, c.requires.number)) c.index.ensures)
 
 pub returns : goal.returns
-returns c = λ is next.
+returns c = λ same_answer next_command.
     let plain = c.args.self.now in
-    let m = c.index.result.now in
-    let here = from_read plain.machines.items c.args.number m (omega (arith, plain.all_machines, c.requires.number)) c.index.ensures in
-    ap (λ machine. is_some (order_for next machine)) (machine_here plain.machines.items c.args.number m here) ∙ c.has_next.ensures next ∙ is
+    let found_machine = c.index.result.now in
+    let machine_there = from_read plain.machines.items c.args.number found_machine (omega (arith, plain.all_machines, c.requires.number)) c.index.ensures in
+    ap (λ machine. is_some (order_for next_command machine)) (machine_here plain.machines.items c.args.number found_machine machine_there) ∙ c.has_next.ensures next_command ∙ same_answer

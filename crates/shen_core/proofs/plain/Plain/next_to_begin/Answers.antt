@@ -9,7 +9,7 @@ use Rattle.shen_core.proofs.Memory.{from_read, machine_here}
 use Rattle.shen_core.proofs.plain.Plain.next_to_begin.Goals as goal
 
 pub returns-then-may_begin-clause-turn : goal.returns-then-may_begin-clause-turn
-returns-then-may_begin-clause-turn c = ap (λ next. order_for next (machine_at c.args.self.now c.args.number)) c.next_command.ensures
+returns-then-may_begin-clause-turn c = ap (λ next_command. order_for next_command (machine_at c.args.self.now c.args.number)) c.next_command.ensures
 
 pub returns-then-may_begin-clause-begins : goal.returns-then-may_begin-clause-begins
 returns-then-may_begin-clause-begins c = λ _. c.next_command.ensures
@@ -17,15 +17,15 @@ returns-then-may_begin-clause-begins c = λ _. c.next_command.ensures
 pub returns-else-may_begin-clause-turn : goal.returns-else-may_begin-clause-turn
 returns-else-may_begin-clause-turn c =
     let plain = c.args.self.now in
-    let m = c.index.result.now in
-    let here = from_read plain.machines.items c.args.number m (omega (arith, plain.all_machines, c.requires.number)) c.index.ensures in
-    let busy : may_begin (machine_at plain c.args.number) ≡ false = ap may_begin (machine_here plain.machines.items c.args.number m here) ∙ sym c.may_begin.ensures ∙ c.if-may_begin.false in
+    let machine = c.index.result.now in
+    let machine_there = from_read plain.machines.items c.args.number machine (omega (arith, plain.all_machines, c.requires.number)) c.index.ensures in
+    let busy : may_begin (machine_at plain c.args.number) ≡ false = ap may_begin (machine_here plain.machines.items c.args.number machine machine_there) ∙ sym c.may_begin.ensures ∙ c.if-may_begin.false in
     turn_in_call (machine_at plain c.args.number) None busy ∙ sym (turn_in_call (machine_at plain c.args.number) (next_for (config_of plain) c.args.work.now c.args.number) busy)
 
 pub returns-else-may_begin-clause-begins : goal.returns-else-may_begin-clause-begins
-returns-else-may_begin-clause-begins c = λ may.
+returns-else-may_begin-clause-begins c = λ may_start.
     let plain = c.args.self.now in
-    let m = c.index.result.now in
-    let here = from_read plain.machines.items c.args.number m (omega (arith, plain.all_machines, c.requires.number)) c.index.ensures in
-    let busy : may_begin (machine_at plain c.args.number) ≡ false = ap may_begin (machine_here plain.machines.items c.args.number m here) ∙ sym c.may_begin.ensures ∙ c.if-may_begin.false in
-    absurd (false≢true (sym busy ∙ may))
+    let machine = c.index.result.now in
+    let machine_there = from_read plain.machines.items c.args.number machine (omega (arith, plain.all_machines, c.requires.number)) c.index.ensures in
+    let busy : may_begin (machine_at plain c.args.number) ≡ false = ap may_begin (machine_here plain.machines.items c.args.number machine machine_there) ∙ sym c.may_begin.ensures ∙ c.if-may_begin.false in
+    absurd (false≢true (sym busy ∙ may_start))

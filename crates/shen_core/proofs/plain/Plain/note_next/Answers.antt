@@ -4,4 +4,4 @@ use Rattle.shen_core.specs.State.{notes_of}
 use Rattle.shen_core.proofs.plain.Plain.note_next.Goals as goal
 
 pub returns-else-spare-gt0-clause-notes : goal.returns-else-spare-gt0-clause-notes
-returns-else-spare-gt0-clause-notes c s shows ends = sym (noted_out (notes_of c.args.self.now) _ (let none = c.spare.ensures in let few = c.if-spare-gt0.false in omega arith))
+returns-else-spare-gt0-clause-notes c stage shows ends = sym (noted_out (notes_of c.args.self.now) _ (let no_spare = c.spare.ensures in let few = c.if-spare-gt0.false in omega arith))

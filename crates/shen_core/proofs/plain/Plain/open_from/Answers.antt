@@ -18,7 +18,7 @@ returns-in_err-machines-clause-begins c = begins_from c.args.image.config c.args
 pub of-requires-clause-machines : goal.of-requires-clause-machines
 of-requires-clause-machines c =
     machines_count c.args.image.config c.args.image.words.items c.args.counts.now c.in_ok-machines.machines.items c.in_ok-machines.ensures.machines
-    ∙ ap (λ k. seat_count k.mutators k.helpers) (sym c.config-config.ensures)
+    ∙ ap (λ config. seat_count config.mutators config.helpers) (sym c.config-config.ensures)
 
 pub of-requires-clause-reached : goal.of-requires-clause-reached
 of-requires-clause-reached c =

@@ -14,21 +14,21 @@ place-requires c = c.is_idle.ensures ∙ ap not c.if-is_idle.false
 pub returns-then-is_idle-clause-none : goal.returns-then-is_idle-clause-none
 returns-then-is_idle-clause-none c =
     let plain = c.args.self.now in
-    let m = c.index-machine.result.now in
-    let here = from_read plain.machines.items c.args.number m (omega (arith, plain.all_machines, c.requires)) c.index-machine.ensures in
-    (λ _. turn_here plain.machines.items c.args.number m here ∙ c.is_idle.ensures ∙ ap not c.if-is_idle.true, λ _. refl)
+    let machine = c.index-machine.result.now in
+    let machine_there = from_read plain.machines.items c.args.number machine (omega (arith, plain.all_machines, c.requires)) c.index-machine.ensures in
+    (λ _. turn_here plain.machines.items c.args.number machine machine_there ∙ c.is_idle.ensures ∙ ap not c.if-is_idle.true, λ _. refl)
 
 pub returns-else-is_idle-clause-none : goal.returns-else-is_idle-clause-none
 returns-else-is_idle-clause-none c =
     let plain = c.args.self.now in
-    let m = c.index-machine.result.now in
-    let here = from_read plain.machines.items c.args.number m (omega (arith, plain.all_machines, c.requires)) c.index-machine.ensures in
-    let turn = turn_here plain.machines.items c.args.number m here ∙ c.is_idle.ensures ∙ ap not c.if-is_idle.false in
-    (λ is. absurd cc, λ none. absurd (false≢true (sym none ∙ turn)))
+    let machine = c.index-machine.result.now in
+    let machine_there = from_read plain.machines.items c.args.number machine (omega (arith, plain.all_machines, c.requires)) c.index-machine.ensures in
+    let turn = turn_here plain.machines.items c.args.number machine machine_there ∙ c.is_idle.ensures ∙ ap not c.if-is_idle.false in
+    (λ is. absurd cc, λ no_order. absurd (false≢true (sym no_order ∙ turn)))
 
 pub returns-else-is_idle-clause-place : goal.returns-else-is_idle-clause-place
 returns-else-is_idle-clause-place c =
     let plain = c.args.self.now in
-    let m = c.index-machine.result.now in
-    let here = from_read plain.machines.items c.args.number m (omega (arith, plain.all_machines, c.requires)) c.index-machine.ensures in
-    c.place.ensures ∙ sym (place_here plain.machines.items c.args.number m here)
+    let machine = c.index-machine.result.now in
+    let machine_there = from_read plain.machines.items c.args.number machine (omega (arith, plain.all_machines, c.requires)) c.index-machine.ensures in
+    c.place.ensures ∙ sym (place_here plain.machines.items c.args.number machine machine_there)

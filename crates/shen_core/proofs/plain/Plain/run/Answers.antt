@@ -1,4 +1,4 @@
 use Rattle.shen_core.proofs.plain.Plain.run.Goals as goal
 
 pub returns-clause-events : goal.returns-clause-events
-returns-clause-events c = λ scripts s shows tells. (c.run_agenda.ensures.events scripts s shows tells).ran
+returns-clause-events c = λ scripts stage shows tells. (c.run_agenda.ensures.events scripts stage shows tells).ran

@@ -19,8 +19,8 @@ loop-item-preserved c = record {
 
 pub returns-clause-events : goal.returns-clause-events
 returns-clause-events c =
-    let none : drop c.loop-item.item-index c.list-item-items.result.now ≡ [] = drop_all _ _ c.loop-item-test.false in
+    let none_left : drop c.loop-item.item-index c.list-item-items.result.now ≡ [] = drop_all _ _ c.loop-item-test.false in
     subst (λ items. EndsNoted c.args.self.now c.args.work.now (agenda (map task_of items) 0) c.args.steps c.run_rounds.new.self c.run_rounds.new.work c.run_rounds.result) c.list-item-items.ensures
     (ends_then c.args.self.now c.loop-item.self c.run_rounds.new.self c.args.work.now c.loop-item.work c.run_rounds.new.work _ (agenda [] 0) c.args.steps c.loop-item.left c.run_rounds.result c.loop-item.invariant.config
-    (subst (λ items. RunsNoted c.args.self.now c.args.work.now (agenda (map task_of c.list-item-items.result.now) 0) c.args.steps c.loop-item.self c.loop-item.work (agenda (map task_of items) 0) c.loop-item.left) none c.loop-item.invariant.runs)
+    (subst (λ items. RunsNoted c.args.self.now c.args.work.now (agenda (map task_of c.list-item-items.result.now) 0) c.args.steps c.loop-item.self c.loop-item.work (agenda (map task_of items) 0) c.loop-item.left) none_left c.loop-item.invariant.runs)
     c.run_rounds.ensures.ends)

@@ -6,8 +6,8 @@ use Rattle.shen_core.specs.Noting.{RunsNoted}
 use Rattle.shen_core.proofs.plain.Plain.run_agenda.Given as goal
 
 abbrev pub invariant-loop-item : goal.invariant-loop-item
-invariant-loop-item l = record {
-  run : CanRun l.self l.work;
-  config : config_of l.self ≡ config_of l.initial.self;
-  runs : RunsNoted l.initial.self l.initial.work (agenda (map task_of l.item-items) 0) l.initial.left l.self l.work (agenda (map task_of (drop l.item-index l.item-items)) 0) l.left;
+invariant-loop-item loop = record {
+  run : CanRun loop.self loop.work;
+  config : config_of loop.self ≡ config_of loop.initial.self;
+  runs : RunsNoted loop.initial.self loop.initial.work (agenda (map task_of loop.item-items) 0) loop.initial.left loop.self loop.work (agenda (map task_of (drop loop.item-index loop.item-items)) 0) loop.left;
 }

@@ -9,8 +9,8 @@ returns-then-left-eq0-clause-task c = λ tasks from. runs_out c.args.self.now c.
 
 pub returns-in-Idle-clause-task : goal.returns-in-Idle-clause-task
 returns-in-Idle-clause-task c = task_idles c.args.self.now c.short_turn.new.self c.args.work.now c.short_turn.new.work _ c.short_turn.result control c.args.left c.short_turn.ensures.notes c.short_turn.ensures.turned c.in-Idle.is
-    (λ scripts s shows tells none. ap (λ k. moves (turn scripts s k) []) (omega (arith, c.seats-control.ensures)) ∙ ap (λ e. moves e []) none)
+    (λ scripts stage shows tells no_turn. ap (λ number. moves (turn scripts stage number) []) (omega (arith, c.seats-control.ensures)) ∙ ap (λ turn_found. moves turn_found []) no_turn)
 
 pub returns-in_default-clause-task : goal.returns-in_default-clause-task
 returns-in_default-clause-task c = task_moves c.args.self.now c.short_turn.new.self c.args.work.now c.short_turn.new.work _ c.short_turn.result control [] c.args.left c.short_turn.ensures.notes c.short_turn.ensures.turned c.in_default.not-Idle (omega arith)
-    (λ scripts s shows tells waits. ap (λ k. moves (turn scripts s k) []) (omega (arith, c.seats-control.ensures)))
+    (λ scripts stage shows tells waits. ap (λ number. moves (turn scripts stage number) []) (omega (arith, c.seats-control.ensures)))

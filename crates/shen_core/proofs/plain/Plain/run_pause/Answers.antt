@@ -18,25 +18,25 @@ loop-left-init c = record { run = c.requires; config = refl; less = omega arith;
 
 pub loop-left-preserved : goal.loop-left-preserved
 loop-left-preserved c =
-    let p = c.loop-left.self in
-    let q = c.turn_inside_image.new.self in
+    let plain = c.loop-left.self in
+    let turned_plain = c.turn_inside_image.new.self in
     let jobs = c.args.work.now in
     let control = c.seats-control.result - 1 in
-    let same : seats_of p ≡ seats_of c.args.self.now = ap (λ k. seat_count k.mutators k.helpers) c.loop-left.invariant.config in
-    let last : control + 1 ≡ seats_of p = omega (arith, c.seats-control.ensures, same) in
+    let same_seats : seats_of plain ≡ seats_of c.args.self.now = ap (λ config. seat_count config.mutators config.helpers) c.loop-left.invariant.config in
+    let control_last : control + 1 ≡ seats_of plain = omega (arith, c.seats-control.ensures, same_seats) in
     let enough : c.in-Some.waiting < c.loop-left.left = c.loop-left-test.true in
     record {
       run = c.turn_inside_image.ensures.run;
       config = c.turn_inside_image.ensures.config ∙ c.loop-left.invariant.config;
-      less = (let less = c.loop-left.invariant.less in omega arith);
+      less = (let left_less = c.loop-left.invariant.less in omega arith);
       halted = c.turn_inside_image.ensures.halted c.in-Some.waiting c.loop-left.invariant.halted;
-      words = (let before = c.loop-left.invariant.words in let then = c.turn_inside_image.ensures.left in omega (arith, before, then));
-      runs = runs_then c.args.self.now p q jobs jobs jobs (agenda [] 0) (agenda [] 0) (agenda [] 0) c.args.limit c.loop-left.left (c.loop-left.left - (c.in-Some.waiting + 1)) c.loop-left.invariant.config c.loop-left.invariant.runs
-          (pause_round p jobs c.loop-left.invariant.run q control c.in-Some.waiting c.loop-left.left last enough c.loop-left.invariant.halted c.turn_inside_image.ensures.config c.turn_inside_image.ensures.notes c.turn_inside_image.ensures.turned);
+      words = (let before = c.loop-left.invariant.words in let left_told = c.turn_inside_image.ensures.left in omega (arith, before, left_told));
+      runs = runs_then c.args.self.now plain turned_plain jobs jobs jobs (agenda [] 0) (agenda [] 0) (agenda [] 0) c.args.limit c.loop-left.left (c.loop-left.left - (c.in-Some.waiting + 1)) c.loop-left.invariant.config c.loop-left.invariant.runs
+          (pause_round plain jobs c.loop-left.invariant.run turned_plain control c.in-Some.waiting c.loop-left.left control_last enough c.loop-left.invariant.halted c.turn_inside_image.ensures.config c.turn_inside_image.ensures.notes c.turn_inside_image.ensures.turned);
     }
 
 pub turn_inside_image-requires-clause-inside : goal.turn_inside_image-requires-clause-inside
 turn_inside_image-requires-clause-inside c =
-    let p = c.loop-left.self in
+    let plain = c.loop-left.self in
     let control = c.seats-control.result - 1 in
-    left_inside (config_of p) (machine_at p control) (subst (λ n. 0 < n) c.loop-left.invariant.words c.if-words-gt0.true)
+    left_inside (config_of plain) (machine_at plain control) (subst (λ word_count. 0 < word_count) c.loop-left.invariant.words c.if-words-gt0.true)

@@ -8,10 +8,10 @@ use Rattle.shen_core.specs.Noting.{RunsNoted}
 use Rattle.shen_core.proofs.plain.Plain.run_round.Given as goal
 
 abbrev pub invariant-loop-number : goal.invariant-loop-number
-invariant-loop-number l = record {
-  run : CanRun l.self l.work;
-  config : config_of l.self ≡ config_of l.initial.self;
-  less : l.left ≤ l.initial.left;
-  runs : RunsNoted l.initial.self l.initial.work (agenda [] 0) l.initial.left l.self l.work (agenda [] l.number) l.left;
-  idle : l.left ≡ l.initial.left → (scripts : Scripts) (stage : Stage Actor) → Shows l.self stage → Tells (config_of l.self) scripts l.work stage → (k : ℕ) → k < l.number → turn scripts stage k ≡ None;
+invariant-loop-number loop = record {
+  run : CanRun loop.self loop.work;
+  config : config_of loop.self ≡ config_of loop.initial.self;
+  less : loop.left ≤ loop.initial.left;
+  runs : RunsNoted loop.initial.self loop.initial.work (agenda [] 0) loop.initial.left loop.self loop.work (agenda [] loop.number) loop.left;
+  idle : loop.left ≡ loop.initial.left → (scripts : Scripts) (stage : Stage Actor) → Shows loop.self stage → Tells (config_of loop.self) scripts loop.work stage → (number : ℕ) → number < loop.number → turn scripts stage number ≡ None;
 }

@@ -19,7 +19,7 @@ pub returns-then-left-before-clause-ends : goal.returns-then-left-before-clause-
 returns-then-left-before-clause-ends c =
     ends_then c.args.self.now c.loop-left.self c.run_round-left.new.self c.args.work.now c.loop-left.work c.run_round-left.new.work (agenda [] 0) (agenda [] 0) c.args.limit c.loop-left.left Finished c.loop-left.invariant.config c.loop-left.invariant.runs
     (ends_then c.loop-left.self c.run_round-left.new.self c.run_round-left.new.self c.loop-left.work c.run_round-left.new.work c.run_round-left.new.work (agenda [] 0) (agenda [] 0) c.loop-left.left c.run_round-left.result Finished c.run_round-left.ensures.config c.run_round-left.ensures.round
-    (ends_idle c.run_round-left.new.self c.run_round-left.new.work c.run_round-left.result (c.run_round-left.ensures.idle c.if-left-before.true (let some = c.if-left-eq0.false in omega arith))))
+    (ends_idle c.run_round-left.new.self c.run_round-left.new.work c.run_round-left.result (c.run_round-left.ensures.idle c.if-left-before.true (let some_left = c.if-left-eq0.false in omega arith))))
 
 pub loop-left-preserved : goal.loop-left-preserved
 loop-left-preserved c = record {

@@ -13,7 +13,7 @@ pub returns-in-Idle-clause-task : goal.returns-in-Idle-clause-task
 returns-in-Idle-clause-task c = λ tasks from.
     runs_then c.args.self.now c.loop-wanted.self c.short_turn.new.self c.args.work.now c.loop-wanted.work c.short_turn.new.work _ (agenda (steps c.args.number c.loop-wanted.wanted ∷ tasks) from) (agenda tasks from) _ c.loop-wanted.left _ c.loop-wanted.invariant.config (c.loop-wanted.invariant.runs tasks from)
     (task_idles c.loop-wanted.self c.short_turn.new.self c.loop-wanted.work c.short_turn.new.work c.args.number c.short_turn.result (steps c.args.number c.loop-wanted.wanted) c.loop-wanted.left c.short_turn.ensures.notes c.short_turn.ensures.turned c.in-Idle.is
-    (λ scripts s shows tells none. steps_move (config_of c.loop-wanted.self) scripts s c.args.number c.loop-wanted.wanted c.loop-wanted-test.true ∙ ap (λ e. moves e (steps c.args.number (c.loop-wanted.wanted - 1) ∷ [])) none) tasks from)
+    (λ scripts stage shows tells no_turn. steps_move (config_of c.loop-wanted.self) scripts stage c.args.number c.loop-wanted.wanted c.loop-wanted-test.true ∙ ap (λ turn_found. moves turn_found (steps c.args.number (c.loop-wanted.wanted - 1) ∷ [])) no_turn) tasks from)
 
 pub loop-wanted-preserved : goal.loop-wanted-preserved
 loop-wanted-preserved c = record {
@@ -22,7 +22,7 @@ loop-wanted-preserved c = record {
   runs = λ tasks from.
       runs_then c.args.self.now c.loop-wanted.self c.short_turn.new.self c.args.work.now c.loop-wanted.work c.short_turn.new.work _ (agenda (steps c.args.number c.loop-wanted.wanted ∷ tasks) from) (agenda (steps c.args.number (c.loop-wanted.wanted - 1) ∷ tasks) from) _ c.loop-wanted.left _ c.loop-wanted.invariant.config (c.loop-wanted.invariant.runs tasks from)
       (task_moves c.loop-wanted.self c.short_turn.new.self c.loop-wanted.work c.short_turn.new.work c.args.number c.short_turn.result (steps c.args.number c.loop-wanted.wanted) (steps c.args.number (c.loop-wanted.wanted - 1) ∷ []) c.loop-wanted.left c.short_turn.ensures.notes c.short_turn.ensures.turned c.in_default.not-Idle c.if-left-gt0.true
-      (λ scripts s shows tells waits. steps_move (config_of c.loop-wanted.self) scripts s c.args.number c.loop-wanted.wanted c.loop-wanted-test.true) tasks from);
+      (λ scripts stage shows tells waits. steps_move (config_of c.loop-wanted.self) scripts stage c.args.number c.loop-wanted.wanted c.loop-wanted-test.true) tasks from);
 }
 
 pub returns-else-left-gt0-clause-task : goal.returns-else-left-gt0-clause-task
@@ -33,4 +33,4 @@ returns-else-left-gt0-clause-task c = λ tasks from.
 pub returns-after-loop-wanted-clause-task : goal.returns-after-loop-wanted-clause-task
 returns-after-loop-wanted-clause-task c = λ tasks from.
     runs_then c.args.self.now c.loop-wanted.self c.loop-wanted.self c.args.work.now c.loop-wanted.work c.loop-wanted.work _ (agenda (steps c.args.number c.loop-wanted.wanted ∷ tasks) from) (agenda tasks from) _ c.loop-wanted.left _ c.loop-wanted.invariant.config (c.loop-wanted.invariant.runs tasks from)
-    (task_done c.loop-wanted.self c.loop-wanted.work (steps c.args.number c.loop-wanted.wanted) c.loop-wanted.left (λ scripts s shows tells. ap (λ count. move_of (config_of c.loop-wanted.self) scripts s (steps c.args.number count)) (let none : c.loop-wanted.wanted ≡ 0 = omega arith in none)) tasks from)
+    (task_done c.loop-wanted.self c.loop-wanted.work (steps c.args.number c.loop-wanted.wanted) c.loop-wanted.left (λ scripts stage shows tells. ap (λ count. move_of (config_of c.loop-wanted.self) scripts stage (steps c.args.number count)) (let none_wanted : c.loop-wanted.wanted ≡ 0 = omega arith in none_wanted)) tasks from)

@@ -6,11 +6,11 @@ use Rattle.shen_core.specs.Noting.{RunsNoted}
 use Rattle.shen_core.proofs.plain.Plain.run_steps.Given as goal
 
 abbrev pub invariant-loop-wanted : goal.invariant-loop-wanted
-invariant-loop-wanted l = record {
-  run : CanRun l.self l.work;
-  config : config_of l.self ≡ config_of l.initial.self;
-  runs : (tasks : List Task) (from : ℕ) → RunsNoted l.initial.self l.initial.work (agenda (steps l.number l.initial.wanted ∷ tasks) from) l.initial.left l.self l.work (agenda (steps l.number l.wanted ∷ tasks) from) l.left;
+invariant-loop-wanted loop = record {
+  run : CanRun loop.self loop.work;
+  config : config_of loop.self ≡ config_of loop.initial.self;
+  runs : (tasks : List Task) (from : ℕ) → RunsNoted loop.initial.self loop.initial.work (agenda (steps loop.number loop.initial.wanted ∷ tasks) from) loop.initial.left loop.self loop.work (agenda (steps loop.number loop.wanted ∷ tasks) from) loop.left;
 }
 
 abbrev pub decreases-loop-wanted : goal.decreases-loop-wanted
-decreases-loop-wanted l = l.wanted
+decreases-loop-wanted loop = loop.wanted

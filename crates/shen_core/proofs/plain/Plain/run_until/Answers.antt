@@ -14,7 +14,7 @@ pub returns-in-Idle-clause-task : goal.returns-in-Idle-clause-task
 returns-in-Idle-clause-task c = λ tasks from.
     runs_then c.args.self.now c.loop-left.self c.short_turn.new.self c.args.work.now c.loop-left.work c.short_turn.new.work _ (agenda (until c.args.number c.args.place ∷ tasks) from) (agenda tasks from) _ c.loop-left.left _ c.loop-left.invariant.config (c.loop-left.invariant.runs tasks from)
     (task_idles c.loop-left.self c.short_turn.new.self c.loop-left.work c.short_turn.new.work c.args.number c.short_turn.result (until c.args.number c.args.place) c.loop-left.left c.short_turn.ensures.notes c.short_turn.ensures.turned c.in-Idle.is
-    (λ scripts stage shows tells none. until_move (config_of c.loop-left.self) scripts stage c.args.number c.args.place (stands_shown c.loop-left.self c.loop-left.work c.args.number c.args.place (plain_within c.args.self.now c.loop-left.self c.args.number c.loop-left.invariant.config c.requires.number) scripts stage shows tells ∙ sym c.is_at_place.ensures ∙ c.if-not-is_at_place.true) ∙ ap (λ e. moves e (until c.args.number c.args.place ∷ [])) none) tasks from)
+    (λ scripts stage shows tells no_turn. until_move (config_of c.loop-left.self) scripts stage c.args.number c.args.place (stands_shown c.loop-left.self c.loop-left.work c.args.number c.args.place (plain_within c.args.self.now c.loop-left.self c.args.number c.loop-left.invariant.config c.requires.number) scripts stage shows tells ∙ sym c.is_at_place.ensures ∙ c.if-not-is_at_place.true) ∙ ap (λ turn_found. moves turn_found (until c.args.number c.args.place ∷ [])) no_turn) tasks from)
 
 pub loop-left-preserved : goal.loop-left-preserved
 loop-left-preserved c = record {

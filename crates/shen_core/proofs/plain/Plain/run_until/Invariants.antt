@@ -6,11 +6,11 @@ use Rattle.shen_core.specs.Noting.{RunsNoted}
 use Rattle.shen_core.proofs.plain.Plain.run_until.Given as goal
 
 abbrev pub invariant-loop-left : goal.invariant-loop-left
-invariant-loop-left l = record {
-  run : CanRun l.self l.work;
-  config : config_of l.self ≡ config_of l.initial.self;
-  runs : (tasks : List Task) (from : ℕ) → RunsNoted l.initial.self l.initial.work (agenda (until l.number l.place ∷ tasks) from) l.initial.left l.self l.work (agenda (until l.number l.place ∷ tasks) from) l.left;
+invariant-loop-left loop = record {
+  run : CanRun loop.self loop.work;
+  config : config_of loop.self ≡ config_of loop.initial.self;
+  runs : (tasks : List Task) (from : ℕ) → RunsNoted loop.initial.self loop.initial.work (agenda (until loop.number loop.place ∷ tasks) from) loop.initial.left loop.self loop.work (agenda (until loop.number loop.place ∷ tasks) from) loop.left;
 }
 
 abbrev pub decreases-loop-left : goal.decreases-loop-left
-decreases-loop-left l = l.left
+decreases-loop-left loop = loop.left

@@ -11,5 +11,5 @@ index-requires c =
 pub returns : goal.returns
 returns c =
     let plain = c.args.self.now in
-    let here = from_read plain.machines.items c.args.number c.index.result.now (omega (arith, plain.all_machines, c.requires)) c.index.ensures in
-    c.takes_hint.ensures ∙ sym (ap takes_hint (machine_here plain.machines.items c.args.number c.index.result.now here))
+    let machine_there = from_read plain.machines.items c.args.number c.index.result.now (omega (arith, plain.all_machines, c.requires)) c.index.ensures in
+    c.takes_hint.ensures ∙ sym (ap takes_hint (machine_here plain.machines.items c.args.number c.index.result.now machine_there))

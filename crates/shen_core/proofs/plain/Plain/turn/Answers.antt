@@ -15,22 +15,22 @@ use Rattle.shen_core.proofs.plain.Plain.turn.Goals as goal
 pub reply-requires-clause-ended : goal.reply-requires-clause-ended
 reply-requires-clause-ended c =
     let plain = c.args.self.now in
-    let here = machine_within (machines_of plain) c.args.number (omega (arith, length-map plain.machines.items shown, plain.all_machines, c.requires.number)) in
-    let has = c.order_noted.ensures.has ∙ c.if-not-order_noted.false in
+    let machine_there = machine_within (machines_of plain) c.args.number (omega (arith, length-map plain.machines.items shown, plain.all_machines, c.requires.number)) in
+    let has_order = c.order_noted.ensures.has ∙ c.if-not-order_noted.false in
     let facts : IsStepped plain c.order_noted.new.self c.step-stepped.new.self c.args.work.now c.args.number c.step-stepped.result = record {
       within = omega (arith, length-map plain.machines.items shown, plain.all_machines, c.requires.number);
       mid_words = c.order_noted.ensures.words;
       mid_machines = c.order_noted.ensures.machines;
       mid_config = c.order_noted.ensures.config;
       mid_orders = c.order_noted.ensures.orders;
-      role = role_shown plain.config plain.words.items _ c.args.number _ plain.reached here;
-      turn = subst (λ b. IsTurn plain c.args.work.now c.args.number b (order_at c.order_noted.new.self c.args.number)) c.if-not-order_noted.false c.order_noted.ensures.turn;
-      next = subst (λ b. IsNextTurn plain c.args.work.now c.args.number b (order_at c.order_noted.new.self c.args.number)) c.if-not-order_noted.false c.order_noted.ensures.next;
-      has = has;
-      event = c.step-stepped.ensures.event has;
-      says = c.step-stepped.ensures.says has;
-      machines = c.step-stepped.ensures.machines has;
-      orders = c.step-stepped.ensures.orders has;
+      role = role_shown plain.config plain.words.items _ c.args.number _ plain.reached machine_there;
+      turn = subst (λ has_turn. IsTurn plain c.args.work.now c.args.number has_turn (order_at c.order_noted.new.self c.args.number)) c.if-not-order_noted.false c.order_noted.ensures.turn;
+      next = subst (λ has_turn. IsNextTurn plain c.args.work.now c.args.number has_turn (order_at c.order_noted.new.self c.args.number)) c.if-not-order_noted.false c.order_noted.ensures.next;
+      has = has_order;
+      event = c.step-stepped.ensures.event has_order;
+      says = c.step-stepped.ensures.says has_order;
+      machines = c.step-stepped.ensures.machines has_order;
+      orders = c.step-stepped.ensures.orders has_order;
       config = c.step-stepped.ensures.config;
     } in
     has_reply _ _ _ _ _ _ facts c.in-Done.is
@@ -38,22 +38,22 @@ reply-requires-clause-ended c =
 pub told-requires-clause-script : goal.told-requires-clause-script
 told-requires-clause-script c =
     let plain = c.args.self.now in
-    let here = machine_within (machines_of plain) c.args.number (omega (arith, length-map plain.machines.items shown, plain.all_machines, c.requires.number)) in
-    let has = c.order_noted.ensures.has ∙ c.if-not-order_noted.false in
+    let machine_there = machine_within (machines_of plain) c.args.number (omega (arith, length-map plain.machines.items shown, plain.all_machines, c.requires.number)) in
+    let has_order = c.order_noted.ensures.has ∙ c.if-not-order_noted.false in
     let facts : IsStepped plain c.order_noted.new.self c.step-stepped.new.self c.args.work.now c.args.number c.step-stepped.result = record {
       within = omega (arith, length-map plain.machines.items shown, plain.all_machines, c.requires.number);
       mid_words = c.order_noted.ensures.words;
       mid_machines = c.order_noted.ensures.machines;
       mid_config = c.order_noted.ensures.config;
       mid_orders = c.order_noted.ensures.orders;
-      role = role_shown plain.config plain.words.items _ c.args.number _ plain.reached here;
-      turn = subst (λ b. IsTurn plain c.args.work.now c.args.number b (order_at c.order_noted.new.self c.args.number)) c.if-not-order_noted.false c.order_noted.ensures.turn;
-      next = subst (λ b. IsNextTurn plain c.args.work.now c.args.number b (order_at c.order_noted.new.self c.args.number)) c.if-not-order_noted.false c.order_noted.ensures.next;
-      has = has;
-      event = c.step-stepped.ensures.event has;
-      says = c.step-stepped.ensures.says has;
-      machines = c.step-stepped.ensures.machines has;
-      orders = c.step-stepped.ensures.orders has;
+      role = role_shown plain.config plain.words.items _ c.args.number _ plain.reached machine_there;
+      turn = subst (λ has_turn. IsTurn plain c.args.work.now c.args.number has_turn (order_at c.order_noted.new.self c.args.number)) c.if-not-order_noted.false c.order_noted.ensures.turn;
+      next = subst (λ has_turn. IsNextTurn plain c.args.work.now c.args.number has_turn (order_at c.order_noted.new.self c.args.number)) c.if-not-order_noted.false c.order_noted.ensures.next;
+      has = has_order;
+      event = c.step-stepped.ensures.event has_order;
+      says = c.step-stepped.ensures.says has_order;
+      machines = c.step-stepped.ensures.machines has_order;
+      orders = c.step-stepped.ensures.orders has_order;
       config = c.step-stepped.ensures.config;
     } in
     (can_tell _ _ _ _ _ _ facts c.requires.run c.in-Done.is).0
@@ -61,22 +61,22 @@ told-requires-clause-script c =
 pub told-requires-clause-more : goal.told-requires-clause-more
 told-requires-clause-more c =
     let plain = c.args.self.now in
-    let here = machine_within (machines_of plain) c.args.number (omega (arith, length-map plain.machines.items shown, plain.all_machines, c.requires.number)) in
-    let has = c.order_noted.ensures.has ∙ c.if-not-order_noted.false in
+    let machine_there = machine_within (machines_of plain) c.args.number (omega (arith, length-map plain.machines.items shown, plain.all_machines, c.requires.number)) in
+    let has_order = c.order_noted.ensures.has ∙ c.if-not-order_noted.false in
     let facts : IsStepped plain c.order_noted.new.self c.step-stepped.new.self c.args.work.now c.args.number c.step-stepped.result = record {
       within = omega (arith, length-map plain.machines.items shown, plain.all_machines, c.requires.number);
       mid_words = c.order_noted.ensures.words;
       mid_machines = c.order_noted.ensures.machines;
       mid_config = c.order_noted.ensures.config;
       mid_orders = c.order_noted.ensures.orders;
-      role = role_shown plain.config plain.words.items _ c.args.number _ plain.reached here;
-      turn = subst (λ b. IsTurn plain c.args.work.now c.args.number b (order_at c.order_noted.new.self c.args.number)) c.if-not-order_noted.false c.order_noted.ensures.turn;
-      next = subst (λ b. IsNextTurn plain c.args.work.now c.args.number b (order_at c.order_noted.new.self c.args.number)) c.if-not-order_noted.false c.order_noted.ensures.next;
-      has = has;
-      event = c.step-stepped.ensures.event has;
-      says = c.step-stepped.ensures.says has;
-      machines = c.step-stepped.ensures.machines has;
-      orders = c.step-stepped.ensures.orders has;
+      role = role_shown plain.config plain.words.items _ c.args.number _ plain.reached machine_there;
+      turn = subst (λ has_turn. IsTurn plain c.args.work.now c.args.number has_turn (order_at c.order_noted.new.self c.args.number)) c.if-not-order_noted.false c.order_noted.ensures.turn;
+      next = subst (λ has_turn. IsNextTurn plain c.args.work.now c.args.number has_turn (order_at c.order_noted.new.self c.args.number)) c.if-not-order_noted.false c.order_noted.ensures.next;
+      has = has_order;
+      event = c.step-stepped.ensures.event has_order;
+      says = c.step-stepped.ensures.says has_order;
+      machines = c.step-stepped.ensures.machines has_order;
+      orders = c.step-stepped.ensures.orders has_order;
       config = c.step-stepped.ensures.config;
     } in
     (can_tell _ _ _ _ _ _ facts c.requires.run c.in-Done.is).1
@@ -84,22 +84,22 @@ told-requires-clause-more c =
 pub returns-in-Done-clause-run : goal.returns-in-Done-clause-run
 returns-in-Done-clause-run c =
     let plain = c.args.self.now in
-    let here = machine_within (machines_of plain) c.args.number (omega (arith, length-map plain.machines.items shown, plain.all_machines, c.requires.number)) in
-    let has = c.order_noted.ensures.has ∙ c.if-not-order_noted.false in
+    let machine_there = machine_within (machines_of plain) c.args.number (omega (arith, length-map plain.machines.items shown, plain.all_machines, c.requires.number)) in
+    let has_order = c.order_noted.ensures.has ∙ c.if-not-order_noted.false in
     let facts : IsStepped plain c.order_noted.new.self c.step-stepped.new.self c.args.work.now c.args.number c.step-stepped.result = record {
       within = omega (arith, length-map plain.machines.items shown, plain.all_machines, c.requires.number);
       mid_words = c.order_noted.ensures.words;
       mid_machines = c.order_noted.ensures.machines;
       mid_config = c.order_noted.ensures.config;
       mid_orders = c.order_noted.ensures.orders;
-      role = role_shown plain.config plain.words.items _ c.args.number _ plain.reached here;
-      turn = subst (λ b. IsTurn plain c.args.work.now c.args.number b (order_at c.order_noted.new.self c.args.number)) c.if-not-order_noted.false c.order_noted.ensures.turn;
-      next = subst (λ b. IsNextTurn plain c.args.work.now c.args.number b (order_at c.order_noted.new.self c.args.number)) c.if-not-order_noted.false c.order_noted.ensures.next;
-      has = has;
-      event = c.step-stepped.ensures.event has;
-      says = c.step-stepped.ensures.says has;
-      machines = c.step-stepped.ensures.machines has;
-      orders = c.step-stepped.ensures.orders has;
+      role = role_shown plain.config plain.words.items _ c.args.number _ plain.reached machine_there;
+      turn = subst (λ has_turn. IsTurn plain c.args.work.now c.args.number has_turn (order_at c.order_noted.new.self c.args.number)) c.if-not-order_noted.false c.order_noted.ensures.turn;
+      next = subst (λ has_turn. IsNextTurn plain c.args.work.now c.args.number has_turn (order_at c.order_noted.new.self c.args.number)) c.if-not-order_noted.false c.order_noted.ensures.next;
+      has = has_order;
+      event = c.step-stepped.ensures.event has_order;
+      says = c.step-stepped.ensures.says has_order;
+      machines = c.step-stepped.ensures.machines has_order;
+      orders = c.step-stepped.ensures.orders has_order;
       config = c.step-stepped.ensures.config;
     } in
     subst (λ jobs. CanRun c.step-stepped.new.self jobs) (sym c.told.ensures)
@@ -108,22 +108,22 @@ returns-in-Done-clause-run c =
 pub returns-in-Done-clause-turned : goal.returns-in-Done-clause-turned
 returns-in-Done-clause-turned c =
     let plain = c.args.self.now in
-    let here = machine_within (machines_of plain) c.args.number (omega (arith, length-map plain.machines.items shown, plain.all_machines, c.requires.number)) in
-    let has = c.order_noted.ensures.has ∙ c.if-not-order_noted.false in
+    let machine_there = machine_within (machines_of plain) c.args.number (omega (arith, length-map plain.machines.items shown, plain.all_machines, c.requires.number)) in
+    let has_order = c.order_noted.ensures.has ∙ c.if-not-order_noted.false in
     let facts : IsStepped plain c.order_noted.new.self c.step-stepped.new.self c.args.work.now c.args.number c.step-stepped.result = record {
       within = omega (arith, length-map plain.machines.items shown, plain.all_machines, c.requires.number);
       mid_words = c.order_noted.ensures.words;
       mid_machines = c.order_noted.ensures.machines;
       mid_config = c.order_noted.ensures.config;
       mid_orders = c.order_noted.ensures.orders;
-      role = role_shown plain.config plain.words.items _ c.args.number _ plain.reached here;
-      turn = subst (λ b. IsTurn plain c.args.work.now c.args.number b (order_at c.order_noted.new.self c.args.number)) c.if-not-order_noted.false c.order_noted.ensures.turn;
-      next = subst (λ b. IsNextTurn plain c.args.work.now c.args.number b (order_at c.order_noted.new.self c.args.number)) c.if-not-order_noted.false c.order_noted.ensures.next;
-      has = has;
-      event = c.step-stepped.ensures.event has;
-      says = c.step-stepped.ensures.says has;
-      machines = c.step-stepped.ensures.machines has;
-      orders = c.step-stepped.ensures.orders has;
+      role = role_shown plain.config plain.words.items _ c.args.number _ plain.reached machine_there;
+      turn = subst (λ has_turn. IsTurn plain c.args.work.now c.args.number has_turn (order_at c.order_noted.new.self c.args.number)) c.if-not-order_noted.false c.order_noted.ensures.turn;
+      next = subst (λ has_turn. IsNextTurn plain c.args.work.now c.args.number has_turn (order_at c.order_noted.new.self c.args.number)) c.if-not-order_noted.false c.order_noted.ensures.next;
+      has = has_order;
+      event = c.step-stepped.ensures.event has_order;
+      says = c.step-stepped.ensures.says has_order;
+      machines = c.step-stepped.ensures.machines has_order;
+      orders = c.step-stepped.ensures.orders has_order;
       config = c.step-stepped.ensures.config;
     } in
     subst (λ jobs. HasTurned plain c.args.work.now c.args.number c.step-stepped.new.self jobs c.step-stepped.result) (sym c.told.ensures)
@@ -132,48 +132,48 @@ returns-in-Done-clause-turned c =
 pub returns-in_default-clause-run : goal.returns-in_default-clause-run
 returns-in_default-clause-run c =
     let plain = c.args.self.now in
-    let here = machine_within (machines_of plain) c.args.number (omega (arith, length-map plain.machines.items shown, plain.all_machines, c.requires.number)) in
-    let has = c.order_noted.ensures.has ∙ c.if-not-order_noted.false in
+    let machine_there = machine_within (machines_of plain) c.args.number (omega (arith, length-map plain.machines.items shown, plain.all_machines, c.requires.number)) in
+    let has_order = c.order_noted.ensures.has ∙ c.if-not-order_noted.false in
     let facts : IsStepped plain c.order_noted.new.self c.step-stepped.new.self c.args.work.now c.args.number c.step-stepped.result = record {
       within = omega (arith, length-map plain.machines.items shown, plain.all_machines, c.requires.number);
       mid_words = c.order_noted.ensures.words;
       mid_machines = c.order_noted.ensures.machines;
       mid_config = c.order_noted.ensures.config;
       mid_orders = c.order_noted.ensures.orders;
-      role = role_shown plain.config plain.words.items _ c.args.number _ plain.reached here;
-      turn = subst (λ b. IsTurn plain c.args.work.now c.args.number b (order_at c.order_noted.new.self c.args.number)) c.if-not-order_noted.false c.order_noted.ensures.turn;
-      next = subst (λ b. IsNextTurn plain c.args.work.now c.args.number b (order_at c.order_noted.new.self c.args.number)) c.if-not-order_noted.false c.order_noted.ensures.next;
-      has = has;
-      event = c.step-stepped.ensures.event has;
-      says = c.step-stepped.ensures.says has;
-      machines = c.step-stepped.ensures.machines has;
-      orders = c.step-stepped.ensures.orders has;
+      role = role_shown plain.config plain.words.items _ c.args.number _ plain.reached machine_there;
+      turn = subst (λ has_turn. IsTurn plain c.args.work.now c.args.number has_turn (order_at c.order_noted.new.self c.args.number)) c.if-not-order_noted.false c.order_noted.ensures.turn;
+      next = subst (λ has_turn. IsNextTurn plain c.args.work.now c.args.number has_turn (order_at c.order_noted.new.self c.args.number)) c.if-not-order_noted.false c.order_noted.ensures.next;
+      has = has_order;
+      event = c.step-stepped.ensures.event has_order;
+      says = c.step-stepped.ensures.says has_order;
+      machines = c.step-stepped.ensures.machines has_order;
+      orders = c.step-stepped.ensures.orders has_order;
       config = c.step-stepped.ensures.config;
     } in
-    can_run_on _ _ _ _ _ _ facts (none_given _ _ _ _ _ _ facts (λ done. c.in_default.not-Done done)) c.requires.run
+    can_run_on _ _ _ _ _ _ facts (none_given _ _ _ _ _ _ facts (λ is_done. c.in_default.not-Done is_done)) c.requires.run
 
 pub returns-in_default-clause-turned : goal.returns-in_default-clause-turned
 returns-in_default-clause-turned c =
     let plain = c.args.self.now in
-    let here = machine_within (machines_of plain) c.args.number (omega (arith, length-map plain.machines.items shown, plain.all_machines, c.requires.number)) in
-    let has = c.order_noted.ensures.has ∙ c.if-not-order_noted.false in
+    let machine_there = machine_within (machines_of plain) c.args.number (omega (arith, length-map plain.machines.items shown, plain.all_machines, c.requires.number)) in
+    let has_order = c.order_noted.ensures.has ∙ c.if-not-order_noted.false in
     let facts : IsStepped plain c.order_noted.new.self c.step-stepped.new.self c.args.work.now c.args.number c.step-stepped.result = record {
       within = omega (arith, length-map plain.machines.items shown, plain.all_machines, c.requires.number);
       mid_words = c.order_noted.ensures.words;
       mid_machines = c.order_noted.ensures.machines;
       mid_config = c.order_noted.ensures.config;
       mid_orders = c.order_noted.ensures.orders;
-      role = role_shown plain.config plain.words.items _ c.args.number _ plain.reached here;
-      turn = subst (λ b. IsTurn plain c.args.work.now c.args.number b (order_at c.order_noted.new.self c.args.number)) c.if-not-order_noted.false c.order_noted.ensures.turn;
-      next = subst (λ b. IsNextTurn plain c.args.work.now c.args.number b (order_at c.order_noted.new.self c.args.number)) c.if-not-order_noted.false c.order_noted.ensures.next;
-      has = has;
-      event = c.step-stepped.ensures.event has;
-      says = c.step-stepped.ensures.says has;
-      machines = c.step-stepped.ensures.machines has;
-      orders = c.step-stepped.ensures.orders has;
+      role = role_shown plain.config plain.words.items _ c.args.number _ plain.reached machine_there;
+      turn = subst (λ has_turn. IsTurn plain c.args.work.now c.args.number has_turn (order_at c.order_noted.new.self c.args.number)) c.if-not-order_noted.false c.order_noted.ensures.turn;
+      next = subst (λ has_turn. IsNextTurn plain c.args.work.now c.args.number has_turn (order_at c.order_noted.new.self c.args.number)) c.if-not-order_noted.false c.order_noted.ensures.next;
+      has = has_order;
+      event = c.step-stepped.ensures.event has_order;
+      says = c.step-stepped.ensures.says has_order;
+      machines = c.step-stepped.ensures.machines has_order;
+      orders = c.step-stepped.ensures.orders has_order;
       config = c.step-stepped.ensures.config;
     } in
-    turned_on _ _ _ _ _ _ facts (none_given _ _ _ _ _ _ facts (λ done. c.in_default.not-Done done))
+    turned_on _ _ _ _ _ _ facts (none_given _ _ _ _ _ _ facts (λ is_done. c.in_default.not-Done is_done))
 
 pub order_noted-requires-clause-number : goal.order_noted-requires-clause-number
 order_noted-requires-clause-number c = c.requires.number
@@ -188,10 +188,10 @@ pub returns-then-not-order_noted-clause-idle_work : goal.returns-then-not-order_
 returns-then-not-order_noted-clause-idle_work c = λ _. refl
 
 pub reply-requires-clause-number : goal.reply-requires-clause-number
-reply-requires-clause-number c = subst (λ k. c.args.number < seat_count k.mutators k.helpers) (sym (c.step-stepped.ensures.config ∙ c.order_noted.ensures.config)) c.requires.number
+reply-requires-clause-number c = subst (λ config. c.args.number < seat_count config.mutators config.helpers) (sym (c.step-stepped.ensures.config ∙ c.order_noted.ensures.config)) c.requires.number
 
 pub step-stepped-requires : goal.step-stepped-requires
-step-stepped-requires c = subst (λ k. c.args.number < seat_count k.mutators k.helpers) (sym c.order_noted.ensures.config) c.requires.number
+step-stepped-requires c = subst (λ config. c.args.number < seat_count config.mutators config.helpers) (sym c.order_noted.ensures.config) c.requires.number
 
 pub returns-in-Done-clause-config : goal.returns-in-Done-clause-config
 returns-in-Done-clause-config c = c.step-stepped.ensures.config ∙ c.order_noted.ensures.config

@@ -11,10 +11,10 @@ pub returns-clause-run : goal.returns-clause-run
 returns-clause-run c =
     let plain = c.args.self.now in
     let mid = c.note_next.new.self in
-    let q = c.step_inside_image.new.self in
+    let next_plain = c.step_inside_image.new.self in
     let within : c.args.number < length (machines_of plain) = omega (arith, length-map plain.machines.items shown, plain.all_machines, c.requires.number) in
-    let none : order_at plain c.args.number ≡ Nothing = c.requires.run.orders c.args.number Nothing (omega (arith, length-map plain.machines.items order_of, plain.all_machines, c.requires.number)) in
-    let facts : StepsInside plain mid q c.args.number = record {
+    let no_order : order_at plain c.args.number ≡ Nothing = c.requires.run.orders c.args.number Nothing (omega (arith, length-map plain.machines.items order_of, plain.all_machines, c.requires.number)) in
+    let facts : StepsInside plain mid next_plain c.args.number = record {
       mid_words = c.note_next.ensures.words;
       mid_machines = c.note_next.ensures.machines;
       mid_orders = c.note_next.ensures.orders;
@@ -27,16 +27,16 @@ returns-clause-run c =
       config = c.step_inside_image.ensures.config;
       notes = c.step_inside_image.ensures.notes;
     } in
-    inside_runs plain mid q c.args.number within none c.requires.inside facts c.args.work.now c.requires.run
+    inside_runs plain mid next_plain c.args.number within no_order c.requires.inside facts c.args.work.now c.requires.run
 
 pub returns-clause-turned : goal.returns-clause-turned
 returns-clause-turned c =
     let plain = c.args.self.now in
     let mid = c.note_next.new.self in
-    let q = c.step_inside_image.new.self in
+    let next_plain = c.step_inside_image.new.self in
     let within : c.args.number < length (machines_of plain) = omega (arith, length-map plain.machines.items shown, plain.all_machines, c.requires.number) in
-    let none : order_at plain c.args.number ≡ Nothing = c.requires.run.orders c.args.number Nothing (omega (arith, length-map plain.machines.items order_of, plain.all_machines, c.requires.number)) in
-    let facts : StepsInside plain mid q c.args.number = record {
+    let no_order : order_at plain c.args.number ≡ Nothing = c.requires.run.orders c.args.number Nothing (omega (arith, length-map plain.machines.items order_of, plain.all_machines, c.requires.number)) in
+    let facts : StepsInside plain mid next_plain c.args.number = record {
       mid_words = c.note_next.ensures.words;
       mid_machines = c.note_next.ensures.machines;
       mid_orders = c.note_next.ensures.orders;
@@ -49,16 +49,16 @@ returns-clause-turned c =
       config = c.step_inside_image.ensures.config;
       notes = c.step_inside_image.ensures.notes;
     } in
-    inside_turned plain mid q c.args.number within none c.requires.inside facts c.args.work.now
+    inside_turned plain mid next_plain c.args.number within no_order c.requires.inside facts c.args.work.now
 
 pub returns-clause-notes : goal.returns-clause-notes
 returns-clause-notes c =
     let plain = c.args.self.now in
     let mid = c.note_next.new.self in
-    let q = c.step_inside_image.new.self in
+    let next_plain = c.step_inside_image.new.self in
     let within : c.args.number < length (machines_of plain) = omega (arith, length-map plain.machines.items shown, plain.all_machines, c.requires.number) in
-    let none : order_at plain c.args.number ≡ Nothing = c.requires.run.orders c.args.number Nothing (omega (arith, length-map plain.machines.items order_of, plain.all_machines, c.requires.number)) in
-    let facts : StepsInside plain mid q c.args.number = record {
+    let no_order : order_at plain c.args.number ≡ Nothing = c.requires.run.orders c.args.number Nothing (omega (arith, length-map plain.machines.items order_of, plain.all_machines, c.requires.number)) in
+    let facts : StepsInside plain mid next_plain c.args.number = record {
       mid_words = c.note_next.ensures.words;
       mid_machines = c.note_next.ensures.machines;
       mid_orders = c.note_next.ensures.orders;
@@ -71,16 +71,16 @@ returns-clause-notes c =
       config = c.step_inside_image.ensures.config;
       notes = c.step_inside_image.ensures.notes;
     } in
-    inside_notes plain mid q c.args.number within none c.requires.inside facts c.args.work.now
+    inside_notes plain mid next_plain c.args.number within no_order c.requires.inside facts c.args.work.now
 
 pub returns-clause-left : goal.returns-clause-left
 returns-clause-left c =
     let plain = c.args.self.now in
     let mid = c.note_next.new.self in
-    let q = c.step_inside_image.new.self in
+    let next_plain = c.step_inside_image.new.self in
     let within : c.args.number < length (machines_of plain) = omega (arith, length-map plain.machines.items shown, plain.all_machines, c.requires.number) in
-    let none : order_at plain c.args.number ≡ Nothing = c.requires.run.orders c.args.number Nothing (omega (arith, length-map plain.machines.items order_of, plain.all_machines, c.requires.number)) in
-    let facts : StepsInside plain mid q c.args.number = record {
+    let no_order : order_at plain c.args.number ≡ Nothing = c.requires.run.orders c.args.number Nothing (omega (arith, length-map plain.machines.items order_of, plain.all_machines, c.requires.number)) in
+    let facts : StepsInside plain mid next_plain c.args.number = record {
       mid_words = c.note_next.ensures.words;
       mid_machines = c.note_next.ensures.machines;
       mid_orders = c.note_next.ensures.orders;
@@ -93,16 +93,16 @@ returns-clause-left c =
       config = c.step_inside_image.ensures.config;
       notes = c.step_inside_image.ensures.notes;
     } in
-    inside_left plain mid q c.args.number within none c.requires.inside facts
+    inside_left plain mid next_plain c.args.number within no_order c.requires.inside facts
 
 pub returns-clause-halted : goal.returns-clause-halted
 returns-clause-halted c = λ waiting are.
     let plain = c.args.self.now in
     let mid = c.note_next.new.self in
-    let q = c.step_inside_image.new.self in
+    let next_plain = c.step_inside_image.new.self in
     let within : c.args.number < length (machines_of plain) = omega (arith, length-map plain.machines.items shown, plain.all_machines, c.requires.number) in
-    let none : order_at plain c.args.number ≡ Nothing = c.requires.run.orders c.args.number Nothing (omega (arith, length-map plain.machines.items order_of, plain.all_machines, c.requires.number)) in
-    let facts : StepsInside plain mid q c.args.number = record {
+    let no_order : order_at plain c.args.number ≡ Nothing = c.requires.run.orders c.args.number Nothing (omega (arith, length-map plain.machines.items order_of, plain.all_machines, c.requires.number)) in
+    let facts : StepsInside plain mid next_plain c.args.number = record {
       mid_words = c.note_next.ensures.words;
       mid_machines = c.note_next.ensures.machines;
       mid_orders = c.note_next.ensures.orders;
@@ -115,5 +115,5 @@ returns-clause-halted c = λ waiting are.
       config = c.step_inside_image.ensures.config;
       notes = c.step_inside_image.ensures.notes;
     } in
-    halted_kept plain q c.args.number (c.step_inside_image.ensures.config ∙ c.note_next.ensures.config) (inside_pause plain mid q c.args.number within none c.requires.inside facts)
-    (inside_others plain mid q c.args.number within none c.requires.inside facts) c.args.number waiting (omega arith) are
+    halted_kept plain next_plain c.args.number (c.step_inside_image.ensures.config ∙ c.note_next.ensures.config) (inside_pause plain mid next_plain c.args.number within no_order c.requires.inside facts)
+    (inside_others plain mid next_plain c.args.number within no_order c.requires.inside facts) c.args.number waiting (omega arith) are

@@ -6,12 +6,12 @@ use Rattle.shen_core.proofs.walk.Walk.find_in_rounds.Goals as goal
 pub returns-in-Some-clause-same : goal.returns-in-Some-clause-same
 returns-in-Some-clause-same c =
     let found = c.in-Some.ensures in
-    rounds_later c.args.plain.now c.args.work.now c.args.self.now c.in-Some.number c.requires.none found.0 (let below = found.1 in omega (arith, below, c.seats.ensures)) found.2
+    rounds_later c.args.plain.now c.args.work.now c.args.self.now c.in-Some.number c.requires.none found.0 (let found_below = found.1 in omega (arith, found_below, c.seats.ensures)) found.2
 
 pub returns-in-Some-clause-due : goal.returns-in-Some-clause-due
 returns-in-Some-clause-due c =
     let found = c.in-Some.ensures in
-    rounds_due c.args.plain.now c.args.work.now c.args.self.now c.in-Some.number c.requires.none (let below = found.1 in omega (arith, below, c.seats.ensures)) found.3
+    rounds_due c.args.plain.now c.args.work.now c.args.self.now c.in-Some.number c.requires.none (let found_below = found.1 in omega (arith, found_below, c.seats.ensures)) found.3
 
 pub returns-in-Some-sooner-clause-same : goal.returns-in-Some-sooner-clause-same
 returns-in-Some-sooner-clause-same c =
@@ -22,7 +22,7 @@ returns-in-Some-sooner-clause-same c =
 pub returns-in-Some-sooner-clause-due : goal.returns-in-Some-sooner-clause-due
 returns-in-Some-sooner-clause-due c =
     let found = c.in-Some-sooner.ensures in
-    rounds_due c.args.plain.now c.args.work.now c.args.self.now c.in-Some-sooner.number c.requires.none (let below = found.1 in let within = c.requires.walk.from in omega (arith, below, within)) found.3
+    rounds_due c.args.plain.now c.args.work.now c.args.self.now c.in-Some-sooner.number c.requires.none (let found_below = found.1 in let within = c.requires.walk.from in omega (arith, found_below, within)) found.3
 
 pub returns-in_default-sooner-clause-none : goal.returns-in_default-sooner-clause-none
 returns-in_default-sooner-clause-none c = λ is.

@@ -9,15 +9,15 @@ pub invariant_of-self : goal.invariant_of-self
 invariant_of-self c =
     let room = c.self.invariant in
     let spare : 1 ≤ c.self.inside.spare = rw (← c.self.view_is) at c.requires.room in
-    let seen = row_at c.self.inside.references.items c.self.inside.numbers.items in
-    let some : 0 < length c.self.inside.places.items = omega (arith, rw (← c.self.view_is) at c.requires.row, length-map c.self.inside.places.items seen) in
+    let row_of = row_at c.self.inside.references.items c.self.inside.numbers.items in
+    let some_place : 0 < length c.self.inside.places.items = omega (arith, rw (← c.self.view_is) at c.requires.row, length-map c.self.inside.places.items row_of) in
     let fits : vec_len c.self.inside.references < vec_capacity c.self.inside.references = omega (arith, room.words, room.references) in
-    let last : c.len-last.result ≡ length c.self.inside.places.items = c.len-last.ensures ∙ c.self.inside.places.ok.0 in
-    let grown = set_last_read grow_refs c.self.inside.places.items c.len-last.result c.index_mut-place.result.now some last c.index_mut-place.ensures.value in
+    let same_length : c.len-last.result ≡ length c.self.inside.places.items = c.len-last.ensures ∙ c.self.inside.places.ok.0 in
+    let grown = set_last_read grow_refs c.self.inside.places.items c.len-last.result c.index_mut-place.result.now some_place same_length c.index_mut-place.ensures.value in
     let done : is_ok c.push.result ≡ true = c.push.ensures.succeeds fits in
     let pushed : vec_len c.push.new.self ≡ vec_len c.self.inside.references + 1 = rw done at c.push.ensures.len in
     record {
-      laid = rw (grown, pushed) (IsLaid-grow_refs c.self.inside.places.items (vec_len c.self.inside.references) (vec_len c.self.inside.numbers) some room.laid);
+      laid = rw (grown, pushed) (IsLaid-grow_refs c.self.inside.places.items (vec_len c.self.inside.references) (vec_len c.self.inside.numbers) some_place room.laid);
       words = omega (arith, room.words, spare, pushed);
       roots = room.roots;
       pins = room.pins;
@@ -33,11 +33,11 @@ pub returns : goal.returns
 returns c =
     let room = c.self.invariant in
     let spare : 1 ≤ c.self.inside.spare = rw (← c.self.view_is) at c.requires.room in
-    let seen = row_at c.self.inside.references.items c.self.inside.numbers.items in
-    let some : 0 < length c.self.inside.places.items = omega (arith, rw (← c.self.view_is) at c.requires.row, length-map c.self.inside.places.items seen) in
+    let row_of = row_at c.self.inside.references.items c.self.inside.numbers.items in
+    let some_place : 0 < length c.self.inside.places.items = omega (arith, rw (← c.self.view_is) at c.requires.row, length-map c.self.inside.places.items row_of) in
     let fits : vec_len c.self.inside.references < vec_capacity c.self.inside.references = omega (arith, room.words, room.references) in
-    let last : c.len-last.result ≡ length c.self.inside.places.items = c.len-last.ensures ∙ c.self.inside.places.ok.0 in
-    let grown = set_last_read grow_refs c.self.inside.places.items c.len-last.result c.index_mut-place.result.now some last c.index_mut-place.ensures.value in
+    let same_length : c.len-last.result ≡ length c.self.inside.places.items = c.len-last.ensures ∙ c.self.inside.places.ok.0 in
+    let grown = set_last_read grow_refs c.self.inside.places.items c.len-last.result c.index_mut-place.result.now some_place same_length c.index_mut-place.ensures.value in
     let done : is_ok c.push.result ≡ true = c.push.ensures.succeeds fits in
     let pushed : c.push.new.self.items ≡ c.self.inside.references.items ++ c.args.to ∷ [] = rw done at c.push.ensures.items in
     let rows = rows-grow_refs c.self.inside.references.items c.self.inside.numbers.items c.args.to c.self.inside.places.items (rw (c.self.inside.references.ok.0, c.self.inside.numbers.ok.0) at room.laid) in

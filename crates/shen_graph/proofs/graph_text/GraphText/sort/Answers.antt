@@ -65,10 +65,10 @@ returns-clause-rows c =
 pub returns-clause-order : goal.returns-clause-order
 returns-clause-order c =
     let sorted = c.sort_unstable_by_key.ensures.sorted (λ (place : Place). place.name) (answers_always _ _ _ (λ f a r g h. search rules)) in
-    let seen = row_at c.self.inside.references.items c.self.inside.numbers.items in
-    let rows : map (row_at c.swap.new.x.items c.swap-2.new.x.items) c.gather.new.places.items ≡ map seen c.sort_unstable_by_key.new.self.items =
+    let row_of = row_at c.self.inside.references.items c.self.inside.numbers.items in
+    let rows : map (row_at c.swap.new.x.items c.swap-2.new.x.items) c.gather.new.places.items ≡ map row_of c.sort_unstable_by_key.new.self.items =
     rw (c.swap.ensures.x_after, c.swap-2.ensures.x_after) (c.gather.ensures.rows ∙ rw (c.deref.ensures.value, c.deref-2.ensures.value) refl) in
-    let distinct : IsDistinct same_name (map (λ r. r.name) (map seen c.self.inside.places.items)) = rw (← c.self.view_is) at c.requires in
+    let distinct : IsDistinct same_name (map (λ r. r.name) (map row_of c.self.inside.places.items)) = rw (← c.self.view_is) at c.requires in
     let name = λ (place : Place). place.name in
     let differ : IsDistinct same_name (map name c.sort_unstable_by_key.new.self.items) =
     IsDistinct-permutation (map name c.self.inside.places.items) (map name c.sort_unstable_by_key.new.self.items)

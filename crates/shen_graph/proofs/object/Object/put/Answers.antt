@@ -7,9 +7,9 @@ pub add_numbers-requires-clause-row : goal.add_numbers-requires-clause-row
 add_numbers-requires-clause-row c =
     omega (
       arith,
-      ap (λ t. length t.rows) c.put_references.ensures,
+      ap (λ text. length text.rows) c.put_references.ensures,
       rows_left c.object.new.self c.deref.result.now,
-      ap (λ t. length t.rows) c.object.ensures,
+      ap (λ text. length text.rows) c.object.ensures,
       length-append c.args.text.now.rows (bare c.self.inside.name ∷ []),
     )
 
@@ -19,9 +19,9 @@ add_numbers-requires-clause-room c =
     omega (
       arith,
       room,
-      ap (λ t. t.spare) c.put_references.ensures,
+      ap (λ text. text.spare) c.put_references.ensures,
       spare_left c.object.new.self c.deref.result.now,
-      ap (λ t. t.spare) c.object.ensures,
+      ap (λ text. text.spare) c.object.ensures,
       ap length c.deref.ensures.value,
       ap length c.deref-2.ensures.value,
     )
@@ -31,7 +31,7 @@ returns c =
     rw (← c.self.view_is)
     (c.add_numbers.ensures
     ∙ ap (with_numbers c.put_references.new.text) c.deref-2.ensures.value
-    ∙ ap (λ t. with_numbers t c.self.inside.nums.items)
+    ∙ ap (λ text. with_numbers text c.self.inside.nums.items)
     (c.put_references.ensures ∙ ap (with_references c.object.new.self) c.deref.ensures.value
-    ∙ ap (λ t. with_references t c.self.inside.refs.items) c.object.ensures)
+    ∙ ap (λ text. with_references text c.self.inside.refs.items) c.object.ensures)
     ∙ whole c.args.text.now c.self.inside.name c.self.inside.refs.items c.self.inside.nums.items)

@@ -17,7 +17,7 @@ returns-in-Some c =
     let row = get_or_read plain.rows c.in-Some.place c.index.result.now within c.index.ensures nobody in
     let refs : c.index.result.now.refs ≡ (named (graph_of plain) (Some c.args.name)).refs =
     ap (λ (row : Row). row.refs) row ∙ sym (ap (λ (object : Object). object.refs) (named-place plain c.args.name ∙ ap (object_at plain) place)) in
-    rw (← c.self.view_is) (subst (λ (rs : List Reference). OnOk c.add_fields.result (c.add_fields.new.found.items ≡ with_names c.args.found.now.items rs)) refs c.add_fields.ensures)
+    rw (← c.self.view_is) (subst (λ (references : List Reference). OnOk c.add_fields.result (c.add_fields.new.found.items ≡ with_names c.args.found.now.items references)) refs c.add_fields.ensures)
 
 pub returns-in-None : goal.returns-in-None
 returns-in-None c =

@@ -5,4 +5,4 @@ use Rattle.shen_graph.specs.Step.{name_in}
 use Rattle.shen_graph.proofs.plain_graph.PlainGraph.add_pins.Given as goal
 
 abbrev pub invariant-loop-row : goal.invariant-loop-row
-invariant-loop-row l = l.found.items ≡ with_names l.initial.found.items (map name_in (flat_map (λ row. row) (take l.row-index l.self.pins)))
+invariant-loop-row loop = loop.found.items ≡ with_names loop.initial.found.items (map name_in (flat_map (λ row. row) (take loop.row-index loop.self.pins)))

@@ -4,4 +4,4 @@ use Rattle.shen_graph.specs.Found.{with_names}
 use Rattle.shen_graph.proofs.plain_graph.PlainGraph.add_roots.Given as goal
 
 abbrev pub invariant-loop-row : goal.invariant-loop-row
-invariant-loop-row l = l.found.items ≡ with_names l.initial.found.items (flat_map (λ row. row) (take l.row-index l.self.roots))
+invariant-loop-row loop = loop.found.items ≡ with_names loop.initial.found.items (flat_map (λ row. row) (take loop.row-index loop.self.roots))

@@ -16,4 +16,4 @@ pub returns-in-New : goal.returns-in-New
 returns-in-New c =
     let within : c.args.thread < length c.self.inside.counts.items = grind (arith, common_steps) in
     let count : c.index.result.now ≡ get_or c.self.inside.counts.items c.args.thread 0 = get_or_read c.self.inside.counts.items c.args.thread c.index.result.now within c.index.ensures 0 in
-    rw (c.in-New.is, count-graph_of, ← c.self.view_is) (ap (λ (n : ℕ). let told : Reply = reply.Ref (record { thread = c.args.thread; count = n + 1 }) in told) count)
+    rw (c.in-New.is, count-graph_of, ← c.self.view_is) (ap (λ (number : ℕ). let told_reply : Reply = reply.Ref (record { thread = c.args.thread; count = number + 1 }) in told_reply) count)

@@ -16,7 +16,7 @@ pub returns-clause-name : goal.returns-clause-name
 returns-clause-name c =
     let within : c.args.thread < length c.self.inside.counts.items = grind (arith, common_steps) in
     let count : c.index.result.now ≡ get_or c.self.inside.counts.items c.args.thread 0 = get_or_read c.self.inside.counts.items c.args.thread c.index.result.now within c.index.ensures 0 in
-    rw (count-graph_of, ← c.self.view_is) (ap (λ (n : ℕ). let name : Name = record { thread = c.args.thread; count = n + 1 } in name) count)
+    rw (count-graph_of, ← c.self.view_is) (ap (λ (number : ℕ). let name : Name = record { thread = c.args.thread; count = number + 1 } in name) count)
 
 pub returns-clause-graph : goal.returns-clause-graph
 returns-clause-graph c =

@@ -24,23 +24,23 @@ slots_of (suc threads) = All-cons AreSlots no_pins (replicate threads no_pins) r
 
 pub returns-clause-graph : goal.returns-clause-graph
 returns-clause-graph c =
-    let first : Row = record { name = hub; refs = replicate 16 None; nums = [] } in
-    let rows : c.push.new.self.items ≡ first ∷ [] = rw (c.in_ok-push.ensures.items, c.new-objects.ensures.items, c.in_ok-hub.ensures) refl in
+    let first_row : Row = record { name = hub; refs = replicate 16 None; nums = [] } in
+    let rows : c.push.new.self.items ≡ first_row ∷ [] = rw (c.in_ok-push.ensures.items, c.new-objects.ensures.items, c.in_ok-hub.ensures) refl in
     let counts : c.in_ok-counts.counts.items ≡ replicate (c.args.mutators + 1) 0 = grind (arith, common_steps) in
     rw (c.in_ok-roots.ensures, rows, counts, c.in_ok-pins.ensures) (graph_of-opening c.args.mutators)
 
 pub invariant_of-result : goal.invariant_of-result
 invariant_of-result c =
-    let long = length-replicate c.args.mutators first_roots in
+    let threads_length = length-replicate c.args.mutators first_roots in
     let rows = ap length c.in_ok-roots.ensures in (
       omega (arith, c.in_ok-roots.roots.ok.0, rows),
-      omega (arith, c.in_ok-counts.ensures.len, c.in_ok-roots.roots.ok.0, rows, long),
+      omega (arith, c.in_ok-counts.ensures.len, c.in_ok-roots.roots.ok.0, rows, threads_length),
       subst (All IsRow) (sym c.in_ok-roots.ensures) (All-cons IsRow (replicate 16 None) (replicate c.args.mutators first_roots) refl (rows_of c.args.mutators)),
-      omega (arith, c.in_ok-pins.pins.ok.0, c.in_ok-roots.roots.ok.0, rows, long, ap length c.in_ok-pins.ensures, length-replicate (c.args.mutators + 1) no_pins),
+      omega (arith, c.in_ok-pins.pins.ok.0, c.in_ok-roots.roots.ok.0, rows, threads_length, ap length c.in_ok-pins.ensures, length-replicate (c.args.mutators + 1) no_pins),
       subst (All AreSlots) (sym c.in_ok-pins.ensures) (slots_of (c.args.mutators + 1)),
     )
 
 pub returns-clause-threads : goal.returns-clause-threads
 returns-clause-threads c =
-    let long = length-replicate c.args.mutators first_roots in
-    omega (arith, ap length c.in_ok-roots.ensures, long)
+    let threads_length = length-replicate c.args.mutators first_roots in
+    omega (arith, ap length c.in_ok-roots.ensures, threads_length)

@@ -7,9 +7,9 @@ use Rattle.shen_graph.proofs.plain_graph.PlainGraph.put_object.Goals as goal
 pub put-requires : goal.put-requires
 put-requires c =
     let object : Row = c.in-Some.object.now in
-    let e = size-named (graph_of c.args.self.now) c.args.name object c.in-Some.ensures in
+    let named_size = size-named (graph_of c.args.self.now) c.args.name object c.in-Some.ensures in
     let room = c.requires in
-    omega (arith, e, room)
+    omega (arith, named_size, room)
 
 pub returns-in-Some : goal.returns-in-Some
 returns-in-Some c =

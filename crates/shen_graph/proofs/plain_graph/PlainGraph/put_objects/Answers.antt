@@ -20,24 +20,24 @@ pub loop-name-preserved : goal.loop-name-preserved
 loop-name-preserved c =
     let g = graph_of c.args.self.now in
     let names = c.args.names.now in
-    let i = c.loop-name.name-index in
-    let name = get_or names i none in
-    let low : i < length names = omega arith in
+    let name_index = c.loop-name.name-index in
+    let name = get_or names name_index none in
+    let low : name_index < length names = omega arith in
     let words = λ (other_name : Name). size (named g (Some other_name)) in
     let made = c.put_object.ensures in
-    let before = map (row_in g) (take i names) in
+    let before = map (row_in g) (take name_index names) in
     record {
-      rows = (ap (λ t. t.rows) made ∙ ap (λ xs. xs ++ row_in g name ∷ []) c.loop-name.invariant.rows
+      rows = (ap (λ text. text.rows) made ∙ ap (λ rows. rows ++ row_in g name ∷ []) c.loop-name.invariant.rows
           ∙ append_assoc c.args.text.now.rows before (row_in g name ∷ [])
-          ∙ ap (λ xs. c.args.text.now.rows ++ xs)
-          (sym (map-append (row_in g) (take i names) (name ∷ [])) ∙ ap (map (row_in g)) (sym (take_more names i none low))));
-      roots = ap (λ t. t.roots) made ∙ c.loop-name.invariant.roots;
-      pins = ap (λ t. t.pins) made ∙ c.loop-name.invariant.pins;
-      room = ap (λ t. t.room) made ∙ c.loop-name.invariant.room;
+          ∙ ap (λ rows. c.args.text.now.rows ++ rows)
+          (sym (map-append (row_in g) (take name_index names) (name ∷ [])) ∙ ap (map (row_in g)) (sym (take_more names name_index none low))));
+      roots = ap (λ text. text.roots) made ∙ c.loop-name.invariant.roots;
+      pins = ap (λ text. text.pins) made ∙ c.loop-name.invariant.pins;
+      room = ap (λ text. text.room) made ∙ c.loop-name.invariant.room;
       spare = (omega (
         arith,
-        ap (λ t. t.spare) made,
-        sum_by_more words names i none low,
-        sum_by_more_le words names i none low,
+        ap (λ text. text.spare) made,
+        sum_by_more words names name_index none low,
+        sum_by_more_le words names name_index none low,
       ));
     }

@@ -6,10 +6,10 @@ use Rattle.shen_graph.specs.Reach.{size}
 use Rattle.shen_graph.proofs.plain_graph.PlainGraph.put_objects.Given as goal
 
 abbrev pub invariant-loop-name : goal.invariant-loop-name
-invariant-loop-name l = record {
-  rows : l.text.rows ≡ l.initial.text.rows ++ map (row_in (graph_of l.self)) (take l.name-index l.names);
-  roots : l.text.roots ≡ l.initial.text.roots;
-  pins : l.text.pins ≡ l.initial.text.pins;
-  room : l.text.room ≡ l.initial.text.room;
-  spare : l.text.spare + sum_by (λ n. size (named (graph_of l.self) (Some n))) (take l.name-index l.names) ≡ l.initial.text.spare;
+invariant-loop-name loop = record {
+  rows : loop.text.rows ≡ loop.initial.text.rows ++ map (row_in (graph_of loop.self)) (take loop.name-index loop.names);
+  roots : loop.text.roots ≡ loop.initial.text.roots;
+  pins : loop.text.pins ≡ loop.initial.text.pins;
+  room : loop.text.room ≡ loop.initial.text.room;
+  spare : loop.text.spare + sum_by (λ name. size (named (graph_of loop.self) (Some name))) (take loop.name-index loop.names) ≡ loop.initial.text.spare;
 }

@@ -18,7 +18,7 @@ loop-next-init c =
 pub loop-next-smaller : goal.loop-next-smaller
 loop-next-smaller c =
     let bound : length c.loop-next.found.items ≤ length (names_of c.args.self.now) = IsSearched-bound c.args.self.now c.loop-next.found.items c.loop-next.next c.loop-next.invariant in
-    let more : c.loop-next.next < length c.loop-next.found.items = grind (arith, common_steps) in
+    let next_below : c.loop-next.next < length c.loop-next.found.items = grind (arith, common_steps) in
     omega arith
 
 pub loop-next-preserved : goal.loop-next-preserved
@@ -27,12 +27,12 @@ loop-next-preserved c =
 
 pub returns : goal.returns
 returns c =
-    let s = c.loop-next.invariant in
-    let done : length c.loop-next.found.items ≤ c.loop-next.next = grind (arith, common_steps) in
+    let loop_invariant = c.loop-next.invariant in
+    let all_visited : length c.loop-next.found.items ≤ c.loop-next.next = grind (arith, common_steps) in
     let found = c.loop-next.found.items in
     let sorted = c.sort_unstable.new.self.items in
     record {
-      in_order = subst InOrder (map-id sorted) (InOrder-from_sorted (λ (name : Name). name) sorted c.sort_unstable.ensures.sorted (rw map-id (IsDistinct-permutation found sorted c.sort_unstable.ensures.permutation s.distinct)));
-      all = λ name reached. Contains-permutation found sorted name c.sort_unstable.ensures.permutation (IsSearched-all c.args.self.now found c.loop-next.next s done name reached);
-      only = λ n there. s.reached n (Contains-permutation sorted found n (IsPermutation-sym found sorted c.sort_unstable.ensures.permutation) there);
+      in_order = subst InOrder (map-id sorted) (InOrder-from_sorted (λ (name : Name). name) sorted c.sort_unstable.ensures.sorted (rw map-id (IsDistinct-permutation found sorted c.sort_unstable.ensures.permutation loop_invariant.distinct)));
+      all = λ name reached. Contains-permutation found sorted name c.sort_unstable.ensures.permutation (IsSearched-all c.args.self.now found c.loop-next.next loop_invariant all_visited name reached);
+      only = λ found_name name_found. loop_invariant.reached found_name (Contains-permutation sorted found found_name (IsPermutation-sym found sorted c.sort_unstable.ensures.permutation) name_found);
     }

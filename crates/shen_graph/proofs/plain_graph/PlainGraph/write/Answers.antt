@@ -10,7 +10,7 @@ use Rattle.shen_graph.proofs.plain_graph.PlainGraph.write.Goals as goal
 pub put_objects-requires : goal.put_objects-requires
 put_objects-requires c =
     let live = c.requires.room _ (c.in_ok-names.names.items, c.in_ok-names.ensures, refl) in
-    rw c.deref.ensures.value (omega (arith, live, ap (λ t. t.spare) c.clear.ensures))
+    rw c.deref.ensures.value (omega (arith, live, ap (λ text. text.spare) c.clear.ensures))
 
 abbrev nulls : List Reference
 nulls = replicate 16 None
@@ -20,21 +20,21 @@ empties = replicate 4 None
 
 pub put_pins-requires : goal.put_pins-requires
 put_pins-requires c =
-    ap (λ t. length t.pins) c.put_roots.ensures.kept ∙ ap length c.put_objects.ensures.pins
-    ∙ ap (λ t. length t.pins) c.clear.ensures ∙ length-replicate (length c.args.text.now.roots) empties ∙ c.requires.threads
+    ap (λ text. length text.pins) c.put_roots.ensures.kept ∙ ap length c.put_objects.ensures.pins
+    ∙ ap (λ text. length text.pins) c.clear.ensures ∙ length-replicate (length c.args.text.now.roots) empties ∙ c.requires.threads
 
 pub returns-clause-ok : goal.returns-clause-ok
 returns-clause-ok c =
     let g = graph_of c.args.self.now in
     text_of_graph g (threads_of c.args.self.now) c.put_pins.new.text c.in_ok-names.names.items c.in_ok-names.ensures
-    (ap (λ t. t.rows) c.put_pins.ensures.kept ∙ ap (λ t. t.rows) c.put_roots.ensures.kept ∙ c.put_objects.ensures.rows
-    ∙ ap (λ t. t.rows ++ map (row_in g) c.deref.result.now) c.clear.ensures
+    (ap (λ text. text.rows) c.put_pins.ensures.kept ∙ ap (λ text. text.rows) c.put_roots.ensures.kept ∙ c.put_objects.ensures.rows
+    ∙ ap (λ text. text.rows ++ map (row_in g) c.deref.result.now) c.clear.ensures
     ∙ ap (map (row_in g)) c.deref.ensures.value)
-    (ap (λ t. length t.roots) c.put_pins.ensures.kept ∙ c.put_roots.ensures.threads ∙ ap length c.put_objects.ensures.roots
-    ∙ ap (λ t. length t.roots) c.clear.ensures
+    (ap (λ text. length text.roots) c.put_pins.ensures.kept ∙ c.put_roots.ensures.threads ∙ ap length c.put_objects.ensures.roots
+    ∙ ap (λ text. length text.roots) c.clear.ensures
     ∙ length-replicate (length c.args.text.now.roots) nulls
     ∙ c.requires.threads)
-    (λ thread index low high. ap (λ t. root_of t thread index) c.put_pins.ensures.kept ∙ c.put_roots.ensures.roots thread index low high)
-    (c.put_pins.ensures.threads ∙ ap (λ t. length t.pins) c.put_roots.ensures.kept ∙ ap length c.put_objects.ensures.pins
-    ∙ ap (λ t. length t.pins) c.clear.ensures ∙ length-replicate (length c.args.text.now.roots) empties ∙ c.requires.threads)
+    (λ thread index low high. ap (λ text. root_of text thread index) c.put_pins.ensures.kept ∙ c.put_roots.ensures.roots thread index low high)
+    (c.put_pins.ensures.threads ∙ ap (λ text. length text.pins) c.put_roots.ensures.kept ∙ ap length c.put_objects.ensures.pins
+    ∙ ap (λ text. length text.pins) c.clear.ensures ∙ length-replicate (length c.args.text.now.roots) empties ∙ c.requires.threads)
     c.put_pins.ensures.pins

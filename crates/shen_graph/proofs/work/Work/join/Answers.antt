@@ -8,7 +8,7 @@ use Rattle.shen_graph.proofs.work.Work.join.Goals as goal
 pub returns : goal.returns
 returns c =
     all_joined c.self.inside.jobs c.other.inside.jobs c.loop-mutator.own c.loop-mutator.invariant.places
-    (λ k below. let l = c.loop-mutator in l.invariant.taken k
-    ∙ ap (λ b. if b then one_of (progress_of c.self.inside.jobs k) (progress_of c.other.inside.jobs k) else progress_of c.self.inside.jobs k) (lt-ltb k l.mutator (omega (arith, c.loop-mutator-test.false))))
+    (λ index index_below. let loop = c.loop-mutator in loop.invariant.taken index
+    ∙ ap (λ is_below. if is_below then one_of (progress_of c.self.inside.jobs index) (progress_of c.other.inside.jobs index) else progress_of c.self.inside.jobs index) (lt-ltb index loop.mutator (omega (arith, c.loop-mutator-test.false))))
     ∙ ap (λ work. joined work c.other.inside.jobs) c.self.view_is
     ∙ ap (joined c.args.self.now) c.other.view_is

@@ -5,9 +5,9 @@ use Rattle.shen_graph.proofs.work.Work.join.Given as goal
 
 -- the scripts of the mutators below have been taken in
 abbrev pub invariant-loop-mutator : goal.invariant-loop-mutator
-invariant-loop-mutator l = record {
-  places : length l.own ≡ 8;
-  other_places : length l.others ≡ 8;
-  taken : (k : ℕ) → progress_of l.own k ≡ (if nat_lt k l.mutator then one_of (progress_of l.initial.own k) (progress_of l.initial.others k) else progress_of l.initial.own k);
-  waiting : (k : ℕ) → l.mutator ≤ k → progress_of l.others k ≡ progress_of l.initial.others k;
+invariant-loop-mutator loop = record {
+  places : length loop.own ≡ 8;
+  other_places : length loop.others ≡ 8;
+  taken : (index : ℕ) → progress_of loop.own index ≡ (if nat_lt index loop.mutator then one_of (progress_of loop.initial.own index) (progress_of loop.initial.others index) else progress_of loop.initial.own index);
+  waiting : (index : ℕ) → loop.mutator ≤ index → progress_of loop.others index ≡ progress_of loop.initial.others index;
 }

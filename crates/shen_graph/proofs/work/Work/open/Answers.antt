@@ -9,18 +9,18 @@ use Rattle.shen_graph.specs.Work.{Progress, begun}
 use Rattle.shen_graph.proofs.work.Work.open.Goals as goal
 
 -- the script at a place among the first ones
-among : (scripts : List (List Command)) (n index : ℕ) (script : List Command) → index < n → n ≤ length scripts → slice_get (take n scripts) index ≡ Some (get_or scripts index script)
-among scripts n index script below within = slice_get-get_or (take n scripts) index script (omega (arith, length-take-le n scripts within)) ∙ ap Some (get_or-take n scripts index script below)
+among : (scripts : List (List Command)) (taken index : ℕ) (script : List Command) → index < taken → taken ≤ length scripts → slice_get (take taken scripts) index ≡ Some (get_or scripts index script)
+among scripts taken index script index_below within = slice_get-get_or (take taken scripts) index script (omega (arith, length-take-le taken scripts within)) ∙ ap Some (get_or-take taken scripts index script index_below)
 
-behind : (scripts : List (List Command)) (n index : ℕ) → n ≤ index → n ≤ length scripts → slice_get (take n scripts) index ≡ None
-behind scripts n index past within = slice_get_past (take n scripts) index (omega (arith, length-take-le n scripts within))
+behind : (scripts : List (List Command)) (taken index : ℕ) → taken ≤ index → taken ≤ length scripts → slice_get (take taken scripts) index ≡ None
+behind scripts taken index past_taken within = slice_get_past (take taken scripts) index (omega (arith, length-take-le taken scripts within))
 
 -- at another place one script more changes nothing
-same_among : (scripts : List (List Command)) (i index : ℕ) → i + 1 ≤ length scripts → (index ≡ i → ⊥) → slice_get (take i scripts) index ≡ slice_get (take (i + 1) scripts) index
-same_among scripts i index within other =
-    elim (cases_lt index i) [
-      | inl below ↦ among scripts i index [] below (omega arith) ∙ sym (among scripts (i + 1) index [] (omega arith) within)
-      | inr past ↦ behind scripts i index past (omega arith) ∙ sym (behind scripts (i + 1) index (omega (arith, other)) within)
+same_among : (scripts : List (List Command)) (taken index : ℕ) → taken + 1 ≤ length scripts → (index ≡ taken → ⊥) → slice_get (take taken scripts) index ≡ slice_get (take (taken + 1) scripts) index
+same_among scripts taken index within index_differs =
+    elim (cases_lt index taken) [
+      | inl index_below ↦ among scripts taken index [] index_below (omega arith) ∙ sym (among scripts (taken + 1) index [] (omega arith) within)
+      | inr past_taken ↦ behind scripts taken index past_taken (omega arith) ∙ sym (behind scripts (taken + 1) index (omega (arith, index_differs)) within)
     ]
 
 -- a script more is in its place
@@ -28,9 +28,9 @@ opened_more : (scripts : List (List Command)) (script : List Command) (jobs : Li
     get_or jobs other_index None ≡ option_map begun (slice_get (take index scripts) other_index) → get_or (slice_set jobs index (Some job)) other_index None ≡ option_map begun (slice_get (take (index + 1) scripts) other_index)
 opened_more scripts script jobs index other_index job within inside read made before =
     elim (cases_eq other_index index) [
-      | inl same ↦ subst (λ other_index. get_or (slice_set jobs index (Some job)) other_index None ≡ option_map begun (slice_get (take (index + 1) scripts) other_index)) (sym same)
+      | inl same_index ↦ subst (λ other_index. get_or (slice_set jobs index (Some job)) other_index None ≡ option_map begun (slice_get (take (index + 1) scripts) other_index)) (sym same_index)
           (get_or-set_same jobs index (Some job) None inside ∙ ap Some (made ∙ ap begun read) ∙ sym (ap (option_map begun) (among scripts (index + 1) index script (omega arith) within)))
-      | inr other ↦ get_or-set_other jobs index other_index (Some job) None other ∙ before ∙ ap (option_map begun) (same_among scripts index other_index within other)
+      | inr index_differs ↦ get_or-set_other jobs index other_index (Some job) None index_differs ∙ before ∙ ap (option_map begun) (same_among scripts index other_index within index_differs)
     ]
 
 pub loop-mutator-preserved : goal.loop-mutator-preserved
@@ -39,10 +39,10 @@ loop-mutator-preserved c =
     let within : c.loop-mutator.mutator + 1 ≤ length c.args.scripts.now = omega arith in
     let inside : c.loop-mutator.mutator < length c.loop-mutator.jobs = omega (arith, inv.0, c.requires) in (
       rw length-set inv.0,
-      λ k small. opened_more c.args.scripts.now c.index-scripts-mutator.result c.loop-mutator.jobs c.loop-mutator.mutator k c.in_ok-open.field-0 within inside c.index-scripts-mutator.is (c.in_ok-open.ensures ∙ ap begun c.list.ensures) (inv.1 k small),
+      λ job_index small. opened_more c.args.scripts.now c.index-scripts-mutator.result c.loop-mutator.jobs c.loop-mutator.mutator job_index c.in_ok-open.field-0 within inside c.index-scripts-mutator.is (c.in_ok-open.ensures ∙ ap begun c.list.ensures) (inv.1 job_index small),
     )
 
 pub returns : goal.returns
 returns c =
-    fill_by_all (λ k. option_map begun (slice_get c.args.scripts.now k)) c.loop-mutator.jobs 8 None c.loop-mutator.invariant.0
-    (λ index below. c.loop-mutator.invariant.1 index below ∙ ap (λ s. option_map begun (slice_get s index)) (take_all _ _ c.loop-mutator-test.false))
+    fill_by_all (λ job_index. option_map begun (slice_get c.args.scripts.now job_index)) c.loop-mutator.jobs 8 None c.loop-mutator.invariant.0
+    (λ index index_below. c.loop-mutator.invariant.1 index index_below ∙ ap (λ scripts. option_map begun (slice_get scripts index)) (take_all _ _ c.loop-mutator-test.false))

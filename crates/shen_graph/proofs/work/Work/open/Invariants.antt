@@ -4,5 +4,5 @@ use Rattle.shen_graph.specs.Work.{begun}
 use Rattle.shen_graph.proofs.work.Work.open.Given as goal
 
 abbrev pub invariant-loop-mutator : goal.invariant-loop-mutator
-invariant-loop-mutator l =
-    (length l.jobs ≡ 8) × ((index : ℕ) → index < 8 → get_or l.jobs index None ≡ option_map begun (slice_get (take l.mutator l.scripts) index))
+invariant-loop-mutator loop =
+    (length loop.jobs ≡ 8) × ((index : ℕ) → index < 8 → get_or loop.jobs index None ≡ option_map begun (slice_get (take loop.mutator loop.scripts) index))

@@ -13,13 +13,13 @@ pub returns-clause-parted : goal.returns-clause-parted
 returns-clause-parted c =
     subst (λ work. c.loop-mutator.jobs ≡ picked (is_in_part c.args.workers c.args.part) work) c.self.view_is
     (all_picked (is_in_part c.args.workers c.args.part) c.self.inside.jobs c.loop-mutator.jobs c.loop-mutator.invariant.part_places
-    (λ k below. let l = c.loop-mutator in l.invariant.moved k
-    ∙ ap (λ b. if b then (if is_in_part c.args.workers c.args.part k then progress_of c.self.inside.jobs k else None) else None) (lt-ltb k l.mutator (omega (arith, c.loop-mutator-test.false)))))
+    (λ index index_below. let loop = c.loop-mutator in loop.invariant.moved index
+    ∙ ap (λ is_below. if is_below then (if is_in_part c.args.workers c.args.part index then progress_of c.self.inside.jobs index else None) else None) (lt-ltb index loop.mutator (omega (arith, c.loop-mutator-test.false)))))
 
 pub returns-clause-left : goal.returns-clause-left
 returns-clause-left c =
-    subst (λ work. c.loop-mutator.own ≡ picked (λ k. not (is_in_part c.args.workers c.args.part k)) work) c.self.view_is
-    (all_picked (λ k. not (is_in_part c.args.workers c.args.part k)) c.self.inside.jobs c.loop-mutator.own c.loop-mutator.invariant.places
-    (λ k below. let l = c.loop-mutator in l.invariant.left k
-    ∙ ap (λ b. if b then (if is_in_part c.args.workers c.args.part k then None else progress_of c.self.inside.jobs k) else progress_of c.self.inside.jobs k) (lt-ltb k l.mutator (omega (arith, c.loop-mutator-test.false)))
-    ∙ turned (is_in_part c.args.workers c.args.part k) (progress_of c.self.inside.jobs k)))
+    subst (λ work. c.loop-mutator.own ≡ picked (λ index. not (is_in_part c.args.workers c.args.part index)) work) c.self.view_is
+    (all_picked (λ index. not (is_in_part c.args.workers c.args.part index)) c.self.inside.jobs c.loop-mutator.own c.loop-mutator.invariant.places
+    (λ index index_below. let loop = c.loop-mutator in loop.invariant.left index
+    ∙ ap (λ is_below. if is_below then (if is_in_part c.args.workers c.args.part index then None else progress_of c.self.inside.jobs index) else progress_of c.self.inside.jobs index) (lt-ltb index loop.mutator (omega (arith, c.loop-mutator-test.false)))
+    ∙ turned (is_in_part c.args.workers c.args.part index) (progress_of c.self.inside.jobs index)))

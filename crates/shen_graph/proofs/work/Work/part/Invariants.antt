@@ -5,9 +5,9 @@ use Rattle.shen_graph.proofs.work.Work.part.Given as goal
 
 -- the mutators below have been dealt
 abbrev pub invariant-loop-mutator : goal.invariant-loop-mutator
-invariant-loop-mutator l = record {
-  places : length l.own ≡ 8;
-  part_places : length l.jobs ≡ 8;
-  moved : (k : ℕ) → progress_of l.jobs k ≡ (if nat_lt k l.mutator then (if is_in_part l.workers l.part k then progress_of l.initial.own k else None) else None);
-  left : (k : ℕ) → progress_of l.own k ≡ (if nat_lt k l.mutator then (if is_in_part l.workers l.part k then None else progress_of l.initial.own k) else progress_of l.initial.own k);
+invariant-loop-mutator loop = record {
+  places : length loop.own ≡ 8;
+  part_places : length loop.jobs ≡ 8;
+  moved : (index : ℕ) → progress_of loop.jobs index ≡ (if nat_lt index loop.mutator then (if is_in_part loop.workers loop.part index then progress_of loop.initial.own index else None) else None);
+  left : (index : ℕ) → progress_of loop.own index ≡ (if nat_lt index loop.mutator then (if is_in_part loop.workers loop.part index then None else progress_of loop.initial.own index) else progress_of loop.initial.own index);
 }

@@ -21,7 +21,7 @@ invariant_of-self c =
       kept = bundle.kept;
       slots = bundle.slots;
       of_heap = bundle.of_heap;
-      greys = greys_as bundle.config bundle.machines.items bundle.machines.items _ bundle.greyed.items refl (ap (λ v. v.items) c.in_default.ensures.refused) bundle.greys;
+      greys = greys_as bundle.config bundle.machines.items bundle.machines.items _ bundle.greyed.items refl (ap (λ greyed_view. greyed_view.items) c.in_default.ensures.refused) bundle.greys;
       hints_of_heap = bundle.hints_of_heap;
       thieves_of_heap = bundle.thieves_of_heap;
     }
@@ -30,14 +30,14 @@ invariant_of-self c =
 pub invariant_of-self-in_default-deal_machines : goal.invariant_of-self-in_default-deal_machines
 invariant_of-self-in_default-deal_machines c =
     let bundle = c.args.self.now in
-    let same = ap (λ v. v.items) c.in_default-deal_machines.ensures.refused in
+    let same_machines = ap (λ machine_view. machine_view.items) c.in_default-deal_machines.ensures.refused in
     record {
       same_sizes = bundle.same_sizes;
-      seats = ap length same ∙ bundle.seats;
-      kept = bundle.kept ∙ ap (kept_in_view shown) (sym same);
+      seats = ap length same_machines ∙ bundle.seats;
+      kept = bundle.kept ∙ ap (kept_in_view shown) (sym same_machines);
       slots = bundle.slots;
-      of_heap = subst (AreOfHeap bundle.config) (sym same) bundle.of_heap;
-      greys = greys_as bundle.config _ bundle.machines.items _ _ same c.in-Ok.ensures.left (greys_fewer bundle.config (λ number. not (is_dealt_to c.args.bundles c.args.bundle number)) bundle.machines.items bundle.greyed.items bundle.greys);
+      of_heap = subst (AreOfHeap bundle.config) (sym same_machines) bundle.of_heap;
+      greys = greys_as bundle.config _ bundle.machines.items _ _ same_machines c.in-Ok.ensures.left (greys_fewer bundle.config (λ number. not (is_dealt_to c.args.bundles c.args.bundle number)) bundle.machines.items bundle.greyed.items bundle.greys);
       hints_of_heap = bundle.hints_of_heap;
       thieves_of_heap = bundle.thieves_of_heap;
     }
@@ -45,18 +45,18 @@ invariant_of-self-in_default-deal_machines c =
 pub invariant_of-self-2 : goal.invariant_of-self-2
 invariant_of-self-2 c =
     let bundle = c.args.self.now in
-    let left = c.in-Ok-deal_machines.ensures.left in
+    let bundle_left = c.in-Ok-deal_machines.ensures.left in
     record {
       same_sizes = bundle.same_sizes;
-      seats = ap length left ∙ length-picked (λ number. not (is_dealt_to c.args.bundles c.args.bundle number)) bundle.machines.items ∙ bundle.seats;
+      seats = ap length bundle_left ∙ length-picked (λ number. not (is_dealt_to c.args.bundles c.args.bundle number)) bundle.machines.items ∙ bundle.seats;
       kept = ap (λ me. kept_in_view machine_in (uncounted_view me.0)) c.deal_bundle-seat.ensures.kept.1
           ∙ ap (kept_in_view machine_in) (kept-picked uncounted_machine (λ number. not (is_dealt_to c.args.bundles c.args.bundle number)) bundle.seat.me.0)
           ∙ kept-picked machine_in (λ number. not (is_dealt_to c.args.bundles c.args.bundle number)) (view_of bundle)
           ∙ ap (machines_left (is_dealt_to c.args.bundles c.args.bundle)) bundle.kept
-          ∙ sym (ap (kept_in_view shown) left ∙ kept-picked shown (λ number. not (is_dealt_to c.args.bundles c.args.bundle number)) bundle.machines.items);
+          ∙ sym (ap (kept_in_view shown) bundle_left ∙ kept-picked shown (λ number. not (is_dealt_to c.args.bundles c.args.bundle number)) bundle.machines.items);
       slots = ap (λ me. me.1) c.deal_bundle-seat.ensures.kept.1 ∙ bundle.slots;
-      of_heap = subst (AreOfHeap bundle.config) (sym left) (heap_picked bundle.config (λ number. not (is_dealt_to c.args.bundles c.args.bundle number)) bundle.machines.items bundle.of_heap);
-      greys = greys_as bundle.config _ _ _ _ left c.in-Ok.ensures.left (greys_picked bundle.config (λ number. not (is_dealt_to c.args.bundles c.args.bundle number)) bundle.machines.items bundle.greyed.items bundle.greys);
+      of_heap = subst (AreOfHeap bundle.config) (sym bundle_left) (heap_picked bundle.config (λ number. not (is_dealt_to c.args.bundles c.args.bundle number)) bundle.machines.items bundle.of_heap);
+      greys = greys_as bundle.config _ _ _ _ bundle_left c.in-Ok.ensures.left (greys_picked bundle.config (λ number. not (is_dealt_to c.args.bundles c.args.bundle number)) bundle.machines.items bundle.greyed.items bundle.greys);
       hints_of_heap = bundle.hints_of_heap;
       thieves_of_heap = bundle.thieves_of_heap;
     }

@@ -16,7 +16,7 @@ use Rattle.table_heap.proofs.Greyed.{greys_put}
 use Rattle.table_heap.proofs.bundle.Bundle.finish.Goals as goal
 
 pub index_mut-requires : goal.index_mut-requires
-index_mut-requires c = let inside = within shown c.args.self.now.machines.items c.args.number c.requires.here in omega arith
+index_mut-requires c = let number_inside = within shown c.args.self.now.machines.items c.args.number c.requires.here in omega arith
 
 pub unreachable-requires : goal.unreachable-requires
 unreachable-requires c =
@@ -27,39 +27,39 @@ pub finish-requires : goal.finish-requires
 finish-requires c =
     let bundle = c.args.self.now in
     let machine = c.in-Some.machine.now in
-    let inside = within shown bundle.machines.items c.args.number c.requires.here in
-    let here = read_here shown bundle.machines.items c.args.number c.index_mut.result.now machine inside c.index_mut.ensures.value (sym c.as_mut.ensures.value ∙ ap option_copied_mut c.in-Some.is) in
-    ap may_begin (sym (shows_as shown bundle.machines.items c.args.number machine no_machine here)) ∙ c.requires.rest
+    let number_inside = within shown bundle.machines.items c.args.number c.requires.here in
+    let machine_there = read_here shown bundle.machines.items c.args.number c.index_mut.result.now machine number_inside c.index_mut.ensures.value (sym c.as_mut.ensures.value ∙ ap option_copied_mut c.in-Some.is) in
+    ap may_begin (sym (shows_as shown bundle.machines.items c.args.number machine no_machine machine_there)) ∙ c.requires.rest
 
 pub invariant_of-self : goal.invariant_of-self
 invariant_of-self c =
     let bundle = c.args.self.now in
     let machine = c.in-Some.machine.now in
-    let inside = within shown bundle.machines.items c.args.number c.requires.here in
-    let here = read_here shown bundle.machines.items c.args.number c.index_mut.result.now machine inside c.index_mut.ensures.value (sym c.as_mut.ensures.value ∙ ap option_copied_mut c.in-Some.is) in
-    let n = c.finish.new.self in
+    let number_inside = within shown bundle.machines.items c.args.number c.requires.here in
+    let machine_there = read_here shown bundle.machines.items c.args.number c.index_mut.result.now machine number_inside c.index_mut.ensures.value (sym c.as_mut.ensures.value ∙ ap option_copied_mut c.in-Some.is) in
+    let next_machine = c.finish.new.self in
     record {
       same_sizes = bundle.same_sizes;
       seats = length-set bundle.machines.items _ _ ∙ bundle.seats;
-      kept = bundle.kept ∙ sym (put_same shown bundle.machines.items c.args.number machine n here c.finish.ensures.shown);
+      kept = bundle.kept ∙ sym (put_same shown bundle.machines.items c.args.number machine next_machine machine_there c.finish.ensures.shown);
       slots = bundle.slots;
-      of_heap = heap_put bundle.config bundle.machines.items c.args.number machine n here c.finish.ensures.heap (ap is_mutating c.finish.ensures.shown) bundle.of_heap;
-      greys = greys_put bundle.config bundle.machines.items bundle.greyed.items c.args.number machine n here bundle.greys;
+      of_heap = heap_put bundle.config bundle.machines.items c.args.number machine next_machine machine_there c.finish.ensures.heap (ap is_mutating c.finish.ensures.shown) bundle.of_heap;
+      greys = greys_put bundle.config bundle.machines.items bundle.greyed.items c.args.number machine next_machine machine_there bundle.greys;
       hints_of_heap = bundle.hints_of_heap;
       thieves_of_heap = bundle.thieves_of_heap;
     }
 
 pub returns-clause-order : goal.returns-clause-order
 returns-clause-order c =
-    kept-set order_of c.args.self.now.machines.items c.args.number (Some c.finish.new.self) ∙ ap (λ o. slice_set (kept_in_view order_of c.args.self.now.machines.items) c.args.number (Some o)) c.finish.ensures.order
+    kept-set order_of c.args.self.now.machines.items c.args.number (Some c.finish.new.self) ∙ ap (λ order. slice_set (kept_in_view order_of c.args.self.now.machines.items) c.args.number (Some order)) c.finish.ensures.order
 
 pub returns-clause-takes : goal.returns-clause-takes
 returns-clause-takes c =
     let bundle = c.args.self.now in
     let machine = c.in-Some.machine.now in
-    let inside = within shown bundle.machines.items c.args.number c.requires.here in
-    let here = read_here shown bundle.machines.items c.args.number c.index_mut.result.now machine inside c.index_mut.ensures.value (sym c.as_mut.ensures.value ∙ ap option_copied_mut c.in-Some.is) in
-    ap (λ x. takes_of x (End)) (shows_as shown bundle.machines.items c.args.number machine no_machine here) ∙ c.finish.ensures.takes
+    let number_inside = within shown bundle.machines.items c.args.number c.requires.here in
+    let machine_there = read_here shown bundle.machines.items c.args.number c.index_mut.result.now machine number_inside c.index_mut.ensures.value (sym c.as_mut.ensures.value ∙ ap option_copied_mut c.in-Some.is) in
+    ap (λ x. takes_of x (End)) (shows_as shown bundle.machines.items c.args.number machine no_machine machine_there) ∙ c.finish.ensures.takes
 
 pub returns-clause-unmoved : goal.returns-clause-unmoved
 returns-clause-unmoved c = record { same = record { table = refl; config = refl; key = refl; numbers = same_none (view_of c.args.self.now) }; view = refl; steps = refl; greyed = refl }

@@ -14,7 +14,7 @@ returns-then-not-order_next-clause-unchanged g c = λ _. c.order_next.ensures.un
 
 pub returns-then-not-order_next-clause-idle : goal.returns-then-not-order_next-clause-idle
 returns-then-not-order_next-clause-idle g c = λ _.
-    c.order_next.ensures.turn ∙ ap (λ has. if has then Some (order_at c.order_next.new.self c.args.number) else None) c.if-not-order_next.true
+    c.order_next.ensures.turn ∙ ap (λ has_turn. if has_turn then Some (order_at c.order_next.new.self c.args.number) else None) c.if-not-order_next.true
 
 pub step-said-requires-clause-heap : goal.step-said-requires-clause-heap
 step-said-requires-clause-heap g c =
@@ -31,8 +31,8 @@ returns-clause-same g c =
 -- with its order it has a turn, and with a hint in place of none too
 pub returns-clause-turn : goal.returns-clause-turn
 returns-clause-turn g c = λ _.
-    let given = c.order_next.ensures.turn ∙ ap (λ has. if has then Some (order_at c.order_next.new.self c.args.number) else None) c.if-not-order_next.false in
-    let hinted = after_hint c.args.self.now c.order_next.new.self c.take_hint.new.self c.args.next c.args.number c.requires.here c.order_next.ensures.unmoved c.take_hint.ensures.unmoved given
+    let turn_told = c.order_next.ensures.turn ∙ ap (λ has_turn. if has_turn then Some (order_at c.order_next.new.self c.args.number) else None) c.if-not-order_next.false in
+    let hinted = after_hint c.args.self.now c.order_next.new.self c.take_hint.new.self c.args.next c.args.number c.requires.here c.order_next.ensures.unmoved c.take_hint.ensures.unmoved turn_told
     c.order_next.ensures.orders (c.order_next.ensures.has ∙ c.if-not-order_next.false) c.take_hint.ensures.order in
     record {
       ordered = c.take_hint.new.self;
@@ -44,15 +44,15 @@ returns-clause-turn g c = λ _.
 
 pub returns-clause-unchanged : goal.returns-clause-unchanged
 returns-clause-unchanged g c = λ idle.
-    let given = c.order_next.ensures.turn ∙ ap (λ has. if has then Some (order_at c.order_next.new.self c.args.number) else None) c.if-not-order_next.false in
-    let hinted = after_hint c.args.self.now c.order_next.new.self c.take_hint.new.self c.args.next c.args.number c.requires.here c.order_next.ensures.unmoved c.take_hint.ensures.unmoved given
+    let turn_told = c.order_next.ensures.turn ∙ ap (λ has_turn. if has_turn then Some (order_at c.order_next.new.self c.args.number) else None) c.if-not-order_next.false in
+    let hinted = after_hint c.args.self.now c.order_next.new.self c.take_hint.new.self c.args.next c.args.number c.requires.here c.order_next.ensures.unmoved c.take_hint.ensures.unmoved turn_told
     c.order_next.ensures.orders (c.order_next.ensures.has ∙ c.if-not-order_next.false) c.take_hint.ensures.order in
     absurd (false≢true (sym (c.step-said.ensures.idle.0 idle) ∙ hinted.has))
 
 pub returns-clause-idle : goal.returns-clause-idle
 returns-clause-idle g c = λ idle.
-    let given = c.order_next.ensures.turn ∙ ap (λ has. if has then Some (order_at c.order_next.new.self c.args.number) else None) c.if-not-order_next.false in
-    let hinted = after_hint c.args.self.now c.order_next.new.self c.take_hint.new.self c.args.next c.args.number c.requires.here c.order_next.ensures.unmoved c.take_hint.ensures.unmoved given
+    let turn_told = c.order_next.ensures.turn ∙ ap (λ has_turn. if has_turn then Some (order_at c.order_next.new.self c.args.number) else None) c.if-not-order_next.false in
+    let hinted = after_hint c.args.self.now c.order_next.new.self c.take_hint.new.self c.args.next c.args.number c.requires.here c.order_next.ensures.unmoved c.take_hint.ensures.unmoved turn_told
     c.order_next.ensures.orders (c.order_next.ensures.has ∙ c.if-not-order_next.false) c.take_hint.ensures.order in
     absurd (false≢true (sym (c.step-said.ensures.idle.0 idle) ∙ hinted.has))
 

@@ -16,15 +16,15 @@ returns-then-number-len-clause-machine c =
 pub returns-then-number-len-clause-view : goal.returns-then-number-len-clause-view
 returns-then-number-len-clause-view c =
     c.is_some.ensures ∙ some_read shown c.args.self.now.machines.items c.args.number c.index.result.now (omega (arith, c.len.ensures)) c.index.ensures
-    ∙ ap (λ v. is_some (machine_of v c.args.number)) (sym c.args.self.now.kept) ∙ kept_some machine_in (view_of c.args.self.now) c.args.number
+    ∙ ap (λ view. is_some (machine_of view c.args.number)) (sym c.args.self.now.kept) ∙ kept_some machine_in (view_of c.args.self.now) c.args.number
 
 pub returns-else-number-len-clause-machine : goal.returns-else-number-len-clause-machine
 returns-else-number-len-clause-machine c =
-    let less : nat_lt c.args.number c.len.result ≡ false = grind (arith, nat_tests, c.if-number-len.false) in
-    less ∙ sym (some_past shown c.args.self.now.machines.items c.args.number (λ inside. absurd (omega (arith, c.len.ensures, inside))))
+    let number_not_below : nat_lt c.args.number c.len.result ≡ false = grind (arith, nat_tests, c.if-number-len.false) in
+    number_not_below ∙ sym (some_past shown c.args.self.now.machines.items c.args.number (λ inside. absurd (omega (arith, c.len.ensures, inside))))
 
 pub returns-else-number-len-clause-view : goal.returns-else-number-len-clause-view
 returns-else-number-len-clause-view c =
-    let less : nat_lt c.args.number c.len.result ≡ false = grind (arith, nat_tests, c.if-number-len.false) in
-    less ∙ sym (some_past shown c.args.self.now.machines.items c.args.number (λ inside. absurd (omega (arith, c.len.ensures, inside))))
-    ∙ ap (λ v. is_some (machine_of v c.args.number)) (sym c.args.self.now.kept) ∙ kept_some machine_in (view_of c.args.self.now) c.args.number
+    let number_not_below : nat_lt c.args.number c.len.result ≡ false = grind (arith, nat_tests, c.if-number-len.false) in
+    number_not_below ∙ sym (some_past shown c.args.self.now.machines.items c.args.number (λ inside. absurd (omega (arith, c.len.ensures, inside))))
+    ∙ ap (λ view. is_some (machine_of view c.args.number)) (sym c.args.self.now.kept) ∙ kept_some machine_in (view_of c.args.self.now) c.args.number

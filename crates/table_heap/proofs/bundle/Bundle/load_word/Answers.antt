@@ -29,17 +29,17 @@ use Rattle.table_heap.proofs.bundle.Bundle.load_word.Goals as goal
 
 -- the machine in memory has words left
 left_here : (bundle : Bundle) (number : ℕ) (machine : Machine) → machine_of bundle.machines.items number ≡ Some machine → 0 < loads_left bundle.config (State.machine_at bundle number) → 0 < loads_left (config_of machine) (shown machine)
-left_here bundle number machine here positive =
-    subst (λ n. 0 < n) (ap (loads_left bundle.config) (shows_as shown bundle.machines.items number machine no_machine here) ∙ ap (λ k. loads_left k (shown machine)) (sym (bundle.of_heap number machine here).heap)) positive
+left_here bundle number machine machine_there some_loads =
+    subst (λ words_left. 0 < words_left) (ap (loads_left bundle.config) (shows_as shown bundle.machines.items number machine no_machine machine_there) ∙ ap (λ config. loads_left config (shown machine)) (sym (bundle.of_heap number machine machine_there).heap)) some_loads
 
 pub index_mut-requires : goal.index_mut-requires
-index_mut-requires c = let inside = within shown c.args.self.now.machines.items c.args.number c.requires.here in omega arith
+index_mut-requires c = let number_inside = within shown c.args.self.now.machines.items c.args.number c.requires.here in omega arith
 
 pub index_mut-requires-2 : goal.index_mut-requires-2
 index_mut-requires-2 c =
     let bundle = c.args.self.now in
-    let inside = within shown bundle.machines.items c.args.number c.requires.here in
-    omega (arith, inside, bundle.greys.numbers)
+    let number_inside = within shown bundle.machines.items c.args.number c.requires.here in
+    omega (arith, number_inside, bundle.greys.numbers)
 
 pub unreachable-requires : goal.unreachable-requires
 unreachable-requires c =
@@ -50,60 +50,60 @@ pub next_to_load-at-requires : goal.next_to_load-at-requires
 next_to_load-at-requires c =
     let bundle = c.args.self.now in
     let machine = c.in-Some.machine.now in
-    let inside = within shown bundle.machines.items c.args.number c.requires.here in
-    let here = read_here shown bundle.machines.items c.args.number c.index_mut.result.now machine inside c.index_mut.ensures.value (sym c.as_mut.ensures.value ∙ ap option_copied_mut c.in-Some.is) in
-    left_here bundle c.args.number machine here c.requires.left
+    let number_inside = within shown bundle.machines.items c.args.number c.requires.here in
+    let machine_there = read_here shown bundle.machines.items c.args.number c.index_mut.result.now machine number_inside c.index_mut.ensures.value (sym c.as_mut.ensures.value ∙ ap option_copied_mut c.in-Some.is) in
+    left_here bundle c.args.number machine machine_there c.requires.left
 
 pub loaded-requires : goal.loaded-requires
 loaded-requires c =
     let bundle = c.args.self.now in
     let machine = c.in-Some.machine.now in
-    let inside = within shown bundle.machines.items c.args.number c.requires.here in
-    let here = read_here shown bundle.machines.items c.args.number c.index_mut.result.now machine inside c.index_mut.ensures.value (sym c.as_mut.ensures.value ∙ ap option_copied_mut c.in-Some.is) in
-    left_here bundle c.args.number machine here c.requires.left
+    let number_inside = within shown bundle.machines.items c.args.number c.requires.here in
+    let machine_there = read_here shown bundle.machines.items c.args.number c.index_mut.result.now machine number_inside c.index_mut.ensures.value (sym c.as_mut.ensures.value ∙ ap option_copied_mut c.in-Some.is) in
+    left_here bundle c.args.number machine machine_there c.requires.left
 
 pub make_step-got-requires-clause-inside : goal.make_step-got-requires-clause-inside
 make_step-got-requires-clause-inside c =
     let bundle = c.args.self.now in
     let machine = c.in-Some.machine.now in
-    let inside = within shown bundle.machines.items c.args.number c.requires.here in
-    let here = read_here shown bundle.machines.items c.args.number c.index_mut.result.now machine inside c.index_mut.ensures.value (sym c.as_mut.ensures.value ∙ ap option_copied_mut c.in-Some.is) in
-    let heap = (bundle.of_heap c.args.number machine here).heap in
-    let words : c.args.heap.now.table.shared.table_id.words ≡ table_words (config_of machine) = c.args.heap.now.all_words ∙ ap table_words (sym c.requires.heap.config ∙ sym heap) in
-    subst (λ n. c.next_to_load-at.result < n) (sym words) c.next_to_load-at.ensures.inside
+    let number_inside = within shown bundle.machines.items c.args.number c.requires.here in
+    let machine_there = read_here shown bundle.machines.items c.args.number c.index_mut.result.now machine number_inside c.index_mut.ensures.value (sym c.as_mut.ensures.value ∙ ap option_copied_mut c.in-Some.is) in
+    let heap = (bundle.of_heap c.args.number machine machine_there).heap in
+    let same_words : c.args.heap.now.table.shared.table_id.words ≡ table_words (config_of machine) = c.args.heap.now.all_words ∙ ap table_words (sym c.requires.heap.config ∙ sym heap) in
+    subst (λ word_count. c.next_to_load-at.result < word_count) (sym same_words) c.next_to_load-at.ensures.inside
 
 pub make_step-got-requires-clause-machine : goal.make_step-got-requires-clause-machine
 make_step-got-requires-clause-machine c =
     let bundle = c.args.self.now in
     let machine = c.in-Some.machine.now in
-    let inside = within shown bundle.machines.items c.args.number c.requires.here in
-    let here = read_here shown bundle.machines.items c.args.number c.index_mut.result.now machine inside c.index_mut.ensures.value (sym c.as_mut.ensures.value ∙ ap option_copied_mut c.in-Some.is) in
-    let heap = (bundle.of_heap c.args.number machine here).heap in
+    let number_inside = within shown bundle.machines.items c.args.number c.requires.here in
+    let machine_there = read_here shown bundle.machines.items c.args.number c.index_mut.result.now machine number_inside c.index_mut.ensures.value (sym c.as_mut.ensures.value ∙ ap option_copied_mut c.in-Some.is) in
+    let heap = (bundle.of_heap c.args.number machine machine_there).heap in
     let key : c.args.heap.now.table.shared.key ≡ bundle.key.value = c.args.heap.now.table_key ∙ sym c.requires.heap.key in
-    let goes = left_here bundle c.args.number machine here c.requires.left in
-    let turn = ap (takes_of (shown machine)) c.next_to_load-at.ensures.none ∙ (goes_inside (config_of machine) (shown machine) (loads_inside (config_of machine) (shown machine) goes)).takes in
+    let words_left = left_here bundle c.args.number machine machine_there c.requires.left in
+    let turn = ap (takes_of (shown machine)) c.next_to_load-at.ensures.none ∙ (goes_inside (config_of machine) (shown machine) (loads_inside (config_of machine) (shown machine) words_left)).takes in
     can_counted (heap_kind c.args.heap.now.table.shared.key.config) bundle.seat.me.0 c.args.number Nothing (Load c.next_to_load-at.result)
     (can_as c.args.heap.now.table.shared.key.config bundle.config (State.view_of bundle) c.args.number Nothing (order_of machine) (Load c.next_to_load-at.result) (ap (λ (key : HeapKey). key.config) key ∙ bundle.same_sizes) (sym c.next_to_load-at.ensures.none)
-    (can bundle.config bundle.key.value bundle.same_sizes bundle.machines.items (uncounted_seat bundle.seat.me) bundle.kept c.args.number machine here (Load c.next_to_load-at.result) heap turn c.next_to_load-at.ensures.row))
+    (can bundle.config bundle.key.value bundle.same_sizes bundle.machines.items (uncounted_seat bundle.seat.me) bundle.kept c.args.number machine machine_there (Load c.next_to_load-at.result) heap turn c.next_to_load-at.ensures.row))
 
 pub invariant_of-self : goal.invariant_of-self
 invariant_of-self c =
     let bundle = c.args.self.now in
     let machine = c.in-Some.machine.now in
-    let inside = within shown bundle.machines.items c.args.number c.requires.here in
-    let here = read_here shown bundle.machines.items c.args.number c.index_mut.result.now machine inside c.index_mut.ensures.value (sym c.as_mut.ensures.value ∙ ap option_copied_mut c.in-Some.is) in
-    let heap = (bundle.of_heap c.args.number machine here).heap in
+    let number_inside = within shown bundle.machines.items c.args.number c.requires.here in
+    let machine_there = read_here shown bundle.machines.items c.args.number c.index_mut.result.now machine number_inside c.index_mut.ensures.value (sym c.as_mut.ensures.value ∙ ap option_copied_mut c.in-Some.is) in
+    let heap = (bundle.of_heap c.args.number machine machine_there).heap in
     let key : c.args.heap.now.table.shared.key ≡ bundle.key.value = c.args.heap.now.table_key ∙ sym c.requires.heap.key in
     let took = took_in c.args.heap.now.table.shared.key bundle.key.value bundle.config c.args.number Nothing (order_of machine) bundle.seat.me c.make_step-got.result c.make_step-got.new.seat.me key bundle.same_sizes (sym c.next_to_load-at.ensures.none) c.make_step-got.ensures.took in
-    let n = c.loaded.new.self in
+    let next_machine = c.loaded.new.self in
     record {
       same_sizes = bundle.same_sizes;
       seats = length-set bundle.machines.items _ _ ∙ bundle.seats;
-      kept = kept_after bundle.config bundle.key.value bundle.same_sizes bundle.machines.items (uncounted_seat bundle.seat.me) bundle.kept c.args.number machine here c.make_step-got.result (uncounted_seat c.make_step-got.new.seat.me) took n c.loaded.ensures.shown heap;
+      kept = kept_after bundle.config bundle.key.value bundle.same_sizes bundle.machines.items (uncounted_seat bundle.seat.me) bundle.kept c.args.number machine machine_there c.make_step-got.result (uncounted_seat c.make_step-got.new.seat.me) took next_machine c.loaded.ensures.shown heap;
       slots = took.slots ∙ bundle.slots;
-      of_heap = heap_put bundle.config bundle.machines.items c.args.number machine n here c.loaded.ensures.heap
-          (role_after bundle.config bundle.key.value bundle.same_sizes bundle.machines.items (uncounted_seat bundle.seat.me) bundle.kept c.args.number machine here c.make_step-got.result (uncounted_seat c.make_step-got.new.seat.me) took n c.loaded.ensures.shown heap) bundle.of_heap;
-      greys = greys_step bundle.config bundle.machines.items bundle.greyed.items c.args.number machine n None here tt bundle.greys;
+      of_heap = heap_put bundle.config bundle.machines.items c.args.number machine next_machine machine_there c.loaded.ensures.heap
+          (role_after bundle.config bundle.key.value bundle.same_sizes bundle.machines.items (uncounted_seat bundle.seat.me) bundle.kept c.args.number machine machine_there c.make_step-got.result (uncounted_seat c.make_step-got.new.seat.me) took next_machine c.loaded.ensures.shown heap) bundle.of_heap;
+      greys = greys_step bundle.config bundle.machines.items bundle.greyed.items c.args.number machine next_machine None machine_there tt bundle.greys;
       hints_of_heap = bundle.hints_of_heap;
       thieves_of_heap = bundle.thieves_of_heap;
     }
@@ -112,57 +112,57 @@ pub returns-clause-event : goal.returns-clause-event
 returns-clause-event c =
     let bundle = c.args.self.now in
     let machine = c.in-Some.machine.now in
-    let inside = within shown bundle.machines.items c.args.number c.requires.here in
-    let here = read_here shown bundle.machines.items c.args.number c.index_mut.result.now machine inside c.index_mut.ensures.value (sym c.as_mut.ensures.value ∙ ap option_copied_mut c.in-Some.is) in
-    let heap = (bundle.of_heap c.args.number machine here).heap in
+    let number_inside = within shown bundle.machines.items c.args.number c.requires.here in
+    let machine_there = read_here shown bundle.machines.items c.args.number c.index_mut.result.now machine number_inside c.index_mut.ensures.value (sym c.as_mut.ensures.value ∙ ap option_copied_mut c.in-Some.is) in
+    let heap = (bundle.of_heap c.args.number machine machine_there).heap in
     let key : c.args.heap.now.table.shared.key ≡ bundle.key.value = c.args.heap.now.table_key ∙ sym c.requires.heap.key in
-    let goes = left_here bundle c.args.number machine here c.requires.left in
-    let at = shows_as shown bundle.machines.items c.args.number machine no_machine here in
-    let given = shows_as order_of bundle.machines.items c.args.number machine Nothing here in
-    let none = given ∙ c.next_to_load-at.ensures.none in
-    let n = c.loaded.new.self in
-    let took = took_as c.args.heap.now.table.shared.key bundle.key.value c.args.number Nothing (order_at bundle c.args.number) bundle.seat.me c.make_step-got.result c.make_step-got.new.seat.me key (sym none) c.make_step-got.ensures.took in
+    let words_left = left_here bundle c.args.number machine machine_there c.requires.left in
+    let machine_shown = shows_as shown bundle.machines.items c.args.number machine no_machine machine_there in
+    let order_shown = shows_as order_of bundle.machines.items c.args.number machine Nothing machine_there in
+    let no_order = order_shown ∙ c.next_to_load-at.ensures.none in
+    let next_machine = c.loaded.new.self in
+    let took = took_as c.args.heap.now.table.shared.key bundle.key.value c.args.number Nothing (order_at bundle c.args.number) bundle.seat.me c.make_step-got.result c.make_step-got.new.seat.me key (sym no_order) c.make_step-got.ensures.took in
     record {
       got = c.make_step-got.result;
       took = subst (λ (config : Config). Took (heap_kind config) (start_of_key bundle.key.value) c.args.number (order_at bundle c.args.number) (uncounted_seat bundle.seat.me) c.make_step-got.result (uncounted_seat c.make_step-got.new.seat.me)) bundle.same_sizes
           (took_uncounted (heap_kind bundle.key.value.config) (start_of_key bundle.key.value) c.args.number (order_at bundle c.args.number) bundle.seat.me c.make_step-got.new.seat.me c.make_step-got.result took);
       steps = step_counted bundle.key.value c.args.number (order_at bundle c.args.number) bundle.seat.me c.make_step-got.new.seat.me c.make_step-got.result took;
-      said_is = sym (ap (λ x. says bundle.config (order_at bundle c.args.number) x c.make_step-got.result) at ∙ ap (λ order. says bundle.config order (shown machine) c.make_step-got.result) none
-          ∙ ap (λ k. says k Nothing (shown machine) c.make_step-got.result) (sym heap) ∙ ap stepped_by ((goes_inside (config_of machine) (shown machine) (loads_inside (config_of machine) (shown machine) goes)).says c.make_step-got.result));
-      greyed = ap (λ x. slice_set bundle.greyed.items c.args.number x) (sym (goes_inside bundle.config (State.machine_at bundle c.args.number) (loads_inside bundle.config (State.machine_at bundle c.args.number) c.requires.left)).greys);
-      orders = kept-set order_of bundle.machines.items c.args.number (Some n) ∙ ap (λ o. slice_set (kept_in_view order_of bundle.machines.items) c.args.number (Some o)) c.loaded.ensures.order;
+      said_is = sym (ap (λ value. says bundle.config (order_at bundle c.args.number) value c.make_step-got.result) machine_shown ∙ ap (λ order. says bundle.config order (shown machine) c.make_step-got.result) no_order
+          ∙ ap (λ asked_config. says asked_config Nothing (shown machine) c.make_step-got.result) (sym heap) ∙ ap stepped_by ((goes_inside (config_of machine) (shown machine) (loads_inside (config_of machine) (shown machine) words_left)).says c.make_step-got.result));
+      greyed = ap (λ value. slice_set bundle.greyed.items c.args.number value) (sym (goes_inside bundle.config (State.machine_at bundle c.args.number) (loads_inside bundle.config (State.machine_at bundle c.args.number) c.requires.left)).greys);
+      orders = kept-set order_of bundle.machines.items c.args.number (Some next_machine) ∙ ap (λ given_order. slice_set (kept_in_view order_of bundle.machines.items) c.args.number (Some given_order)) c.loaded.ensures.order;
     }
 
 pub returns-clause-same : goal.returns-clause-same
 returns-clause-same c =
     let bundle = c.args.self.now in
     let machine = c.in-Some.machine.now in
-    let inside = within shown bundle.machines.items c.args.number c.requires.here in
-    let here = read_here shown bundle.machines.items c.args.number c.index_mut.result.now machine inside c.index_mut.ensures.value (sym c.as_mut.ensures.value ∙ ap option_copied_mut c.in-Some.is) in
-    let heap = (bundle.of_heap c.args.number machine here).heap in
+    let number_inside = within shown bundle.machines.items c.args.number c.requires.here in
+    let machine_there = read_here shown bundle.machines.items c.args.number c.index_mut.result.now machine number_inside c.index_mut.ensures.value (sym c.as_mut.ensures.value ∙ ap option_copied_mut c.in-Some.is) in
+    let heap = (bundle.of_heap c.args.number machine machine_there).heap in
     let key : c.args.heap.now.table.shared.key ≡ bundle.key.value = c.args.heap.now.table_key ∙ sym c.requires.heap.key in
     let took = took_in c.args.heap.now.table.shared.key bundle.key.value bundle.config c.args.number Nothing (order_of machine) bundle.seat.me c.make_step-got.result c.make_step-got.new.seat.me key bundle.same_sizes (sym c.next_to_load-at.ensures.none) c.make_step-got.ensures.took in
-    record { table = c.make_step-got.ensures.table.0; config = refl; key = refl; numbers = numbers_stay bundle.config bundle.key.value bundle.same_sizes bundle.machines.items (uncounted_seat bundle.seat.me) bundle.kept c.args.number machine here c.make_step-got.result (uncounted_seat c.make_step-got.new.seat.me) took }
+    record { table = c.make_step-got.ensures.table.0; config = refl; key = refl; numbers = numbers_stay bundle.config bundle.key.value bundle.same_sizes bundle.machines.items (uncounted_seat bundle.seat.me) bundle.kept c.args.number machine machine_there c.make_step-got.result (uncounted_seat c.make_step-got.new.seat.me) took }
 
 pub returns-clause-here : goal.returns-clause-here
 returns-clause-here c =
     let bundle = c.args.self.now in
     let machine = c.in-Some.machine.now in
-    let inside = within shown bundle.machines.items c.args.number c.requires.here in
-    let here = read_here shown bundle.machines.items c.args.number c.index_mut.result.now machine inside c.index_mut.ensures.value (sym c.as_mut.ensures.value ∙ ap option_copied_mut c.in-Some.is) in
-    let n = c.loaded.new.self in
-    ap is_some (shows_here shown (slice_set bundle.machines.items c.args.number (Some n)) c.args.number n (put_there shown bundle.machines.items c.args.number machine n here))
+    let number_inside = within shown bundle.machines.items c.args.number c.requires.here in
+    let machine_there = read_here shown bundle.machines.items c.args.number c.index_mut.result.now machine number_inside c.index_mut.ensures.value (sym c.as_mut.ensures.value ∙ ap option_copied_mut c.in-Some.is) in
+    let next_machine = c.loaded.new.self in
+    ap is_some (shows_here shown (slice_set bundle.machines.items c.args.number (Some next_machine)) c.args.number next_machine (put_there shown bundle.machines.items c.args.number machine next_machine machine_there))
 
 pub returns-clause-left : goal.returns-clause-left
 returns-clause-left c =
     let bundle = c.args.self.now in
     let machine = c.in-Some.machine.now in
-    let inside = within shown bundle.machines.items c.args.number c.requires.here in
-    let here = read_here shown bundle.machines.items c.args.number c.index_mut.result.now machine inside c.index_mut.ensures.value (sym c.as_mut.ensures.value ∙ ap option_copied_mut c.in-Some.is) in
-    let n = c.loaded.new.self in
-    let heap = (bundle.of_heap c.args.number machine here).heap in
-    ap (λ k. loads_left bundle.config k + 1) (shows_as shown (slice_set bundle.machines.items c.args.number (Some n)) c.args.number n no_machine (put_there shown bundle.machines.items c.args.number machine n here))
-    ∙ ap (λ k. loads_left k (shown n) + 1) (sym (c.loaded.ensures.heap ∙ heap))
+    let number_inside = within shown bundle.machines.items c.args.number c.requires.here in
+    let machine_there = read_here shown bundle.machines.items c.args.number c.index_mut.result.now machine number_inside c.index_mut.ensures.value (sym c.as_mut.ensures.value ∙ ap option_copied_mut c.in-Some.is) in
+    let next_machine = c.loaded.new.self in
+    let heap = (bundle.of_heap c.args.number machine machine_there).heap in
+    ap (λ config. loads_left bundle.config config + 1) (shows_as shown (slice_set bundle.machines.items c.args.number (Some next_machine)) c.args.number next_machine no_machine (put_there shown bundle.machines.items c.args.number machine next_machine machine_there))
+    ∙ ap (λ config. loads_left config (shown next_machine) + 1) (sym (c.loaded.ensures.heap ∙ heap))
     ∙ c.loaded.ensures.left
-    ∙ ap (λ k. loads_left k (shown machine)) heap
-    ∙ ap (loads_left bundle.config) (sym (shows_as shown bundle.machines.items c.args.number machine no_machine here))
+    ∙ ap (λ config. loads_left config (shown machine)) heap
+    ∙ ap (loads_left bundle.config) (sym (shows_as shown bundle.machines.items c.args.number machine no_machine machine_there))

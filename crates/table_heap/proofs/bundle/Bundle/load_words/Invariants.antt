@@ -5,11 +5,11 @@ use Rattle.table_heap.specs.Turning.{HasHadTurns}
 use Rattle.table_heap.proofs.bundle.Bundle.load_words.Given as goal
 
 abbrev pub invariant-loop-left : goal.invariant-loop-left
-invariant-loop-left g l = record {
-  turns : (count : ℕ) × HasHadTurns count l.initial.self l.self l.number;
-  here : 0 < l.left → HasMachine l.self l.number;
-  left : 0 < l.left → l.left ≡ loads_left (config_in l.self) (machine_at l.self l.number);
+invariant-loop-left g loop = record {
+  turns : (count : ℕ) × HasHadTurns count loop.initial.self loop.self loop.number;
+  here : 0 < loop.left → HasMachine loop.self loop.number;
+  left : 0 < loop.left → loop.left ≡ loads_left (config_in loop.self) (machine_at loop.self loop.number);
 }
 
 abbrev pub decreases-loop-left : goal.decreases-loop-left
-decreases-loop-left g l = l.left
+decreases-loop-left g loop = loop.left

@@ -5,7 +5,7 @@ use Rattle.table_heap.proofs.MachineUnder.{within, read_here, never_none, shows_
 use Rattle.table_heap.proofs.bundle.Bundle.made.Goals as goal
 
 pub index-requires : goal.index-requires
-index-requires c = let inside = within shown c.args.self.now.machines.items c.args.number c.requires.here in omega arith
+index-requires c = let number_inside = within shown c.args.self.now.machines.items c.args.number c.requires.here in omega arith
 
 pub unreachable-requires : goal.unreachable-requires
 unreachable-requires c = never_none shown c.args.self.now.machines.items c.args.number c.index.result.now c.requires.here c.index.ensures c.in_default.is
@@ -14,6 +14,6 @@ pub returns : goal.returns
 returns c =
     let bundle = c.args.self.now in
     let machine = c.in-Some.machine in
-    let inside = within shown bundle.machines.items c.args.number c.requires.here in
-    let here = read_here shown bundle.machines.items c.args.number c.index.result.now machine inside c.index.ensures c.in-Some.is in
-    c.made.ensures ∙ sym (ap made_of_machine (shows_as shown bundle.machines.items c.args.number machine no_machine here))
+    let number_inside = within shown bundle.machines.items c.args.number c.requires.here in
+    let machine_there = read_here shown bundle.machines.items c.args.number c.index.result.now machine number_inside c.index.ensures c.in-Some.is in
+    c.made.ensures ∙ sym (ap made_of_machine (shows_as shown bundle.machines.items c.args.number machine no_machine machine_there))

@@ -16,8 +16,8 @@ returns-then-may_begin-clause-begins c = λ _. c.next_command.ensures
 pub returns-else-may_begin-clause-turn : goal.returns-else-may_begin-clause-turn
 returns-else-may_begin-clause-turn c =
     let machine = machine_at c.args.self.now c.args.number in
-    let busy : may_begin machine ≡ false = sym c.may_begin.ensures ∙ c.if-may_begin.false in
-    turn_in_call machine None busy ∙ sym (turn_in_call machine (next_for (config_in c.args.self.now) c.args.work.now c.args.number) busy)
+    let machine_busy : may_begin machine ≡ false = sym c.may_begin.ensures ∙ c.if-may_begin.false in
+    turn_in_call machine None machine_busy ∙ sym (turn_in_call machine (next_for (config_in c.args.self.now) c.args.work.now c.args.number) machine_busy)
 
 pub returns-else-may_begin-clause-begins : goal.returns-else-may_begin-clause-begins
-returns-else-may_begin-clause-begins c = λ may. absurd (false≢true (sym (sym c.may_begin.ensures ∙ c.if-may_begin.false) ∙ may))
+returns-else-may_begin-clause-begins c = λ can_begin. absurd (false≢true (sym (sym c.may_begin.ensures ∙ c.if-may_begin.false) ∙ can_begin))

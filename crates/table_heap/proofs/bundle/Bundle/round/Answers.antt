@@ -19,13 +19,13 @@ turn-requires-clause-work g c = λ _ _. c.loop-number.invariant.work
 
 pub loop-number-preserved : goal.loop-number-preserved
 loop-number-preserved g c =
-    let l = c.loop-number in
+    let loop_turn = c.loop-number in
     elim c.if-has.branch [
       | then-has w ↦
-          subst (λ so_far. IsInRound c.args.self.now c.args.work.now (l.number + 1) c.if-has.self c.if-has.work so_far) (sym w.round-is)
-          (subst (λ b. IsInRound c.args.self.now c.args.work.now (l.number + 1) b c.if-has.work w.and-round.result) (sym w.self-is)
-          (subst (λ jobs. IsInRound c.args.self.now c.args.work.now (l.number + 1) w.turn.new.self jobs w.and-round.result) (sym w.work-is)
-          (in_round_turn c.args.self.now l.self c.args.work.now l.work l.number l.round l.invariant w.turn.new.self w.turn.new.work w.turn.result w.and-round.result
+          subst (λ so_far. IsInRound c.args.self.now c.args.work.now (loop_turn.number + 1) c.if-has.self c.if-has.work so_far) (sym w.round-is)
+          (subst (λ asked_bundle. IsInRound c.args.self.now c.args.work.now (loop_turn.number + 1) asked_bundle c.if-has.work w.and-round.result) (sym w.self-is)
+          (subst (λ jobs. IsInRound c.args.self.now c.args.work.now (loop_turn.number + 1) w.turn.new.self jobs w.and-round.result) (sym w.work-is)
+          (in_round_turn c.args.self.now loop_turn.self c.args.work.now loop_turn.work loop_turn.number loop_turn.round loop_turn.invariant w.turn.new.self w.turn.new.work w.turn.result w.and-round.result
           (record {
             work = w.turn.ensures.work;
             jobs_are = w.turn.ensures.jobs;
@@ -33,10 +33,10 @@ loop-number-preserved g c =
           })
           w.and-round.ensures.idle.0)))
       | else-has w ↦
-          subst (λ so_far. IsInRound c.args.self.now c.args.work.now (l.number + 1) c.if-has.self c.if-has.work so_far) (sym w.round-is)
-          (subst (λ b. IsInRound c.args.self.now c.args.work.now (l.number + 1) b c.if-has.work l.round) (sym w.self-is)
-          (subst (λ jobs. IsInRound c.args.self.now c.args.work.now (l.number + 1) l.self jobs l.round) (sym w.work-is)
-          (in_round_none c.args.self.now l.self c.args.work.now l.work l.number l.round l.invariant (sym c.has.ensures.view ∙ w.if-has.false))))
+          subst (λ so_far. IsInRound c.args.self.now c.args.work.now (loop_turn.number + 1) c.if-has.self c.if-has.work so_far) (sym w.round-is)
+          (subst (λ asked_bundle. IsInRound c.args.self.now c.args.work.now (loop_turn.number + 1) asked_bundle c.if-has.work loop_turn.round) (sym w.self-is)
+          (subst (λ jobs. IsInRound c.args.self.now c.args.work.now (loop_turn.number + 1) loop_turn.self jobs loop_turn.round) (sym w.work-is)
+          (in_round_none c.args.self.now loop_turn.self c.args.work.now loop_turn.work loop_turn.number loop_turn.round loop_turn.invariant (sym c.has.ensures.view ∙ w.if-has.false))))
     ]
 
 pub returns-clause-work : goal.returns-clause-work
@@ -50,5 +50,5 @@ returns-clause-jobs g c = c.loop-number.invariant.jobs_are
 
 pub returns-clause-idle : goal.returns-clause-idle
 returns-clause-idle g c =
-    let l = c.loop-number in
-    all_idle c.args.self.now l.self l.number l.round l.invariant.round (omega (arith, c.loop-number-test.false, c.len-number-end.ensures))
+    let loop_turn = c.loop-number in
+    all_idle c.args.self.now loop_turn.self loop_turn.number loop_turn.round loop_turn.invariant.round (omega (arith, c.loop-number-test.false, c.len-number-end.ensures))

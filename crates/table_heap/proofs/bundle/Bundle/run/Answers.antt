@@ -14,25 +14,25 @@ returns-in-Idle-clause-same g c = same_bundle_more c.args.self.now c.loop.self c
 
 pub returns-in-Idle-clause-done : goal.returns-in-Idle-clause-done
 returns-in-Idle-clause-done g c =
-    let l = c.loop in
+    let loop_turn = c.loop in
     have_done c.args.self.now c.round-said.new.self c.args.work.now c.round-said.new.work
-    (same_jobs_more c.args.self.now l.self c.args.work.now l.work c.round-said.new.work l.invariant.same l.invariant.jobs c.round-said.ensures.jobs)
+    (same_jobs_more c.args.self.now loop_turn.self c.args.work.now loop_turn.work c.round-said.new.work loop_turn.invariant.same loop_turn.invariant.jobs c.round-said.ensures.jobs)
     c.round-said.ensures.work (c.round-said.ensures.idle c.in-Idle.is)
 
 pub returns-in-Idle-clause-jobs : goal.returns-in-Idle-clause-jobs
 returns-in-Idle-clause-jobs g c =
-    let l = c.loop in
-    same_jobs_more c.args.self.now l.self c.args.work.now l.work c.round-said.new.work l.invariant.same l.invariant.jobs c.round-said.ensures.jobs
+    let loop_turn = c.loop in
+    same_jobs_more c.args.self.now loop_turn.self c.args.work.now loop_turn.work c.round-said.new.work loop_turn.invariant.same loop_turn.invariant.jobs c.round-said.ensures.jobs
 
 pub loop-preserved : goal.loop-preserved
 loop-preserved g c =
-    let l = c.loop in
+    let loop_turn = c.loop in
     let mid = c.round-said.new in
-    let same = same_bundle_more c.args.self.now l.self mid.self l.invariant.same c.round-said.ensures.same in
-    let jobs = same_jobs_more c.args.self.now l.self c.args.work.now l.work mid.work l.invariant.same l.invariant.jobs c.round-said.ensures.jobs in
+    let same_so_far = same_bundle_more c.args.self.now loop_turn.self mid.self loop_turn.invariant.same c.round-said.ensures.same in
+    let jobs = same_jobs_more c.args.self.now loop_turn.self c.args.work.now loop_turn.work mid.work loop_turn.invariant.same loop_turn.invariant.jobs c.round-said.ensures.jobs in
     record {
       work = gone_work c.go_through_image.ensures.turns.0 c.go_through_image.ensures.turns.1 mid.self c.go_through_image.new.self c.go_through_image.ensures.turns.2 mid.work c.round-said.ensures.work;
-      same = same_bundle_more c.args.self.now mid.self c.go_through_image.new.self same c.go_through_image.ensures.same;
+      same = same_bundle_more c.args.self.now mid.self c.go_through_image.new.self same_so_far c.go_through_image.ensures.same;
       jobs = jobs;
     }
 

@@ -8,12 +8,12 @@ use Rattle.table_heap.proofs.bundle.Bundle.share_greyed.Goals as goal
 pub index-requires : goal.index-requires
 index-requires c =
     let bundle = c.args.self.now in
-    let inside = within shown bundle.machines.items c.args.number c.requires.here in
-    omega (arith, inside, bundle.greys.numbers)
+    let number_inside = within shown bundle.machines.items c.args.number c.requires.here in
+    omega (arith, number_inside, bundle.greys.numbers)
 
 pub push-requires : goal.push-requires
 push-requires c =
     let bundle = c.args.self.now in
-    let inside = within shown bundle.machines.items c.args.number c.requires.here in
-    let read = machine_of-index bundle.greyed.items c.args.number c.index.result.now (omega (arith, inside, bundle.greys.numbers)) in
-    subst (λ k. IsWord k (Heap c.in-Some.address)) (sym bundle.hints_of_heap) (bundle.greys.known c.args.number c.in-Some.address (read ∙ sym c.index.ensures ∙ c.in-Some.is)).1
+    let number_inside = within shown bundle.machines.items c.args.number c.requires.here in
+    let read = machine_of-index bundle.greyed.items c.args.number c.index.result.now (omega (arith, number_inside, bundle.greys.numbers)) in
+    subst (λ config. IsWord config (Heap c.in-Some.address)) (sym bundle.hints_of_heap) (bundle.greys.known c.args.number c.in-Some.address (read ∙ sym c.index.ensures ∙ c.in-Some.is)).1

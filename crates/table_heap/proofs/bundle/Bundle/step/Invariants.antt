@@ -2,4 +2,4 @@ use Rattle.std.proofs.Common.{Some}
 use Rattle.table_heap.proofs.bundle.Bundle.step.Given as goal
 
 abbrev pub ghosts-make_step : goal.ghosts-make_step
-ghosts-make_step a = record { key = Some a.table.now.key; number = a.number; order = Some a.order.now }
+ghosts-make_step arguments = record { key = Some arguments.table.now.key; number = arguments.number; order = Some arguments.order.now }

@@ -14,23 +14,23 @@ store_word-requires-clause-heap g c =
     still_of c.args.self.now c.loop-left.self c.args.heap.now (gone_same c.args.number c.loop-left.invariant.turns.0 c.args.self.now c.loop-left.self c.loop-left.invariant.turns.1) c.requires.heap
 
 pub store_word-requires-clause-left : goal.store_word-requires-clause-left
-store_word-requires-clause-left g c = subst (λ n. 0 < n) (c.loop-left.invariant.left c.loop-left-test.true) c.loop-left-test.true
+store_word-requires-clause-left g c = subst (λ words_left. 0 < words_left) (c.loop-left.invariant.left c.loop-left-test.true) c.loop-left-test.true
 
 pub store_word-requires-clause-here : goal.store_word-requires-clause-here
 store_word-requires-clause-here g c = c.loop-left.invariant.here c.loop-left-test.true
 
 pub loop-left-preserved : goal.loop-left-preserved
 loop-left-preserved g c =
-    let l = c.loop-left in
+    let loop_turn = c.loop-left in
     let made = c.store_word.ensures in
-    let left = l.invariant.left c.loop-left-test.true in
-    let some : 0 < stores_left (config_in l.self) (machine_at l.self c.args.number) = subst (λ n. 0 < n) left c.loop-left-test.true in
-    let orders = gone_orders c.args.number l.invariant.turns.0 c.args.self.now l.self l.invariant.turns.1 c.requires.orders in
+    let left_before = loop_turn.invariant.left c.loop-left-test.true in
+    let some_left : 0 < stores_left (config_in loop_turn.self) (machine_at loop_turn.self c.args.number) = subst (λ words_left. 0 < words_left) left_before c.loop-left-test.true in
+    let orders = gone_orders c.args.number loop_turn.invariant.turns.0 c.args.self.now loop_turn.self loop_turn.invariant.turns.1 c.requires.orders in
     record {
       turns = (
-        suc l.invariant.turns.0,
-        (l.self, l.invariant.turns.1, made.same, λ next. turn_inside l.self c.store_word.new.self c.args.number next (l.invariant.here c.loop-left-test.true) orders (stores_inside (config_in l.self) (machine_at l.self c.args.number) some) made.event),
+        suc loop_turn.invariant.turns.0,
+        (loop_turn.self, loop_turn.invariant.turns.1, made.same, λ next. turn_inside loop_turn.self c.store_word.new.self c.args.number next (loop_turn.invariant.here c.loop-left-test.true) orders (stores_inside (config_in loop_turn.self) (machine_at loop_turn.self c.args.number) some_left) made.event),
       );
-      here = λ more. made.here;
-      left = λ more. (let is = made.left in omega (arith, is, left));
+      here = λ more_left. made.here;
+      left = λ more_left. (let one_fewer = made.left in omega (arith, one_fewer, left_before));
     }

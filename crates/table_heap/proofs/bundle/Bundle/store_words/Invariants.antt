@@ -5,11 +5,11 @@ use Rattle.table_heap.specs.Turning.{HasHadTurns}
 use Rattle.table_heap.proofs.bundle.Bundle.store_words.Given as goal
 
 abbrev pub invariant-loop-left : goal.invariant-loop-left
-invariant-loop-left g l = record {
-  turns : (count : ℕ) × HasHadTurns count l.initial.self l.self l.number;
-  here : 0 < l.left → HasMachine l.self l.number;
-  left : 0 < l.left → l.left ≡ stores_left (config_in l.self) (machine_at l.self l.number);
+invariant-loop-left g locals = record {
+  turns : (count : ℕ) × HasHadTurns count locals.initial.self locals.self locals.number;
+  here : 0 < locals.left → HasMachine locals.self locals.number;
+  left : 0 < locals.left → locals.left ≡ stores_left (config_in locals.self) (machine_at locals.self locals.number);
 }
 
 abbrev pub decreases-loop-left : goal.decreases-loop-left
-decreases-loop-left g l = l.left
+decreases-loop-left g locals = locals.left

@@ -15,5 +15,5 @@ returns c =
     let bundle = c.args.self.now in
     let machine = c.in-Some.machine in
     let inside = within shown bundle.machines.items c.args.number c.requires.here in
-    let here = read_here shown bundle.machines.items c.args.number c.index.result.now machine inside c.index.ensures c.in-Some.is in
-    c.takes_hint.ensures ∙ sym (ap takes_hint (shows_as shown bundle.machines.items c.args.number machine no_machine here))
+    let machine_there = read_here shown bundle.machines.items c.args.number c.index.result.now machine inside c.index.ensures c.in-Some.is in
+    c.takes_hint.ensures ∙ sym (ap takes_hint (shows_as shown bundle.machines.items c.args.number machine no_machine machine_there))

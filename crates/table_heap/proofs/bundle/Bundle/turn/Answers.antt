@@ -14,9 +14,9 @@ pub go_on-stepped-requires-clause-orders : goal.go_on-stepped-requires-clause-or
 go_on-stepped-requires-clause-orders g c = λ _ _. c.requires.work.orders
 
 pub go_on-stepped-requires-clause-fits : goal.go_on-stepped-requires-clause-fits
-go_on-stepped-requires-clause-fits g c = λ _ _. λ may.
-    subst (λ next. IfSome next (λ command. IsValid command × (made_of_machine (machine_at c.args.self.now c.args.number) < most_objects))) (sym (c.next_to_begin-next.ensures.begins may))
-    (command_fits c.args.self.now c.args.work.now c.args.number c.requires.work c.requires.here may)
+go_on-stepped-requires-clause-fits g c = λ _ _. λ can_begin.
+    subst (λ next. IfSome next (λ command. IsValid command × (made_of_machine (machine_at c.args.self.now c.args.number) < most_objects))) (sym (c.next_to_begin-next.ensures.begins can_begin))
+    (command_fits c.args.self.now c.args.work.now c.args.number c.requires.work c.requires.here can_begin)
 
 pub told-requires-clause-script : goal.told-requires-clause-script
 told-requires-clause-script g c =
@@ -39,7 +39,7 @@ returns-in-Done-clause-jobs g c =
 pub returns-in_default-clause-work : goal.returns-in_default-clause-work
 returns-in_default-clause-work g c = ⊎_elim
     (λ idle. work_unchanged c.args.self.now c.go_on-stepped.new.self c.args.work.now (c.go_on-stepped.ensures.unchanged idle) c.requires.work)
-    (λ goes. turned_on _ _ _ _ _ (turn_as _ _ _ (next_for (config_in c.args.self.now) c.args.work.now c.args.number) _ _ c.next_to_begin-next.ensures.turn (c.go_on-stepped.ensures.turn goes)) c.args.work.now refl c.requires.work (λ done. c.in_default.not-Done done))
+    (λ goes_on. turned_on _ _ _ _ _ (turn_as _ _ _ (next_for (config_in c.args.self.now) c.args.work.now c.args.number) _ _ c.next_to_begin-next.ensures.turn (c.go_on-stepped.ensures.turn goes_on)) c.args.work.now refl c.requires.work (λ says_done. c.in_default.not-Done says_done))
     (idle_or_not c.go_on-stepped.result)
 
 pub returns-in_default-clause-same : goal.returns-in_default-clause-same
@@ -52,4 +52,4 @@ pub returns-in_default-clause-unchanged : goal.returns-in_default-clause-unchang
 returns-in_default-clause-unchanged g c = c.go_on-stepped.ensures.unchanged
 
 pub returns-in_default-clause-idle : goal.returns-in_default-clause-idle
-returns-in_default-clause-idle g c = λ is. idle_for_good (machine_at c.args.self.now c.args.number) c.next_to_begin-next.result (c.go_on-stepped.ensures.idle is)
+returns-in_default-clause-idle g c = λ says_idle. idle_for_good (machine_at c.args.self.now c.args.number) c.next_to_begin-next.result (c.go_on-stepped.ensures.idle says_idle)

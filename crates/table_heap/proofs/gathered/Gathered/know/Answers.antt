@@ -15,17 +15,17 @@ use Rattle.table_heap.specs.Gathered.{view_of}
 use Rattle.table_heap.proofs.gathered.Gathered.know.Goals as goal
 
 pub returns-clause-run : goal.returns-clause-run
-returns-clause-run c all =
+returns-clause-run c all_machines =
     let heap = c.args.heap.now in
     let gathered = c.args.self.now in
     let key = heap.table.shared.key in
-    let whole : HasAllMachines (length (start_of_key heap.key).machines) (view_of gathered) = record {
-      all = all_here (view_of gathered) (λ k below. all.each k (let long = all.long in omega (arith, below, long)));
-      counts = all.long ∙ ap (λ (config : Config). seat_count config.mutators config.helpers) (sym heap.same_sizes) ∙ sym (start_count heap.key);
+    let whole_view : HasAllMachines (length (start_of_key heap.key).machines) (view_of gathered) = record {
+      all = all_here (view_of gathered) (λ index index_below. all_machines.each index (let machine_count = all_machines.long in omega (arith, index_below, machine_count)));
+      counts = all_machines.long ∙ ap (λ (config : Config). seat_count config.mutators config.helpers) (sym heap.same_sizes) ∙ sym (start_count heap.key);
     } in
     let counted : HasAllMachines (length (table_start key).machines) gathered.seat.me.0 =
     subst (λ (key : HeapKey). HasAllMachines (length (table_start key).machines) gathered.seat.me.0) (sym heap.table_key)
-    (subst (λ count. HasAllMachines count gathered.seat.me.0) (sym (length-map (start_of_key heap.key).machines at_start)) (all_counted (length (start_of_key heap.key).machines) gathered.seat.me.0 whole)) in
+    (subst (λ count. HasAllMachines count gathered.seat.me.0) (sym (length-map (start_of_key heap.key).machines at_start)) (all_counted (length (start_of_key heap.key).machines) gathered.seat.me.0 whole_view)) in
     let run = c.read_run.ensures.run counted in
     record {
       words = run.words;

@@ -2,4 +2,4 @@ use Rattle.std.proofs.Common.{Some}
 use Rattle.table_heap.proofs.gathered.Gathered.know.Given as goal
 
 abbrev pub ghosts-read_run : goal.ghosts-read_run
-ghosts-read_run a = record { key = Some a.table.now.key }
+ghosts-read_run arguments = record { key = Some arguments.table.now.key }

@@ -33,11 +33,11 @@ control_image-image-requires c =
     let heap = c.args.self in
     let bundle = c.args.bundle in
     let view : View Actor = view_of bundle in
-    let all = view_is_whole bundle.key.value bundle.config bundle.same_sizes view (kept_in_view shown bundle.machines.items) bundle.kept (length-kept shown bundle.machines.items ∙ bundle.seats) c.requires.all in
+    let view_whole = view_is_whole bundle.key.value bundle.config bundle.same_sizes view (kept_in_view shown bundle.machines.items) bundle.kept (length-kept shown bundle.machines.items ∙ bundle.seats) c.requires.all in
     let key : heap.table.shared.key ≡ bundle.key.value = heap.table_key ∙ sym c.requires.heap.key in
     let words = slots_items c.close_table-rows.result.words in
     subst (λ (config : Config). HasTheControl config bundle.machines.items) c.requires.heap.config
-    (has_control bundle.key.value bundle.config bundle.same_sizes bundle.machines.items view words bundle.kept bundle.of_heap all.all (c.requires.all (control_number bundle.config) (omega arith))
+    (has_control bundle.key.value bundle.config bundle.same_sizes bundle.machines.items view words bundle.kept bundle.of_heap view_whole.all (c.requires.all (control_number bundle.config) (omega arith))
     (reached_as heap.table.shared.key bundle.key.value bundle.config words words view view key bundle.same_sizes refl refl
     (view_reached (heap_kind heap.table.shared.key.config) (start_of_key heap.table.shared.key) words bundle.seat.me.0 c.close_table-rows.ensures.reached)))
 
@@ -46,20 +46,20 @@ invariant_of-result c =
     let heap = c.args.self in
     let bundle = c.args.bundle in
     let view : View Actor = view_of bundle in
-    let last : View Actor = uncounted_view c.of-last.result.value.me.0 in
-    let seen : view ≡ last = sym (ap (λ s. uncounted_view s.me.0) c.of-last.ensures) in
-    let all = view_is_whole bundle.key.value bundle.config bundle.same_sizes view (kept_in_view shown bundle.machines.items) bundle.kept (length-kept shown bundle.machines.items ∙ bundle.seats) c.requires.all in
+    let last_view : View Actor = uncounted_view c.of-last.result.value.me.0 in
+    let last_seen : view ≡ last_view = sym (ap (λ seat. uncounted_view seat.me.0) c.of-last.ensures) in
+    let view_whole = view_is_whole bundle.key.value bundle.config bundle.same_sizes view (kept_in_view shown bundle.machines.items) bundle.kept (length-kept shown bundle.machines.items ∙ bundle.seats) c.requires.all in
     let image = c.read_words.new.image in
     let config : heap.config ≡ config_of image = sym (c.read_words.ensures.config ∙ c.control_image-image.ensures) in
     record {
       same_sizes = heap.same_sizes ∙ config;
-      counted = c.hints_taken-hinted.ensures (machines_of view) (ap (kept_in_view shown) c.deref.ensures.value ∙ sym bundle.kept ∙ ap (kept_in_view machine_in) all.all) ∙ ap (λ (view : View Actor). hints_in (machines_of view)) seen;
-      reached = ∣ reached_as heap.table.shared.key heap.key (config_of image) (slots_items c.close_table-rows.result.words) (words_of image) view last heap.table_key (heap.same_sizes ∙ config) (sym c.read_words.ensures.words) seen
+      counted = c.hints_taken-hinted.ensures (machines_of view) (ap (kept_in_view shown) c.deref.ensures.value ∙ sym bundle.kept ∙ ap (kept_in_view machine_in) view_whole.all) ∙ ap (λ (view : View Actor). hints_in (machines_of view)) last_seen;
+      reached = ∣ reached_as heap.table.shared.key heap.key (config_of image) (slots_items c.close_table-rows.result.words) (words_of image) view last_view heap.table_key (heap.same_sizes ∙ config) (sym c.read_words.ensures.words) last_seen
           (view_reached (heap_kind heap.table.shared.key.config) (start_of_key heap.table.shared.key) (slots_items c.close_table-rows.result.words) bundle.seat.me.0 c.close_table-rows.ensures.reached) ∣₁;
       calm =
-          subst (λ (config : Config). image_of (slice_get (machines_of last) (control_number config)) ≡ None) (c.requires.heap.config ∙ config)
-          (subst (λ (view : View Actor). image_of (slice_get (machines_of view) (control_number bundle.config)) ≡ None) seen
-          (view_is_calm view (control_number bundle.config) all.all c.requires.control));
+          subst (λ (config : Config). image_of (slice_get (machines_of last_view) (control_number config)) ≡ None) (c.requires.heap.config ∙ config)
+          (subst (λ (view : View Actor). image_of (slice_get (machines_of view) (control_number bundle.config)) ≡ None) last_seen
+          (view_is_calm view (control_number bundle.config) view_whole.all c.requires.control));
     }
 
 pub returns-clause-reached : goal.returns-clause-reached
@@ -67,12 +67,12 @@ returns-clause-reached c =
     let heap = c.args.self in
     let bundle = c.args.bundle in
     reached_as heap.table.shared.key heap.key heap.config (slots_items c.close_table-rows.result.words) (words_of c.read_words.new.image) (view_of bundle) (uncounted_view c.of-last.result.value.me.0) heap.table_key heap.same_sizes (sym c.read_words.ensures.words)
-    (sym (ap (λ s. uncounted_view s.me.0) c.of-last.ensures))
+    (sym (ap (λ seat. uncounted_view seat.me.0) c.of-last.ensures))
     (view_reached (heap_kind heap.table.shared.key.config) (start_of_key heap.table.shared.key) (slots_items c.close_table-rows.result.words) bundle.seat.me.0 c.close_table-rows.ensures.reached)
 
 pub returns-clause-machines : goal.returns-clause-machines
 returns-clause-machines c =
     let bundle = c.args.bundle in
     let view : View Actor = view_of bundle in
-    let seen : view ≡ uncounted_view c.of-last.result.value.me.0 = sym (ap (λ s. uncounted_view s.me.0) c.of-last.ensures) in
-    (view_is_whole bundle.key.value bundle.config bundle.same_sizes view (kept_in_view shown bundle.machines.items) bundle.kept (length-kept shown bundle.machines.items ∙ bundle.seats) c.requires.all).all ∙ ap (λ (view : View Actor). whole (machines_of view)) seen
+    let last_seen : view ≡ uncounted_view c.of-last.result.value.me.0 = sym (ap (λ seat. uncounted_view seat.me.0) c.of-last.ensures) in
+    (view_is_whole bundle.key.value bundle.config bundle.same_sizes view (kept_in_view shown bundle.machines.items) bundle.kept (length-kept shown bundle.machines.items ∙ bundle.seats) c.requires.all).all ∙ ap (λ (view : View Actor). whole (machines_of view)) last_seen

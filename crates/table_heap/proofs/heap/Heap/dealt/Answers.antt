@@ -19,7 +19,7 @@ loop-bundle-init c =
       steps = fresh.steps;
       greyed = fresh.greyed;
       count = ap length c.in-Ok.ensures.items;
-      each = λ index b there. absurd (let none = ap (λ xs. slice_get xs index) c.in-Ok.ensures.items in cc);
+      each = λ index dealt_bundle bundle_there. absurd (let no_bundle = ap (λ bundle_list. slice_get bundle_list index) c.in-Ok.ensures.items in cc);
     }
 
 pub deal-requires-clause-heap : goal.deal-requires-clause-heap
@@ -27,41 +27,41 @@ deal-requires-clause-heap c = c.loop-bundle.invariant.of
 
 pub loop-bundle-preserved : goal.loop-bundle-preserved
 loop-bundle-preserved c =
-    let l = c.loop-bundle in
+    let loop_turn = c.loop-bundle in
     let dealt = c.in_ok-dealt.ensures in
-    let all : View Actor = whole (start_of_heap c.args.heap).machines in
+    let whole_view : View Actor = whole (start_of_heap c.args.heap).machines in
     record {
       of = dealt.heap;
-      view = dealt.left.0 ∙ ap (machines_left (is_dealt_to c.args.workers l.bundle)) l.invariant.view ∙ left_next c.args.workers all l.bundle;
-      orders = λ number order there.
-          l.invariant.orders number order (picked_some (λ k. not (is_dealt_to c.args.workers l.bundle k)) (orders_of l.all) number order (ap (λ v. machine_of v number) (sym dealt.left.1) ∙ there));
-      steps = λ number made there.
-          l.invariant.steps number made (picked_some (λ k. not (is_dealt_to c.args.workers l.bundle k)) (steps_of l.all) number made (ap (λ v. machine_of v number) (sym dealt.left.2) ∙ there));
-      greyed = λ number address there.
-          l.invariant.greyed number address (picked_some (λ k. not (is_dealt_to c.args.workers l.bundle k)) (greyed_of l.all) number address (ap (λ v. machine_of v number) (sym dealt.left.3) ∙ there));
-      count = ap length c.in-Ok-push.ensures.items ∙ length-append l.bundles.items (c.in_ok-dealt.dealt ∷ []) ∙ ap (λ n. n + 1) l.invariant.count;
-      each = λ k b there.
-          each_with (λ j bundle. IsFresh c.args.heap bundle (dealt_to c.args.workers j all)) l.bundles.items c.in_ok-dealt.dealt l.bundle l.invariant.count l.invariant.each
+      view = dealt.left.0 ∙ ap (machines_left (is_dealt_to c.args.workers loop_turn.bundle)) loop_turn.invariant.view ∙ left_next c.args.workers whole_view loop_turn.bundle;
+      orders = λ number order found_there.
+          loop_turn.invariant.orders number order (picked_some (λ place. not (is_dealt_to c.args.workers loop_turn.bundle place)) (orders_of loop_turn.all) number order (ap (λ view. machine_of view number) (sym dealt.left.1) ∙ found_there));
+      steps = λ number made found_there.
+          loop_turn.invariant.steps number made (picked_some (λ place. not (is_dealt_to c.args.workers loop_turn.bundle place)) (steps_of loop_turn.all) number made (ap (λ view. machine_of view number) (sym dealt.left.2) ∙ found_there));
+      greyed = λ number address found_there.
+          loop_turn.invariant.greyed number address (picked_some (λ place. not (is_dealt_to c.args.workers loop_turn.bundle place)) (greyed_of loop_turn.all) number address (ap (λ view. machine_of view number) (sym dealt.left.3) ∙ found_there));
+      count = ap length c.in-Ok-push.ensures.items ∙ length-append loop_turn.bundles.items (c.in_ok-dealt.dealt ∷ []) ∙ ap (λ dealt_count. dealt_count + 1) loop_turn.invariant.count;
+      each = λ place dealt_bundle found_there.
+          each_with (λ bundle_index bundle. IsFresh c.args.heap bundle (dealt_to c.args.workers bundle_index whole_view)) loop_turn.bundles.items c.in_ok-dealt.dealt loop_turn.bundle loop_turn.invariant.count loop_turn.invariant.each
           (record {
             of = dealt.dealt.0;
-            machines = dealt.dealt.1 ∙ ap (dealt_to c.args.workers l.bundle) l.invariant.view ∙ dealt_next c.args.workers all l.bundle;
-            orders = λ number order there.
-                l.invariant.orders number order (picked_some (is_dealt_to c.args.workers l.bundle) (orders_of l.all) number order (ap (λ v. machine_of v number) (sym dealt.dealt.2) ∙ there));
-            steps = λ number made there.
-                l.invariant.steps number made (picked_some (is_dealt_to c.args.workers l.bundle) (steps_of l.all) number made (ap (λ v. machine_of v number) (sym dealt.dealt.3) ∙ there));
-            greyed = λ number address there.
-                l.invariant.greyed number address (picked_some (is_dealt_to c.args.workers l.bundle) (greyed_of l.all) number address (ap (λ v. machine_of v number) (sym dealt.dealt.4) ∙ there));
+            machines = dealt.dealt.1 ∙ ap (dealt_to c.args.workers loop_turn.bundle) loop_turn.invariant.view ∙ dealt_next c.args.workers whole_view loop_turn.bundle;
+            orders = λ number order found_there.
+                loop_turn.invariant.orders number order (picked_some (is_dealt_to c.args.workers loop_turn.bundle) (orders_of loop_turn.all) number order (ap (λ view. machine_of view number) (sym dealt.dealt.2) ∙ found_there));
+            steps = λ number made found_there.
+                loop_turn.invariant.steps number made (picked_some (is_dealt_to c.args.workers loop_turn.bundle) (steps_of loop_turn.all) number made (ap (λ view. machine_of view number) (sym dealt.dealt.3) ∙ found_there));
+            greyed = λ number address found_there.
+                loop_turn.invariant.greyed number address (picked_some (is_dealt_to c.args.workers loop_turn.bundle) (greyed_of loop_turn.all) number address (ap (λ view. machine_of view number) (sym dealt.dealt.4) ∙ found_there));
           })
-          k b (ap (λ xs. slice_get xs k) (sym c.in-Ok-push.ensures.items) ∙ there);
+          place dealt_bundle (ap (λ bundle_list. slice_get bundle_list place) (sym c.in-Ok-push.ensures.items) ∙ found_there);
     }
 
 pub loop-bundle-2-init : goal.loop-bundle-2-init
-loop-bundle-2-init c = record { more = none_changed c.loop-bundle.bundles.items; steal = λ number under. absurd (omega (arith, under)) }
+loop-bundle-2-init c = record { more = none_changed c.loop-bundle.bundles.items; steal = λ number number_below. absurd (omega (arith, number_below)) }
 
 pub share_hints-requires-clause-heap : goal.share_hints-requires-clause-heap
 share_hints-requires-clause-heap c = (
   c.args.heap.config,
-  config_still c.args.heap.config c.loop-bundle.bundles.items c.loop-bundle-2.bundles.items c.loop-bundle-2.invariant.more (λ k b there. (c.loop-bundle.invariant.each k b there).of.config),
+  config_still c.args.heap.config c.loop-bundle.bundles.items c.loop-bundle-2.bundles.items c.loop-bundle-2.invariant.more (λ place bundle bundle_there. (c.loop-bundle.invariant.each place bundle bundle_there).of.config),
 )
 
 pub loop-bundle-2-preserved : goal.loop-bundle-2-preserved
@@ -71,12 +71,12 @@ loop-bundle-2-preserved c = record {
 }
 
 pub returns-clause-stealing : goal.returns-clause-stealing
-returns-clause-stealing c = λ number under.
-    let l = c.loop-bundle in
-    let more = c.loop-bundle-2 in
-    more.invariant.steal number (omega (arith, under, more.invariant.more.count, l.invariant.count, c.loop-bundle-test.false, l.auto.bundle-end, c.loop-bundle-2-test.false, more.auto.bundle-end))
+returns-clause-stealing c = λ number number_below.
+    let first_loop = c.loop-bundle in
+    let second_loop = c.loop-bundle-2 in
+    second_loop.invariant.steal number (omega (arith, number_below, second_loop.invariant.more.count, first_loop.invariant.count, c.loop-bundle-test.false, first_loop.auto.bundle-end, c.loop-bundle-2-test.false, second_loop.auto.bundle-end))
 
 pub returns-clause-bundles : goal.returns-clause-bundles
-returns-clause-bundles c = λ k b there.
-    let was = c.loop-bundle-2.invariant.more.each k b there in
-    fresh_still c.args.heap was.0 b _ was.2.only (c.loop-bundle.invariant.each k was.0 was.1)
+returns-clause-bundles c = λ place bundle bundle_there.
+    let fresh_before = c.loop-bundle-2.invariant.more.each place bundle bundle_there in
+    fresh_still c.args.heap fresh_before.0 bundle _ fresh_before.2.only (c.loop-bundle.invariant.each place fresh_before.0 fresh_before.1)

@@ -37,7 +37,7 @@ returns-clause-bundle c =
     record {
       of = record { table = c.in_ok-table.ensures.seat.0; config = refl; key = c.of.ensures };
       machines = ap (λ me. uncounted_view me.0) c.in_ok-table.ensures.seat.1 ∙ first_view (start_of_key c.args.key);
-      orders = λ number order there. opened_orders c.args.machines.items c.requires.machines.orders number order (ap (λ v. machine_of (kept_in_view order_of v) number) (sym c.in_ok-machines.ensures) ∙ there);
-      steps = λ number made there. opened_steps (start_of_key c.args.key).machines number made (ap (λ me. machine_of (steps_in_view me.0) number) (sym c.in_ok-table.ensures.seat.1) ∙ there);
-      greyed = λ number address there. none_greyed _ number address (ap (λ v. machine_of v number) (sym c.in_ok-greyed.ensures) ∙ there);
+      orders = λ number order found_there. opened_orders c.args.machines.items c.requires.machines.orders number order (ap (λ view. machine_of (kept_in_view order_of view) number) (sym c.in_ok-machines.ensures) ∙ found_there);
+      steps = λ number made found_there. opened_steps (start_of_key c.args.key).machines number made (ap (λ me. machine_of (steps_in_view me.0) number) (sym c.in_ok-table.ensures.seat.1) ∙ found_there);
+      greyed = λ number address found_there. none_greyed _ number address (ap (λ view. machine_of view number) (sym c.in_ok-greyed.ensures) ∙ found_there);
     }

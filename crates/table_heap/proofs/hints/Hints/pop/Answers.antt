@@ -3,7 +3,7 @@ use Rattle.table_heap.proofs.Keeping.{takes, pops}
 use Rattle.table_heap.proofs.hints.Hints.pop.Goals as goal
 
 pub pop_as-requires-clause-fifo : goal.pop_as-requires-clause-fifo
-pop_as-requires-clause-fifo c = λ _. takes _ (ap (λ v. v.known) c.args.self.now.known) _ 1
+pop_as-requires-clause-fifo c = λ _. takes _ (ap (λ hints. hints.known) c.args.self.now.known) _ 1
 
 pub pop_as-requires-clause-lifo : goal.pop_as-requires-clause-lifo
-pop_as-requires-clause-lifo c = λ _. pops _ (ap (λ v. v.known) c.args.self.now.known) _
+pop_as-requires-clause-lifo c = λ _. pops _ (ap (λ hints. hints.known) c.args.self.now.known) _

@@ -5,6 +5,6 @@ use Rattle.table_heap.proofs.hints.Hints.push.Goals as goal
 
 pub push_as-refused-requires-clause-pushes : goal.push_as-refused-requires-clause-pushes
 push_as-refused-requires-clause-pushes c =
-    let known = c.args.self.now.known in
+    let known_hints = c.args.self.now.known in
     let asked = c.requires in
-    adds _ (ap (λ v. v.known) known) _ c.args.address (subst (λ v. IsBetween v c.args.address) (sym known) (omega (arith, asked), omega (arith, asked)))
+    adds _ (ap (λ hints. hints.known) known_hints) _ c.args.address (subst (λ hints. IsBetween hints c.args.address) (sym known_hints) (omega (arith, asked), omega (arith, asked)))
